@@ -1,0 +1,4 @@
+mod Copies
+mod Pieces
+mod Worked
+pub mod PlaceLemmas

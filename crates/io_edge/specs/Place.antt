@@ -1,0 +1,38 @@
+-- The first bad place of an input, and the answers that tell it.
+use Rattle.std.specs.Prelude.{◌≡◌, ℕ, nat_lt, Bool, List, [], ◌∷◌, length, Option, None, Some, Result, Ok, Err, if◌then◌else◌}
+use Rattle.io_edge.specs.declared.kind.Kind.{Kind}
+use Rattle.io_edge.specs.declared.kind.Kind.TheVariants.{FileTooLarge}
+use Rattle.io_edge.specs.declared.place.Place.{Place}
+use Rattle.io_edge.specs.declared.place.Stop.{Stop}
+use Rattle.io_edge.specs.declared.place.Stop.TheVariants.{Refused, NoMemory}
+
+-- An input is a list of items in a fixed order, each with the place at which it fails, if it fails. The first bad
+-- place is that of the first item that fails.
+abbrev pub first_bad : List (Option Place) → Option Place
+first_bad [] = None
+first_bad (None ∷ items) = first_bad items
+first_bad (Some place ∷ items) = Some place
+
+-- an item that fails at this place where its cause holds
+abbrev pub fails_at : Bool → Place → Option Place
+fails_at cause place = if cause then Some place else None
+
+-- the kind of the first cause that holds
+abbrev pub first_cause : List (Bool × Kind) → Option Kind
+first_cause [] = None
+first_cause ((holds, kind) ∷ causes) = if holds then Some kind else first_cause causes
+
+-- the size of a file that has a limit
+abbrev pub size_item : ℕ → ℕ → List ℕ → Option Place
+size_item file limit bytes = fails_at (nat_lt limit (length bytes)) (record { file = file; at = limit; kind = FileTooLarge })
+
+-- The input is refused exactly at its first bad place; without one, P holds of what was read.
+abbrev pub Judges : {T : Type 0} → Option Place → Result T Place → (T → Type 0) → Type 0
+Judges bad (Ok x) P = (bad ≡ None) × P x
+Judges bad (Err place) P = bad ≡ Some place
+
+-- The same where memory may be refused, which tells nothing.
+abbrev pub JudgesUnlessNoMemory : {T : Type 0} → Option Place → Result T Stop → (T → Type 0) → Type 0
+JudgesUnlessNoMemory bad (Ok x) P = (bad ≡ None) × P x
+JudgesUnlessNoMemory bad (Err (Refused place)) P = bad ≡ Some place
+JudgesUnlessNoMemory bad (Err NoMemory) P = Unit {0}

@@ -1,0 +1,5 @@
+pub mod Fields
+pub mod Laws
+pub mod LineTests
+pub mod Lines
+pub mod Numbers

@@ -1,0 +1,33 @@
+// The definitions seen from the other side: what is printed is read, and lines and fields are the text again.
+ghost use Rattle.text_model.specs.Laws.{DecimalTextIsRead, FieldsJoin, FieldsSplit, HexTextIsRead, LinesJoin, LinesSplit};
+
+/// Lines with a line feed behind each, and then a rest without one, are the text.
+pub fn lines_join()
+    ensures { LinesJoin }
+{}
+
+/// However a text is made of lines with a line feed behind each, and then a rest without one, these are its lines.
+pub fn lines_split()
+    ensures { LinesSplit }
+{}
+
+/// Blanks, fields with blanks behind each, and then a rest without a blank, are the line.
+pub fn fields_join()
+    ensures { FieldsJoin }
+{}
+
+/// However a line is made of blanks, fields with blanks behind each, and then a rest without a blank, these are its
+/// fields.
+pub fn fields_split()
+    ensures { FieldsSplit }
+{}
+
+/// A printed decimal number is read as that number.
+pub fn decimal_text_is_read()
+    ensures { DecimalTextIsRead }
+{}
+
+/// A printed hexadecimal number is read as that number.
+pub fn hex_text_is_read()
+    ensures { HexTextIsRead }
+{}

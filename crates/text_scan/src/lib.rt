@@ -1,0 +1,18 @@
+//! Texts read and written: the lines of a text, the fields of a line, and numbers both ways.
+//!
+//! [`Lines`] and [`Fields`] are iterators that lend slices of the text, so reading takes no memory. A contract sees
+//! each as the list of what is left. [`hex`] and [`prefixed`] read a number or say why there is none, and
+//! [`push_number`] and [`push_hex`] append a number's text.
+#![tactic(auto)]
+
+mod fields;
+mod lines;
+mod read;
+#[cfg(test)]
+mod tests;
+mod write;
+
+pub use fields::Fields;
+pub use lines::{Line, Lines};
+pub use read::{NumberFault, hex, prefixed};
+pub use write::{push_hex, push_number};

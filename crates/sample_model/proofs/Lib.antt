@@ -1,0 +1,3 @@
+pub mod EntryLemmas
+mod Examples
+pub mod PairLemmas

@@ -1,0 +1,6 @@
+pub mod Judging
+pub mod Laws
+pub mod Limits
+pub mod Line
+pub mod Pairs
+pub mod Samples

@@ -1,0 +1,4 @@
+pub mod Line
+pub mod Table
+pub mod Tally
+pub mod Text

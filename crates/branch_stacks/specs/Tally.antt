@@ -1,0 +1,33 @@
+-- What is counted of a branch text.
+use Rattle.std.specs.Prelude.{◌≡◌, ℕ, ◌≤◌, List}
+use Rattle.sample_model.specs.Limits.{max_branches}
+use Rattle.sample_model.specs.Samples.{branches_of_lines, ranges_of_lines, ranges_between}
+use Rattle.branch_stacks.specs.declared.pair.Pair.{Pair}
+use Rattle.branch_stacks.specs.Table.{AddsPairs, IsTable, Tallies, total_in}
+
+-- the distinct branches and the distinct sampled ranges, each with how often it stands
+pub record Tally : Type 0 where
+  pub branches : List Pair
+  pub ranges : List Pair
+
+-- how many branches were counted, all in all
+abbrev pub total_of : Tally → ℕ
+total_of tally = total_in tally.branches
+
+-- the branches of one sample were counted, newest first, and the ranges between them
+pub record AddsStack (old new : Tally) (stack : List (ℕ × ℕ)) : Type 0 where
+  pub branches : AddsPairs old.branches new.branches stack
+  pub ranges : AddsPairs old.ranges new.ranges (ranges_between stack)
+
+-- these lines were counted, and nothing else
+pub record TellsOf (lines : List (List ℕ)) (tally : Tally) : Type 0 where
+  pub branches : Tallies (branches_of_lines lines) tally.branches
+  pub ranges : Tallies (ranges_of_lines lines) tally.ranges
+
+-- What is kept: both are tables, the total is that of the branches and within the limit, and there are no more ranges than branches.
+pub record IsCounted (tally : Tally) (count : ℕ) : Type 0 where
+  pub branches : IsTable tally.branches
+  pub ranges : IsTable tally.ranges
+  pub total : count ≡ total_of tally
+  pub within : count ≤ max_branches
+  pub fewer_ranges : total_in tally.ranges ≤ count

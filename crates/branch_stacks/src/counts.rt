@@ -1,0 +1,137 @@
+ghost use Rattle.std.specs.Prelude.{◌≡◌, ◌<◌, ◌≤◌, ◌+◌, ◌↔◌, [], length, IfOk, OnOk, OnErr, IsErrOf, replicate};
+ghost use Rattle.sample_model.specs.Limits.{max_branches};
+ghost use Rattle.branch_stacks.specs.Table.{AddsPairs, IsTable, total_in};
+ghost use Rattle.branch_stacks.specs.Tally.{AddsStack, IsCounted, total_of};
+
+use crate::pair::Pair;
+use crate::table;
+use io_edge::NoMemory;
+use std::alloc::Global;
+use std::marker::Model;
+
+/// The most branches that are counted, all in all.
+const MAX_BRANCHES: u64 = u32::MAX as u64;
+
+/// Why branches were not counted.
+#[derive(Clone, Copy, Debug, PartialEq, Eq)]
+pub enum CountsStop {
+    /// There would be more than 2^32 - 1 branches, all in all.
+    TooMany,
+    /// Memory was refused.
+    NoMemory,
+}
+
+/// How often each distinct branch, and each distinct range between two branches of a sample, was counted.
+#[derive(Debug, Drop)]
+pub struct Counts {
+    branches: Vec<Pair>,
+    ranges: Vec<Pair>,
+    total: u64,
+}
+
+impl Model for Counts {
+    ghost use Rattle.branch_stacks.specs.Tally.{Tally, IsCounted};
+
+    ghost Value = { Tally };
+
+    ghost view = { λ c. record { branches = c.branches.items; ranges = c.ranges.items } };
+
+    ghost invariant = { λ c. IsCounted (record { branches = c.branches.items; ranges = c.ranges.items }) c.total };
+}
+
+impl Counts {
+    /// Counts of nothing. Room for a first branch and a first range is taken.
+    ///
+    /// # Errors
+    /// `NoMemory`.
+    pub fn new(alloc: Global) -> Result<Counts, NoMemory>
+        ensures { IfOk result (λ counts. (counts.branches ≡ []) × (counts.ranges ≡ [])) }
+    {
+        Ok(Counts {
+            branches: Vec::with_capacity(alloc, 1)?,
+            ranges: Vec::with_capacity(alloc, 1)?,
+            total: 0,
+        })
+    }
+
+    /// The distinct branches, each with how often it was counted.
+    pub fn branches(&self) -> &[Pair]
+        ensures rows { result.now ≡ self.now.branches }
+        ensures table { IsTable result.now }
+    {
+        &self.branches
+    }
+
+    /// The distinct sampled ranges, each with how often it was counted. `from` is the target of the older branch, where
+    /// the range begins, and `to` the source of the newer one, where it ends; both are held.
+    pub fn ranges(&self) -> &[Pair]
+        ensures rows { result.now ≡ self.now.ranges }
+        ensures table { IsTable result.now }
+        ensures fewer { total_in result.now ≤ total_of self.now }
+    {
+        &self.ranges
+    }
+
+    /// How many branches were counted, all in all: at most 2^32 - 1.
+    pub fn total(&self) -> u64
+        ensures value { result ≡ total_of self.now }
+        ensures within { result ≤ max_branches }
+    {
+        self.total
+    }
+
+    /// The allocator of the rows. Its clause is what is kept, for callers that ask nothing else.
+    pub(crate) fn allocator(&self) -> Global
+        ensures { IsCounted self.now (total_of self.now) }
+    {
+        *self.branches.allocator()
+    }
+
+    /// Counts one branch from the address `from` to the address `to` `times` times more, and no range. `times` is above 0.
+    ///
+    /// # Errors
+    /// `TooMany` where the total would pass 2^32 - 1, and else `NoMemory`. The counts are then as they were.
+    pub fn add_branch(&mut self, from: u64, to: u64, times: u64) -> Result<(), CountsStop>
+        requires { 0 < times }
+        ensures added { OnOk result (AddsPairs self.old.branches self.new.branches (replicate times (from, to))) }
+        ensures ranges { self.new.ranges ≡ self.old.ranges }
+        ensures too_many { IsErrOf result CountsStop.TooMany ↔ (max_branches < total_of self.old + times) }
+        ensures err { OnErr result (self.new ≡ self.old) }
+    {
+        if times > MAX_BRANCHES - self.total {
+            return Err(CountsStop::TooMany);
+        }
+        if self.branches.try_reserve(1).is_err() {
+            return Err(CountsStop::NoMemory);
+        }
+        table::add_times(&mut self.branches, from, to, times);
+        self.total += times;
+        Ok(())
+    }
+
+    /// Counts the branches of one sample, newest first, and the range between each two neighbours among them, from the
+    /// older one's target to the newer one's source.
+    ///
+    /// # Errors
+    /// `TooMany` where the total would pass 2^32 - 1, and else `NoMemory`. The counts are then as they were.
+    ///
+    /// Source: perf-script(1), "brstack": each entry is a source and a target, and the newest stands first.
+    pub fn add_stack(&mut self, entries: &[(u64, u64)]) -> Result<(), CountsStop>
+        ensures added { OnOk result (AddsStack self.old self.new entries.now) }
+        ensures too_many { IsErrOf result CountsStop.TooMany
+            ↔ (max_branches < total_of self.old + length entries.now) }
+        ensures err { OnErr result (self.new ≡ self.old) }
+    {
+        let count = entries.len();
+        if count as u64 > MAX_BRANCHES - self.total {
+            return Err(CountsStop::TooMany);
+        }
+        if self.branches.try_reserve(count).is_err() || self.ranges.try_reserve(count).is_err() {
+            return Err(CountsStop::NoMemory);
+        }
+        table::add_branches(&mut self.branches, entries);
+        table::add_ranges(&mut self.ranges, entries);
+        self.total += count as u64;
+        Ok(())
+    }
+}

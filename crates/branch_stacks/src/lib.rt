@@ -1,0 +1,17 @@
+//! Branch stacks, counted: how often each branch was taken, and how often each range ran between two branches.
+//!
+//! The layer above makes `Counts`, reads a branch text into it, and takes its pairs out. The text is what
+//! `perf script -F ip,brstack` prints (perf-script(1), "brstack").
+#![tactic(auto)]
+
+mod counts;
+mod line;
+mod pair;
+mod table;
+#[cfg(test)]
+mod tests;
+mod text;
+
+pub use counts::{Counts, CountsStop};
+pub use pair::Pair;
+pub use text::read_text;

@@ -1,0 +1,159 @@
+use crate::{Counts, CountsStop, Pair, read_text};
+use io_edge::{Kind, NoMemory, Place, Stop};
+use std::alloc::Global;
+use std::test::Fail;
+
+fn pair(from: u64, to: u64, times: u64) -> Pair {
+    Pair { from, to, times }
+}
+
+fn refused(at: u64, kind: Kind) -> Result<(), Stop> {
+    Err(Stop::Refused(Place { file: 2, at, kind }))
+}
+
+// The answer to a text, and how many branches and how many distinct ranges are then counted.
+fn read(alloc: Global, text: &[u8]) -> Result<(Result<(), Stop>, u64, usize), NoMemory> {
+    let mut counts = Counts::new(alloc)?;
+    let answer = read_text(text, 2, &mut counts);
+    Ok((answer, counts.total(), counts.ranges().len()))
+}
+
+#[test]
+fn distinct_branches_and_ranges_are_counted(rt: HostRuntime) -> Result<(), Fail> {
+    let text = b"401036 0x401038/0x401036/P/-/-/1 0x40100c/0x401020/P/-/-/1 \
+        0x401034/0x401000/P/-/-/1\n401036 0x401038/0x401036/P/-/-/1 0x401004/0x401010/P/-/-/1\n";
+    let mut counts = Counts::new(rt.alloc())?;
+    assert_eq!(rt; read_text(text, 2, &mut counts), Ok(()));
+    let branches = [
+        pair(0x401038, 0x401036, 2),
+        pair(0x40100c, 0x401020, 1),
+        pair(0x401034, 0x401000, 1),
+        pair(0x401004, 0x401010, 1),
+    ];
+    let ranges = [
+        pair(0x401020, 0x401038, 1),
+        pair(0x401000, 0x40100c, 1),
+        pair(0x401010, 0x401038, 1),
+    ];
+    assert_eq!(rt; counts.branches(), branches.as_slice());
+    assert_eq!(rt; counts.ranges(), ranges.as_slice());
+    assert_eq!(rt; counts.total(), 5);
+    Ok(())
+}
+
+#[test]
+fn full_counts_refuse_and_stay(rt: HostRuntime) -> Result<(), Fail> {
+    let mut counts = Counts::new(rt.alloc())?;
+    assert_eq!(rt;
+        counts.add_branch(1, 2, 4_294_967_296),
+        Err(CountsStop::TooMany)
+    );
+    assert_eq!(rt; counts.add_branch(1, 2, 4_294_967_295), Ok(()));
+    assert_eq!(rt; counts.add_branch(1, 2, 1), Err(CountsStop::TooMany));
+    assert_eq!(rt; counts.add_stack(&[(3, 4)]), Err(CountsStop::TooMany));
+    assert_eq!(rt; counts.add_stack(&[]), Ok(()));
+    assert_eq!(rt; counts.branches(), [pair(1, 2, 4_294_967_295)].as_slice());
+    assert_eq!(rt; counts.ranges(), [].as_slice());
+    assert_eq!(rt; counts.total(), 4_294_967_295);
+    Ok(())
+}
+
+#[test]
+fn a_stack_counts_the_ranges_between_its_neighbours(rt: HostRuntime) -> Result<(), Fail> {
+    let mut counts = Counts::new(rt.alloc())?;
+    assert_eq!(rt; counts.add_stack(&[(1, 2), (3, 4), (1, 2), (3, 4)]), Ok(()));
+    assert_eq!(rt;
+        counts.branches(),
+        [pair(1, 2, 2), pair(3, 4, 2)].as_slice()
+    );
+    assert_eq!(rt; counts.ranges(), [pair(4, 1, 2), pair(2, 3, 1)].as_slice());
+    Ok(())
+}
+
+#[test]
+fn a_text_is_refused_at_its_first_bad_line(rt: HostRuntime) -> Result<(), Fail> {
+    let bad_line = |at| refused(at, Kind::BadLine);
+    let cases: [(&[u8], Result<(), Stop>, u64, usize); 13] = [
+        (b"", Ok(()), 0, 0),
+        (b"401036", Ok(()), 0, 0),
+        (b"0x401036 0x1/0x2\n0x3/0x4/P", Ok(()), 2, 0),
+        (
+            b"# 0x1/0x2\n \t\nx PERF_RECORD_MMAP2 x\n0x1/0x2\n",
+            Ok(()),
+            1,
+            0,
+        ),
+        (
+            b"0x1/0x2 0x3/0x4/P\n401036 zz\n0x5/0x6\nzz\n",
+            bad_line(2),
+            2,
+            1,
+        ),
+        (b"0x1/0x2 0x3/0x4 zz", bad_line(1), 0, 0),
+        (b"401036 401036", bad_line(1), 0, 0),
+        (b"0x1/0x2 401036", bad_line(1), 0, 0),
+        (b" # 0x1/0x2", bad_line(1), 0, 0),
+        (b"0x1/0x2/P\r\n0x1/0x2\r\n", bad_line(2), 1, 0),
+        (b"0x1/2", bad_line(1), 0, 0),
+        (b"0x1/0x10000000000000000", bad_line(1), 0, 0),
+        (b"0xFFFFFFFFFFFFFFFF/0xffffffffffffffff/", Ok(()), 1, 0),
+    ];
+    for (text, answer, total, ranges) in cases {
+        assert_eq!(rt;
+            read(rt.alloc(), text)?,
+            (answer, total, ranges),
+            "{text:?}"
+        );
+    }
+    Ok(())
+}
+
+#[test]
+fn a_line_has_limits(rt: HostRuntime) -> Result<(), Fail> {
+    // A part of a line, how often it stands there, and what stands behind it.
+    let cases: [(&[u8], usize, &[u8], Result<(), Stop>, u64); 9] = [
+        (b"0x1/0x2 ", 1024, b"\n", Ok(()), 1024),
+        (b"0x1/0x2 ", 1025, b"", refused(1, Kind::TooManyEntries), 0),
+        (b"0x1/0x2 ", 1025, b"zz", refused(1, Kind::BadLine), 0),
+        (b" ", 65_536, b"\n0x1/0x2", Ok(()), 1),
+        (b" ", 65_537, b"\n0x1/0x2", refused(1, Kind::LineTooLong), 0),
+        (
+            b" ",
+            65_537,
+            b"zz\n0x1/0x2",
+            refused(1, Kind::LineTooLong),
+            0,
+        ),
+        (b"#", 65_536, b"\n0x1/0x2", Ok(()), 1),
+        (b"#", 65_537, b"\n0x1/0x2", refused(1, Kind::LineTooLong), 0),
+        (b"0x1/0x2 ", 8193, b"", refused(1, Kind::LineTooLong), 0),
+    ];
+    for (part, times, behind, answer, total) in cases {
+        let mut text = part.repeat(rt.alloc(), times)?;
+        text.extend_from_slice(behind)?;
+        let (got, counted, _) = read(rt.alloc(), &text)?;
+        assert_eq!(rt; (got, counted), (answer, total), "{part:?} {times} times");
+    }
+    Ok(())
+}
+
+#[test]
+fn a_stack_is_read_as_perf_prints_it(rt: HostRuntime) -> Result<(), Fail> {
+    let stack = b"  0x401038/0xffffffff81e00010/P/-/-/0//-  \
+        0xffffffff81e01020/0x401036/M/-/-/12//-";
+    let mut text = b"# brstack\n          401036".to_vec(rt.alloc())?;
+    text.extend_from_slice(&stack.repeat(rt.alloc(), 16)?)?;
+    let mut counts = Counts::new(rt.alloc())?;
+    assert_eq!(rt; read_text(&text, 2, &mut counts), Ok(()));
+    let branches = [
+        pair(0x401038, 0xffff_ffff_81e0_0010, 16),
+        pair(0xffff_ffff_81e0_1020, 0x401036, 16),
+    ];
+    let ranges = [
+        pair(0x401036, 0x401038, 16),
+        pair(0xffff_ffff_81e0_0010, 0xffff_ffff_81e0_1020, 15),
+    ];
+    assert_eq!(rt; counts.branches(), branches.as_slice());
+    assert_eq!(rt; counts.ranges(), ranges.as_slice());
+    Ok(())
+}

@@ -1,0 +1,51 @@
+-- The definitions on worked values.
+use Rattle.std.proofs.Common.{◌≡◌, [], ◌∷◌, refl, Some, None}
+use Rattle.std.specs.Prelude.{codes, if◌then◌else◌}
+use Rattle.std.specs.Fmt.{digits}
+use Rattle.std.specs.Str.{bytes_eq}
+use Rattle.io_edge.specs.declared.kind.Kind.TheVariants.{BadLine}
+use Rattle.text_model.specs.Lines.{lines_of, ended_lines_of}
+use Rattle.text_model.specs.Fields.{fields_of}
+use Rattle.text_model.specs.Numbers.{number_of, prefixed_of, hex_text}
+use Rattle.sample_model.specs.Line.{address_of, is_ip, entry_of, is_sample, is_well_formed, branches_of_line}
+use Rattle.sample_model.specs.Judging.{fault_of_line, items_of_lines, judged_lines_of}
+use Rattle.io_edge.specs.Inputs.{Store}
+use Rattle.command_model.specs.Answer.{answer_of}
+use Rattle.command_model.specs.Answer.Answer.{usage, no_such_file, refused, writes}
+use Rattle.command_model.specs.Command.{command_of, counts}
+use Rattle.command_model.specs.Counts.{counts_text}
+
+five_branches : counts_text ((0x401038, 0x401036) ∷ (0x40100c, 0x401020) ∷ (0x401034, 0x401000) ∷ (0x401038, 0x401036) ∷ (0x401004, 0x401010) ∷ [])
+    ≡ codes "0x401004 0x401010 1\n0x40100c 0x401020 1\n0x401034 0x401000 1\n0x401038 0x401036 2\n# branches 5\n"
+unfolding counts_text hex_text digits
+five_branches = refl
+
+no_branch : counts_text [] ≡ codes "# branches 0\n"
+unfolding counts_text digits
+no_branch = refl
+
+by_target : counts_text ((7, 9) ∷ (7, 8) ∷ (6, 10) ∷ (7, 8) ∷ []) ≡ codes "0x6 0xa 1\n0x7 0x8 2\n0x7 0x9 1\n# branches 4\n"
+unfolding counts_text hex_text digits
+by_target = refl
+
+words : (command_of (codes "counts" ∷ codes "a.txt" ∷ []) ≡ Some (counts (codes "a.txt"))) × (command_of (codes "counts" ∷ []) ≡ None) × (command_of (codes "count" ∷ codes "a.txt" ∷ []) ≡ None)
+words = (refl, refl, refl)
+
+-- as numbers, not as texts, up to the last address
+by_numbers : counts_text ((0x10, 1) ∷ (0xffffffffffffffff, 0) ∷ (9, 0xffffffffffffffff) ∷ (9, 0x10) ∷ (9, 2) ∷ (0, 0) ∷ [])
+    ≡ codes "0x0 0x0 1\n0x9 0x2 1\n0x9 0x10 1\n0x9 0xffffffffffffffff 1\n0x10 0x1 1\n0xffffffffffffffff 0x0 1\n# branches 6\n"
+unfolding counts_text hex_text digits
+by_numbers = refl
+
+-- a good text, and a bad one whose name is empty
+two_files : Store
+two_files name =
+    if bytes_eq name (codes "good") then Some (codes "401036 0x7/0x8 0x5/0x6\n")
+    else (if bytes_eq name [] then Some (codes "\nzz") else None)
+
+answers : (answer_of two_files (codes "counts" ∷ codes "good" ∷ []) ≡ writes (codes "0x5 0x6 1\n0x7 0x8 1\n# branches 2\n"))
+    × (answer_of two_files (codes "counts" ∷ [] ∷ []) ≡ refused (record { file = 1; at = 2; kind = BadLine }))
+    × (answer_of two_files (codes "counts" ∷ codes "none" ∷ []) ≡ no_such_file 1)
+    × (answer_of two_files (codes "counts" ∷ codes "good" ∷ codes "good" ∷ []) ≡ usage) × (answer_of two_files [] ≡ usage)
+unfolding two_files counts_text hex_text digits lines_of ended_lines_of fields_of number_of prefixed_of address_of is_ip entry_of is_sample is_well_formed branches_of_line fault_of_line items_of_lines judged_lines_of
+answers = (refl, refl, refl, refl, refl)

@@ -1,0 +1,14 @@
+-- The words and the command that they spell, as the definitions see them.
+use Rattle.std.specs.Prelude.{ℕ, List, map}
+use Rattle.std.specs.Global.{Vec}
+use Rattle.command_model.specs.Command as model
+use Rattle.pgo_run.specs.declared.command.Command.{Command}
+use Rattle.pgo_run.specs.declared.command.Command.TheVariants.{Counts}
+
+-- the bytes of each word
+abbrev pub texts_of : List (Vec ℕ) → List (List ℕ)
+texts_of words = map (λ w. w.items) words
+
+-- what is asked for, apart from where the words lie
+abbrev pub meaning_of : Command → model.Command
+meaning_of (Counts perf) = model.counts perf.now

@@ -1,0 +1,42 @@
+// The order of work that all commands share.
+ghost use Rattle.std.specs.Prelude.{◌≡◌, IfSome};
+ghost use Rattle.io_edge.specs.Faults.{raised};
+ghost use Rattle.pgo_run.specs.Output.{ReadsFile, HasFileCause};
+
+use crate::status::Status;
+use io_edge::{Inputs, Kind, Place, ReadStop, read_whole};
+use std::alloc::Global;
+
+/// The bytes of the file of the k-th file word, at most `limit` of them.
+///
+/// # Errors
+/// `NoSuchFile`, `Refused` with `FileTooLarge` at the limit, `ReadFault` and `NoMemory`.
+pub(crate) fn read_file<I: Inputs>(
+    alloc: Global,
+    inputs: &mut I,
+    k: u8,
+    name: &[u8],
+    limit: u64,
+) -> Result<Vec<u8>, Status>
+    ensures file { IfSome (I.store inputs.old) (λ files. ReadsFile (files name.now) k limit result) }
+    ensures store { I.store inputs.new ≡ I.store inputs.old }
+    ensures opens { I.opens inputs.new ≡ raised (I.opens inputs.old) }
+    ensures cause { HasFileCause k (I.faults inputs.old) (I.faults inputs.new) result }
+{
+    match inputs.open(name) {
+        Ok(true) => {}
+        Ok(false) => return Err(Status::NoSuchFile(k)),
+        Err(_) => return Err(Status::ReadFault(k)),
+    }
+    let mut bytes = Vec::new(alloc);
+    match read_whole(inputs, limit, &mut bytes) {
+        Ok(()) => Ok(bytes),
+        Err(ReadStop::Fault) => Err(Status::ReadFault(k)),
+        Err(ReadStop::TooLarge) => Err(Status::Refused(Place {
+            file: k,
+            at: limit,
+            kind: Kind::FileTooLarge,
+        })),
+        Err(ReadStop::NoMemory) => Err(Status::NoMemory),
+    }
+}

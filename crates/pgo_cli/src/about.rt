@@ -1,0 +1,35 @@
+// What the program says of itself.
+
+/// What each command does, and how the program ends.
+const HELP: &[u8] = b"\
+pgo builds sample profiles for compilers.
+
+usage:
+  pgo counts PERF   each distinct branch of a branch text, with its count
+  pgo --help        this text
+  pgo --version     the version
+
+PERF is what `perf script -F ip,brstack` prints, in a file. Messages count
+file words and lines from 1.
+
+exit status:
+  0  done, the whole output was written
+  1  a check failed (no command checks yet)
+  2  the words spell no command
+  3  there is no such file
+  4  a file is refused; its first bad place is named
+  5  a file could not be read
+  6  the output could not be written
+  7  memory was refused
+";
+
+const VERSION: &[u8] = b"pgo 0.1.0\n";
+
+/// The answer to a word that asks for it, where it is the only one.
+pub(crate) fn answer_to(words: &[Vec<u8>]) -> Option<&'static [u8]> {
+    match words {
+        [word] if word.as_slice() == b"--help".as_slice() => Some(HELP),
+        [word] if word.as_slice() == b"--version".as_slice() => Some(VERSION),
+        _ => None,
+    }
+}

@@ -1,0 +1,48 @@
+//! The program `pgo`: hands its words, the system's files and the standard output to the top call, prints the status on
+//! the error output, and ends with the status's code.
+//!
+//! `--help` and `--version`, as the only word, are answered here.
+#![tactic(auto)]
+
+mod about;
+mod words;
+
+use io_edge::{FileInputs, StdSink, write_all};
+use pgo_run::{Status, run, status_line};
+use std::io;
+use std::process::ExitCode;
+use std::rt::{Env, Files};
+use words::{WordsStop, read_words};
+
+fn main(rt: HostRuntime) -> ExitCode {
+    let status = answer(&rt);
+    report(&rt, &status);
+    ExitCode::from(status.code())
+}
+
+/// Carries out the program's words.
+fn answer<R: AllocGlobal + Env + Files + Print>(rt: &R) -> Status {
+    let alloc = rt.alloc();
+    let words = match read_words(rt, alloc) {
+        Ok(words) => words,
+        Err(WordsStop::NoMemory) => return Status::NoMemory,
+        Err(WordsStop::TooLong) => return Status::Usage,
+    };
+    let mut out = StdSink::new(io::writer(rt));
+    match about::answer_to(&words) {
+        Some(text) => match write_all(&mut out, text) {
+            Ok(()) => Status::Done,
+            Err(_) => Status::WriteFault,
+        },
+        None => run(alloc, &words, &mut FileInputs::new(rt), &mut out),
+    }
+}
+
+/// Prints the status's line. Nothing can be said where even that fails; the exit status tells.
+fn report(rt: &impl Eprint, status: &Status) {
+    let mut line = [0; 256];
+    let len = status_line(status, &mut line);
+    if let Ok(text) = str::from_utf8(&line[..len.min(line.len())]) {
+        let _ = rt.eprint(text);
+    }
+}

@@ -1,0 +1,4 @@
+pub mod LebLemmas
+pub mod Spellings
+pub mod TextLemmas
+pub mod Vectors

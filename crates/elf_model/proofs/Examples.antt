@@ -1,0 +1,116 @@
+-- The definitions computed on a small file: one segment of code and, behind header 0, four sections.
+use Rattle.std.proofs.Common.{◌≡◌, ℕ, true, false, List, [], ◌∷◌, map, take, set, None, Some, refl}
+use Rattle.std.specs.Prelude.{codes}
+use Rattle.io_edge.specs.declared.kind.Kind.TheVariants.{BadHeader, Compressed}
+use Rattle.io_edge.specs.Place.{first_bad}
+use Rattle.elf_model.specs.Fields.{number_at}
+use Rattle.elf_model.specs.Tables.{section_headers}
+use Rattle.elf_model.specs.Sections.{name_of, section, sections, start, file_size}
+use Rattle.elf_model.specs.Segments.{is_live}
+use Rattle.elf_model.specs.Items.{items, lookup_item}
+
+abbrev small_file : List ℕ
+small_file =
+    127 ∷ 69 ∷ 76 ∷ 70 ∷ 2 ∷ 1 ∷ 1 ∷ 0 ∷ 0 ∷ 0 ∷ 0 ∷ 0 ∷ 0 ∷ 0 ∷ 0 ∷ 0 ∷ 2 ∷ 0 ∷ 62 ∷ 0 ∷
+    1 ∷ 0 ∷ 0 ∷ 0 ∷ 0 ∷ 0 ∷ 0 ∷ 0 ∷ 0 ∷ 0 ∷ 0 ∷ 0 ∷ 64 ∷ 0 ∷ 0 ∷ 0 ∷ 0 ∷ 0 ∷ 0 ∷ 0 ∷
+    79 ∷ 1 ∷ 0 ∷ 0 ∷ 0 ∷ 0 ∷ 0 ∷ 0 ∷ 0 ∷ 0 ∷ 0 ∷ 0 ∷ 64 ∷ 0 ∷ 56 ∷ 0 ∷ 1 ∷ 0 ∷ 64 ∷ 0 ∷
+    5 ∷ 0 ∷ 4 ∷ 0 ∷ 1 ∷ 0 ∷ 0 ∷ 0 ∷ 5 ∷ 0 ∷ 0 ∷ 0 ∷ 0 ∷ 0 ∷ 0 ∷ 0 ∷ 0 ∷ 0 ∷ 0 ∷ 0 ∷
+    0 ∷ 16 ∷ 64 ∷ 0 ∷ 0 ∷ 0 ∷ 0 ∷ 0 ∷ 0 ∷ 16 ∷ 64 ∷ 0 ∷ 0 ∷ 0 ∷ 0 ∷ 0 ∷ 0 ∷ 0 ∷ 0 ∷ 0 ∷
+    0 ∷ 0 ∷ 0 ∷ 0 ∷ 64 ∷ 0 ∷ 0 ∷ 0 ∷ 0 ∷ 0 ∷ 0 ∷ 0 ∷ 0 ∷ 16 ∷ 0 ∷ 0 ∷ 0 ∷ 0 ∷ 0 ∷ 0 ∷
+    1 ∷ 17 ∷ 1 ∷ 16 ∷ 23 ∷ 0 ∷ 0 ∷ 2 ∷ 46 ∷ 0 ∷ 3 ∷ 8 ∷ 59 ∷ 11 ∷ 0 ∷ 0 ∷ 3 ∷ 46 ∷ 1 ∷ 3 ∷
+    8 ∷ 59 ∷ 5 ∷ 17 ∷ 1 ∷ 18 ∷ 6 ∷ 0 ∷ 0 ∷ 4 ∷ 29 ∷ 0 ∷ 49 ∷ 19 ∷ 17 ∷ 1 ∷ 18 ∷ 6 ∷ 89 ∷ 5 ∷
+    182 ∷ 66 ∷ 11 ∷ 0 ∷ 0 ∷ 0 ∷ 59 ∷ 0 ∷ 0 ∷ 0 ∷ 4 ∷ 0 ∷ 0 ∷ 0 ∷ 0 ∷ 0 ∷ 8 ∷ 1 ∷ 0 ∷ 0 ∷
+    0 ∷ 0 ∷ 2 ∷ 103 ∷ 0 ∷ 5 ∷ 3 ∷ 102 ∷ 48 ∷ 48 ∷ 48 ∷ 48 ∷ 0 ∷ 10 ∷ 0 ∷ 0 ∷ 16 ∷ 64 ∷ 0 ∷ 0 ∷
+    0 ∷ 0 ∷ 0 ∷ 64 ∷ 0 ∷ 0 ∷ 0 ∷ 4 ∷ 16 ∷ 0 ∷ 0 ∷ 0 ∷ 16 ∷ 16 ∷ 64 ∷ 0 ∷ 0 ∷ 0 ∷ 0 ∷ 0 ∷
+    16 ∷ 0 ∷ 0 ∷ 0 ∷ 12 ∷ 0 ∷ 1 ∷ 0 ∷ 0 ∷ 53 ∷ 0 ∷ 0 ∷ 0 ∷ 4 ∷ 0 ∷ 20 ∷ 0 ∷ 0 ∷ 0 ∷ 1 ∷
+    1 ∷ 1 ∷ 251 ∷ 14 ∷ 13 ∷ 0 ∷ 1 ∷ 1 ∷ 1 ∷ 1 ∷ 0 ∷ 0 ∷ 0 ∷ 1 ∷ 0 ∷ 0 ∷ 1 ∷ 0 ∷ 0 ∷ 0 ∷
+    9 ∷ 2 ∷ 0 ∷ 16 ∷ 64 ∷ 0 ∷ 0 ∷ 0 ∷ 0 ∷ 0 ∷ 3 ∷ 9 ∷ 1 ∷ 131 ∷ 125 ∷ 0 ∷ 2 ∷ 4 ∷ 2 ∷ 248 ∷
+    243 ∷ 2 ∷ 16 ∷ 0 ∷ 1 ∷ 1 ∷ 0 ∷ 46 ∷ 100 ∷ 101 ∷ 98 ∷ 117 ∷ 103 ∷ 95 ∷ 97 ∷ 98 ∷ 98 ∷ 114 ∷ 101 ∷ 118 ∷
+    0 ∷ 46 ∷ 100 ∷ 101 ∷ 98 ∷ 117 ∷ 103 ∷ 95 ∷ 105 ∷ 110 ∷ 102 ∷ 111 ∷ 0 ∷ 46 ∷ 100 ∷ 101 ∷ 98 ∷ 117 ∷ 103 ∷ 95 ∷
+    108 ∷ 105 ∷ 110 ∷ 101 ∷ 0 ∷ 46 ∷ 115 ∷ 104 ∷ 115 ∷ 116 ∷ 114 ∷ 116 ∷ 97 ∷ 98 ∷ 0 ∷ 0 ∷ 0 ∷ 0 ∷ 0 ∷ 0 ∷
+    0 ∷ 0 ∷ 0 ∷ 0 ∷ 0 ∷ 0 ∷ 0 ∷ 0 ∷ 0 ∷ 0 ∷ 0 ∷ 0 ∷ 0 ∷ 0 ∷ 0 ∷ 0 ∷ 0 ∷ 0 ∷ 0 ∷ 0 ∷
+    0 ∷ 0 ∷ 0 ∷ 0 ∷ 0 ∷ 0 ∷ 0 ∷ 0 ∷ 0 ∷ 0 ∷ 0 ∷ 0 ∷ 0 ∷ 0 ∷ 0 ∷ 0 ∷ 0 ∷ 0 ∷ 0 ∷ 0 ∷
+    0 ∷ 0 ∷ 0 ∷ 0 ∷ 0 ∷ 0 ∷ 0 ∷ 0 ∷ 0 ∷ 0 ∷ 0 ∷ 0 ∷ 0 ∷ 0 ∷ 0 ∷ 0 ∷ 0 ∷ 0 ∷ 0 ∷ 1 ∷
+    0 ∷ 0 ∷ 0 ∷ 1 ∷ 0 ∷ 0 ∷ 0 ∷ 0 ∷ 0 ∷ 0 ∷ 0 ∷ 0 ∷ 0 ∷ 0 ∷ 0 ∷ 0 ∷ 0 ∷ 0 ∷ 0 ∷ 0 ∷
+    0 ∷ 0 ∷ 0 ∷ 120 ∷ 0 ∷ 0 ∷ 0 ∷ 0 ∷ 0 ∷ 0 ∷ 0 ∷ 46 ∷ 0 ∷ 0 ∷ 0 ∷ 0 ∷ 0 ∷ 0 ∷ 0 ∷ 0 ∷
+    0 ∷ 0 ∷ 0 ∷ 0 ∷ 0 ∷ 0 ∷ 0 ∷ 1 ∷ 0 ∷ 0 ∷ 0 ∷ 0 ∷ 0 ∷ 0 ∷ 0 ∷ 0 ∷ 0 ∷ 0 ∷ 0 ∷ 0 ∷
+    0 ∷ 0 ∷ 0 ∷ 15 ∷ 0 ∷ 0 ∷ 0 ∷ 1 ∷ 0 ∷ 0 ∷ 0 ∷ 0 ∷ 0 ∷ 0 ∷ 0 ∷ 0 ∷ 0 ∷ 0 ∷ 0 ∷ 0 ∷
+    0 ∷ 0 ∷ 0 ∷ 0 ∷ 0 ∷ 0 ∷ 0 ∷ 166 ∷ 0 ∷ 0 ∷ 0 ∷ 0 ∷ 0 ∷ 0 ∷ 0 ∷ 63 ∷ 0 ∷ 0 ∷ 0 ∷ 0 ∷
+    0 ∷ 0 ∷ 0 ∷ 0 ∷ 0 ∷ 0 ∷ 0 ∷ 0 ∷ 0 ∷ 0 ∷ 0 ∷ 1 ∷ 0 ∷ 0 ∷ 0 ∷ 0 ∷ 0 ∷ 0 ∷ 0 ∷ 0 ∷
+    0 ∷ 0 ∷ 0 ∷ 0 ∷ 0 ∷ 0 ∷ 0 ∷ 27 ∷ 0 ∷ 0 ∷ 0 ∷ 1 ∷ 0 ∷ 0 ∷ 0 ∷ 0 ∷ 0 ∷ 0 ∷ 0 ∷ 0 ∷
+    0 ∷ 0 ∷ 0 ∷ 0 ∷ 0 ∷ 0 ∷ 0 ∷ 0 ∷ 0 ∷ 0 ∷ 0 ∷ 229 ∷ 0 ∷ 0 ∷ 0 ∷ 0 ∷ 0 ∷ 0 ∷ 0 ∷ 57 ∷
+    0 ∷ 0 ∷ 0 ∷ 0 ∷ 0 ∷ 0 ∷ 0 ∷ 0 ∷ 0 ∷ 0 ∷ 0 ∷ 0 ∷ 0 ∷ 0 ∷ 0 ∷ 1 ∷ 0 ∷ 0 ∷ 0 ∷ 0 ∷
+    0 ∷ 0 ∷ 0 ∷ 0 ∷ 0 ∷ 0 ∷ 0 ∷ 0 ∷ 0 ∷ 0 ∷ 0 ∷ 39 ∷ 0 ∷ 0 ∷ 0 ∷ 3 ∷ 0 ∷ 0 ∷ 0 ∷ 0 ∷
+    0 ∷ 0 ∷ 0 ∷ 0 ∷ 0 ∷ 0 ∷ 0 ∷ 0 ∷ 0 ∷ 0 ∷ 0 ∷ 0 ∷ 0 ∷ 0 ∷ 0 ∷ 30 ∷ 1 ∷ 0 ∷ 0 ∷ 0 ∷
+    0 ∷ 0 ∷ 0 ∷ 49 ∷ 0 ∷ 0 ∷ 0 ∷ 0 ∷ 0 ∷ 0 ∷ 0 ∷ 0 ∷ 0 ∷ 0 ∷ 0 ∷ 0 ∷ 0 ∷ 0 ∷ 0 ∷ 1 ∷
+    0 ∷ 0 ∷ 0 ∷ 0 ∷ 0 ∷ 0 ∷ 0 ∷ 0 ∷ 0 ∷ 0 ∷ 0 ∷ 0 ∷ 0 ∷ 0 ∷ 0 ∷ []
+
+no_bad_place : first_bad (items small_file) ≡ None
+unfolding number_at section items lookup_item is_live
+no_bad_place = refl
+
+five_headers : map (λ h. h.at) (section_headers small_file) ≡ 335 ∷ 399 ∷ 463 ∷ 527 ∷ 591 ∷ []
+unfolding number_at section items lookup_item is_live
+five_headers = refl
+
+the_names : map (name_of small_file) (sections small_file)
+    ≡ Some (codes ".debug_abbrev") ∷ Some (codes ".debug_info") ∷ Some (codes ".debug_line") ∷ Some (codes ".shstrtab") ∷ []
+unfolding number_at section items lookup_item is_live
+the_names = refl
+
+the_extents : map (λ h. h.sh_offset) (sections small_file) ≡ 120 ∷ 166 ∷ 229 ∷ 286 ∷ []
+unfolding number_at section items lookup_item is_live
+the_extents = refl
+
+cut_file : first_bad (items (take 400 small_file)) ≡ Some (record { file = 1; at = 40; kind = BadHeader })
+unfolding number_at section items lookup_item is_live
+cut_file = refl
+
+nothing_compressed : lookup_item small_file (codes ".debug_info") ≡ None
+unfolding number_at section items lookup_item is_live
+nothing_compressed = refl
+
+compressed_bytes : lookup_item (set small_file 472 8) (codes ".debug_info")
+    ≡ Some (record { file = 1; at = 463; kind = Compressed })
+unfolding number_at section items lookup_item is_live
+compressed_bytes = refl
+
+missing : section small_file (codes ".debug_str") ≡ None
+unfolding number_at section items lookup_item is_live
+missing = refl
+
+live : is_live small_file 0x401000 0x401040 ≡ true
+unfolding number_at section items lookup_item is_live
+live = refl
+
+not_live : map (λ hi. is_live small_file 0x401000 hi) (0x401000 ∷ 0x401041 ∷ []) ≡ false ∷ false ∷ []
+unfolding number_at section items lookup_item is_live
+not_live = refl
+
+-- the count and the index of the names stand in header 0
+abbrev escaped_file : List ℕ
+escaped_file = set (set (set (set (set small_file 60 0) 367 5) 62 255) 63 255) 375 4
+
+escaped : first_bad (items escaped_file) ≡ None
+unfolding number_at section items lookup_item is_live
+escaped = refl
+
+escaped_names : map (name_of escaped_file) (sections escaped_file) ≡ map (name_of small_file) (sections small_file)
+unfolding number_at section items lookup_item is_live
+escaped_names = refl
+
+-- without an index of the names all names are empty
+nameless : map (name_of (set small_file 62 0)) (sections (set small_file 62 0)) ≡ Some [] ∷ Some [] ∷ Some [] ∷ Some [] ∷ []
+unfolding number_at section items lookup_item is_live
+nameless = refl
+
+-- a section without bytes in the file may name any offset and size
+no_bytes : map {B = ℕ × ℕ} (λ h. (start small_file h, file_size h)) (sections (set (set (set small_file 467 8) 488 255) 496 255))
+    ≡ (120, 46) ∷ (655, 0) ∷ (229, 57) ∷ (286, 49) ∷ []
+unfolding number_at section items lookup_item is_live
+no_bytes = refl
+
+-- of two sections of one name the first is meant
+twins : section (set small_file 527 15) (codes ".debug_info") ≡ section small_file (codes ".debug_info")
+unfolding number_at section items lookup_item is_live
+twins = refl

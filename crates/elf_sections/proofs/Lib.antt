@@ -1,0 +1,4 @@
+pub mod Entries
+pub mod Items
+pub mod Judging
+pub mod Texts

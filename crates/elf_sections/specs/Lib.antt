@@ -1,0 +1,5 @@
+pub mod Room
+pub mod Shown
+pub mod Tables
+pub mod Found
+pub mod Judged

@@ -1,0 +1,133 @@
+ghost use Rattle.std.specs.Prelude.{◌≡◌};
+ghost use Rattle.io_edge.specs.Place.{Judges, first_bad};
+ghost use Rattle.elf_model.specs.Items.{items};
+
+use crate::file_header::FileHeader;
+use crate::judgement::judge_sections;
+use crate::names::Names;
+use crate::refusal::refuse_if;
+use crate::section_header::SectionHeader;
+use crate::section_table::SectionTable;
+use crate::segment::SegmentTable;
+use byte_view::Part;
+use io_edge::{Kind, Place};
+use std::marker::Model;
+
+/// An ELF64 file whose headers are good: its sections, and the ranges of addresses that hold its
+/// code.
+///
+/// It borrows the file's bytes, and each section that it finds is lent from them.
+#[derive(Debug, Drop)]
+pub struct Elf<'a> {
+    segments: SegmentTable<'a>,
+    sections: SectionTable<'a>,
+    names: Names<'a>,
+}
+
+impl<'a> Model for Elf<'a> {
+    ghost use Rattle.std.specs.Prelude.{ℕ, List};
+
+    ghost Value = { List ℕ };
+
+    ghost use Rattle.elf_sections.specs.Judged.{IsJudged};
+
+    ghost view = { λ elf. elf.sections.file.now };
+
+    ghost invariant = { IsJudged };
+}
+
+/// Judges the headers of a file, whose size is the caller's to judge.
+///
+/// # Errors
+///
+/// The first place, in the order of the file header, the section of names and the sections, where
+/// the file breaks a rule of docs/FORMATS.md ("ELF files").
+///
+/// Source: System V gABI, "ELF Header", "Sections", "String Table", "Program Header".
+#[tactic(auto, using(crate::proofs::Items::first_bad_items))]
+pub fn read(file: &[u8]) -> Result<Elf<'_>, Place>
+    ensures { Judges (first_bad (items file.now)) result (λ elf. elf ≡ file.now) }
+{
+    let header = FileHeader::identify(file)?;
+    let segments = SegmentTable::judge(&header)?;
+    let sections = SectionTable::judge(&header)?;
+    let names = sections.judge_names()?;
+    judge_sections(&sections, &names)?;
+    Ok(Elf {
+        segments,
+        sections,
+        names,
+    })
+}
+
+impl<'a> Elf<'a> {
+    ghost use Rattle.std.specs.Prelude.{◌≡◌, ◌&&◌, None, IfSome};
+    ghost use Rattle.std.specs.Option.{option_map};
+    ghost use Rattle.std.specs.List.{list_any};
+    ghost use Rattle.io_edge.specs.Place.{Judges};
+    ghost use Rattle.elf_model.specs.Tables.{program_headers};
+    ghost use Rattle.elf_model.specs.Sections.{section};
+    ghost use Rattle.elf_model.specs.Segments.{is_code, holds, is_live};
+    ghost use Rattle.elf_model.specs.Items.{extent_item, lookup_item};
+    ghost use Rattle.elf_sections.specs.Shown.{header_of};
+    ghost use Rattle.elf_sections.specs.Found.{Finds};
+
+    /// The piece of the first section of a name, where there is one. A section without bytes in the
+    /// file has an empty piece.
+    ///
+    /// # Errors
+    ///
+    /// `Kind::Compressed` at the section's header, where the section's bytes are compressed.
+    ///
+    /// Source: System V gABI, "Sections", "String Table".
+    #[tactic(auto, unfolding(elf_model::specs::Items::lookup_item))]
+    pub fn section(&self, name: &[u8]) -> Result<Option<Part<'a>>, Place>
+        ensures { Judges (lookup_item self.now name.now) result
+            (Finds self.now (section self.now name.now)) }
+    {
+        let Some(header) = self.find(name) else {
+            return Ok(None);
+        };
+        refuse_if(header.is_compressed(), header.at as u64, Kind::Compressed)?;
+        Ok(Some(header.piece(self.sections.file)))
+    }
+
+    /// Whether the addresses from `lo` up to `hi`, `hi` left out, are code: `lo` is not 0, there are
+    /// some, and one loaded executable segment holds them all.
+    ///
+    /// Source: System V gABI, "Program Header".
+    #[tactic(auto, unfolding(elf_model::specs::Segments::is_live))]
+    pub fn runs(&self, lo: u64, hi: u64) -> bool
+        ensures { result ≡ is_live self.now lo hi }
+    {
+        0 < lo && lo < hi && self.has_code(lo, hi)
+    }
+
+    /// Whether one loaded executable segment holds the addresses from `lo` up to `hi`.
+    fn has_code(&self, lo: u64, hi: u64) -> bool
+        ensures { result
+            ≡ list_any (λ segment. is_code segment && holds lo hi segment)
+            (program_headers self.now) }
+    {
+        for segment in self.segments.headers() {
+            if segment.is_code() && segment.holds(lo, hi) {
+                return true;
+            }
+        }
+        false
+    }
+
+    /// The header of the first section of a name.
+    #[tactic(auto, unfolding(elf_model::specs::Sections::section))]
+    fn find(&self, name: &[u8]) -> Option<SectionHeader>
+        ensures found { option_map header_of result ≡ section self.now name.now }
+        ensures good { IfSome result (λ header. extent_item self.now (header_of header) ≡ None) }
+    {
+        for header in self.sections.headers() {
+            if !header.is_unused() && self.names.has(header.name, name) {
+                return Some(header);
+            }
+        }
+        None
+    }
+}

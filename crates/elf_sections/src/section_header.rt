@@ -1,0 +1,104 @@
+ghost use Rattle.std.specs.Prelude.{◌≡◌, ◌+◌, ◌≤◌, length, None};
+ghost use Rattle.io_edge.specs.Place.{Judges};
+ghost use Rattle.elf_model.specs.Fields.{passes_end};
+ghost use Rattle.elf_model.specs.Tables.{section_header_at};
+ghost use Rattle.elf_model.specs.Sections.{is_unused, is_nobits, is_compressed, file_size, start, bytes_of};
+ghost use Rattle.elf_model.specs.Items.{extent_item};
+
+use crate::fields::{u32_at, u64_at};
+use crate::refusal::{passes_end, refuse_if};
+use byte_view::Part;
+use io_edge::{Kind, Place};
+
+/// `sh_type` of a header that describes no section.
+const SHT_NULL: u32 = 0;
+/// `sh_type` of a section that takes no space in the file.
+const SHT_NOBITS: u32 = 8;
+/// `sh_flags` of a section whose bytes are compressed.
+const SHF_COMPRESSED: u64 = 0x800;
+
+/// One section header, and the offset in the file at which it stands.
+#[derive(Clone, Copy, Debug)]
+pub(crate) struct SectionHeader {
+    pub at: usize,
+    pub name: u32,
+    pub kind: u32,
+    pub flags: u64,
+    pub offset: u64,
+    pub size: u64,
+    pub link: u32,
+}
+
+impl SectionHeader {
+    ghost use Rattle.elf_sections.specs.Shown.{header_of};
+    ghost use Rattle.elf_sections.specs.Found.{IsPiece};
+
+    /// The size of a header in bytes.
+    pub const SIZE: u16 = 64;
+
+    /// The header at an offset.
+    pub fn at(file: &[u8], at: usize) -> SectionHeader
+        requires { at + 64 ≤ length file.now }
+        ensures { header_of result ≡ section_header_at file.now at }
+    {
+        SectionHeader {
+            at,
+            name: u32_at(file, at),
+            kind: u32_at(file, at + 4),
+            flags: u64_at(file, at + 8),
+            offset: u64_at(file, at + 24),
+            size: u64_at(file, at + 32),
+            link: u32_at(file, at + 40),
+        }
+    }
+
+    /// Whether the header describes no section.
+    pub fn is_unused(&self) -> bool
+        ensures { result ≡ is_unused (header_of self.now) }
+    {
+        self.kind == SHT_NULL
+    }
+
+    /// Whether the section takes no space in the file.
+    pub fn is_nobits(&self) -> bool
+        ensures { result ≡ is_nobits (header_of self.now) }
+    {
+        self.kind == SHT_NOBITS
+    }
+
+    /// Whether the section's bytes are compressed.
+    pub fn is_compressed(&self) -> bool
+        ensures { result ≡ is_compressed (header_of self.now) }
+    {
+        self.flags & SHF_COMPRESSED != 0
+    }
+
+    /// Refuses a section whose bytes pass the end of the file.
+    pub fn judge_extent(&self, file: &[u8]) -> Result<(), Place>
+        ensures { Judges (extent_item file.now (header_of self.now)) result (λ _. Unit {0}) }
+    {
+        let passes = !self.is_unused() && !self.is_nobits() && self.passes_end(file);
+        refuse_if(passes, self.at as u64, Kind::SectionPastEnd)
+    }
+
+    fn passes_end(&self, file: &[u8]) -> bool
+        ensures { result ≡ passes_end file.now self.now.offset self.now.size }
+    {
+        passes_end(file, self.offset, u128::from(self.size))
+    }
+
+    /// The section's bytes; without any, an empty piece at its offset or, where that is past the end,
+    /// at the end.
+    pub fn piece<'a>(&self, file: &'a [u8]) -> Part<'a>
+        requires { extent_item file.now (header_of self.now) ≡ None }
+        ensures { IsPiece file.now (header_of self.now) result }
+    {
+        let at = self.offset.min(file.len() as u64) as usize;
+        let len = if self.is_unused() || self.is_nobits() {
+            0
+        } else {
+            self.size as usize
+        };
+        Part { file, at, len }
+    }
+}

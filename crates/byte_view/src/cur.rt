@@ -121,8 +121,8 @@ impl<'a> Cur<'a> {
     /// # Errors
     /// `Short` where the field passes the end.
     ///
-    /// Source: DWARF 5, section 7.5.5, `DW_FORM_strx3` and `DW_FORM_addrx3`; the lowest byte first as in System V gABI,
-    /// "Data Encoding".
+    /// Source: DWARF 5, section 7.5.5, `DW_FORM_strx3` and `DW_FORM_addrx3`; the lowest byte first
+    /// as in System V gABI, "Data Encoding".
     #[tactic(auto, unfolding(crate::specs::Reading::field_at, crate::specs::Reading::run_at))]
     pub fn u24(&mut self) -> Result<u32, ViewFault>
         ensures found { IfOk result (Reads (SpellsField 3) self.old self.new) }

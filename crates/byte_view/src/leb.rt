@@ -92,7 +92,8 @@ fn signed(value: u64, scale: u64) -> i64
 #[inline(always)]
 pub(crate) fn uleb_of(bytes: &[u8]) -> Result<(u64, usize), ViewFault>
     ensures within { IfOk result (λ found. found.1 ≤ length bytes.now) }
-    ensures found { IfOk result (λ found. uleb_at bytes.now ≡ Ok (found.0, drop found.1 bytes.now)) }
+    ensures found { IfOk result
+        (λ found. uleb_at bytes.now ≡ Ok (found.0, drop found.1 bytes.now)) }
     ensures refused { IfErr result (λ fault. uleb_at bytes.now ≡ Err fault) }
 {
     match front_of(bytes)? {
@@ -107,7 +108,8 @@ pub(crate) fn uleb_of(bytes: &[u8]) -> Result<(u64, usize), ViewFault>
 #[inline(always)]
 pub(crate) fn sleb_of(bytes: &[u8]) -> Result<(i64, usize), ViewFault>
     ensures within { IfOk result (λ found. found.1 ≤ length bytes.now) }
-    ensures found { IfOk result (λ found. sleb_at bytes.now ≡ Ok (found.0, drop found.1 bytes.now)) }
+    ensures found { IfOk result
+        (λ found. sleb_at bytes.now ≡ Ok (found.0, drop found.1 bytes.now)) }
     ensures refused { IfErr result (λ fault. sleb_at bytes.now ≡ Err fault) }
 {
     match front_of(bytes)? {

@@ -10,7 +10,7 @@
 
 mod cur;
 mod fault;
-pub mod laws;
+mod laws;
 mod leb;
 mod part;
 #[cfg(test)]
@@ -18,4 +18,5 @@ mod tests;
 
 pub use cur::Cur;
 pub use fault::ViewFault;
+pub use laws::{no_spelling_begins_another, passed_bytes_are_the_files, spelled_is_read};
 pub use part::Part;

@@ -1,5 +1,5 @@
 -- What a command comes to over a store of files, where no call fails and memory suffices.
-use Rattle.std.specs.Prelude.{ℕ, ◌^◌, List, [], ◌∷◌, Option, None, Some}
+use Rattle.std.specs.Prelude.{ℕ, ◌^◌, List, ◌∷◌, Option, None, Some}
 use Rattle.std.specs.Option.{option_map_or}
 use Rattle.io_edge.specs.declared.place.Place.{Place}
 use Rattle.io_edge.specs.Inputs.{Store}
@@ -22,7 +22,8 @@ pub data Answer : Type 0 where
 
 -- The k-th file is looked up, then judged. Only a good one leads on.
 abbrev pub with_file : Store → ℕ → List ℕ → (List ℕ → Option Place) → (List ℕ → Answer) → Answer
-with_file files k name judge next = option_map_or (λ bytes. option_map_or refused (judge bytes) (next bytes)) (files name) (no_such_file k)
+with_file files k name judge next =
+    option_map_or (λ bytes. option_map_or refused (judge bytes) (next bytes)) (files name) (no_such_file k)
 
 -- the most bytes of a branch text that is read whole
 abbrev pub max_whole_text : ℕ
@@ -33,7 +34,8 @@ abbrev pub first_bad_of_whole_text : ℕ → List ℕ → Option Place
 first_bad_of_whole_text file text = first_bad (size_item file max_whole_text text ∷ items_of_text file text)
 
 abbrev pub answer_of_command : Store → Command → Answer
-answer_of_command files (counts perf) = with_file files 1 perf (first_bad_of_whole_text 1) (λ text. writes (counts_text (branches_of text)))
+answer_of_command files (counts perf) =
+    with_file files 1 perf (first_bad_of_whole_text 1) (λ text. writes (counts_text (branches_of text)))
 
 abbrev pub answer_of_words : Store → Option Command → Answer
 answer_of_words files None = usage

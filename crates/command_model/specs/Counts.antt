@@ -14,4 +14,5 @@ total_line n = codes "# branches " ++ (decimal_text n ++ codes "\n")
 
 -- a line for each distinct branch, ascending, and then how many branches there are
 unfoldable pub counts_text : List (ℕ × ℕ) → List ℕ
-counts_text branches = flat_map (λ p. counts_line p (times_of p branches)) (distinct_pairs branches) ++ total_line (length branches)
+counts_text branches =
+    flat_map (λ p. counts_line p (times_of p branches)) (distinct_pairs branches) ++ total_line (length branches)

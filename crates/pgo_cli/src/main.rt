@@ -1,5 +1,5 @@
-//! The program `pgo`: hands its words, the system's files and the standard output to the top call, prints the status on
-//! the error output, and ends with the status's code.
+//! The program `pgo`: hands its words, the system's files and the standard output to the top call,
+//! prints the status on the error output, and ends with the status's code.
 //!
 //! `--help` and `--version`, as the only word, are answered here.
 #![tactic(auto)]

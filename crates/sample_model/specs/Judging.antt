@@ -23,7 +23,8 @@ fault_of_line before line = first_cause (
 -- the item of a numbered line: its place, if it is refused
 abbrev pub item_of_line : ℕ → List (List ℕ) → ℕ × List ℕ → Option Place
 item_of_line file lines (number, line) =
-    option_map (λ kind. record { file = file; at = number; kind = kind }) (fault_of_line (length (branches_of_lines (take (number - 1) lines))) line)
+    option_map (λ kind. record { file = file; at = number; kind = kind })
+    (fault_of_line (length (branches_of_lines (take (number - 1) lines))) line)
 
 -- the lines as items, in order
 unfoldable pub items_of_lines : ℕ → List (List ℕ) → List (Option Place)
@@ -31,7 +32,8 @@ items_of_lines file lines = map (item_of_line file lines) (enumerate_from 1 line
 
 -- the lines that end within the limit of the text's size
 unfoldable pub judged_lines_of : List ℕ → List (List ℕ)
-judged_lines_of text = if nat_le (length text) max_text_bytes then lines_of text else ended_lines_of (take max_text_bytes text)
+judged_lines_of text =
+    if nat_le (length text) max_text_bytes then lines_of text else ended_lines_of (take max_text_bytes text)
 
 -- the items of a branch text: its lines, and last its size
 abbrev pub items_of_text : ℕ → List ℕ → List (Option Place)
@@ -43,4 +45,5 @@ first_bad_of_text file text = first_bad (items_of_text file text)
 
 -- the lines before the first bad one: all that are judged, where none is bad
 abbrev pub lines_before_bad : ℕ → List ℕ → List (List ℕ)
-lines_before_bad file text = take (prefix_len is_none (items_of_lines file (judged_lines_of text))) (judged_lines_of text)
+lines_before_bad file text =
+    take (prefix_len is_none (items_of_lines file (judged_lines_of text))) (judged_lines_of text)

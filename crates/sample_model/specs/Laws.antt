@@ -26,7 +26,8 @@ abbrev pub DistinctPairsAscend : Type 0
 DistinctPairsAscend = (pairs : List (ℕ × ℕ)) → IsDistinctPairs pairs (distinct_pairs pairs)
 
 abbrev pub DistinctPairsAreUnique : Type 0
-DistinctPairsAreUnique = (pairs distinct : List (ℕ × ℕ)) → IsDistinctPairs pairs distinct → distinct ≡ distinct_pairs pairs
+DistinctPairsAreUnique =
+    (pairs distinct : List (ℕ × ℕ)) → IsDistinctPairs pairs distinct → distinct ≡ distinct_pairs pairs
 
 -- A field spells a branch as two addresses with a slash between, and behind them nothing, or a slash and any bytes.
 pub record SpellsEntry (field : List ℕ) (branch : ℕ × ℕ) : Type 0 where
@@ -39,4 +40,5 @@ pub record SpellsEntry (field : List ℕ) (branch : ℕ × ℕ) : Type 0 where
   pub flags : (rest ≡ []) ⊎ ((more : List ℕ) × (rest ≡ codes "/" ++ more))
 
 abbrev pub EntriesAreSpelled : Type 0
-EntriesAreSpelled = (field : List ℕ) (branch : ℕ × ℕ) → (entry_of field ≡ Some branch) ↔ SpellsEntry field branch
+EntriesAreSpelled =
+    (field : List ℕ) (branch : ℕ × ℕ) → (entry_of field ≡ Some branch) ↔ SpellsEntry field branch

@@ -15,7 +15,9 @@ pair_lt p q = nat_lt p.0 q.0 || (p.0 == q.0 && nat_lt p.1 q.1)
 -- an ascending list with one more pair, unless it is there already
 abbrev pub with_pair : ℕ × ℕ → List (ℕ × ℕ) → List (ℕ × ℕ)
 with_pair p [] = p ∷ []
-with_pair p (q ∷ pairs) = if pair_lt p q then p ∷ q ∷ pairs else (if same_pair p q then q ∷ pairs else q ∷ with_pair p pairs)
+with_pair p (q ∷ pairs) =
+    if pair_lt p q then p ∷ q ∷ pairs
+    else (if same_pair p q then q ∷ pairs else q ∷ with_pair p pairs)
 
 -- the distinct pairs of a list, ascending
 abbrev pub distinct_pairs : List (ℕ × ℕ) → List (ℕ × ℕ)

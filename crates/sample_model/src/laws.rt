@@ -11,8 +11,8 @@ pub fn distinct_pairs_are_unique()
     ensures { DistinctPairsAreUnique }
 {}
 
-/// An entry is read exactly as it is spelled: two addresses with a slash between, and behind them nothing, or a slash
-/// and any bytes.
+/// An entry is read exactly as it is spelled: two addresses with a slash between, and behind them
+/// nothing, or a slash and any bytes.
 pub fn entries_are_spelled()
     ensures { EntriesAreSpelled }
 {}

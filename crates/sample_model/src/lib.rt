@@ -1,8 +1,8 @@
-//! What a branch text says: which of its lines are samples, the branches and sampled ranges of a sample, and which
-//! line of the text is its first bad one.
+//! What a branch text says: which of its lines are samples, the branches and sampled ranges of a
+//! sample, and which line of the text is its first bad one.
 //!
-//! The text is what `perf script -F ip,brstack` prints (perf-script(1), "brstack"). Definitions in `specs/`, with
-//! examples in `proofs/`, and laws about them as functions with an empty body.
+//! The text is what `perf script -F ip,brstack` prints (perf-script(1), "brstack"). Definitions in
+//! `specs/`, with examples in `proofs/`, and laws about them as functions with an empty body.
 #![tactic(auto)]
 
 mod laws;

@@ -12,7 +12,8 @@ ended line = line ++ 10 ∷ []
 abbrev pub HasNoLineFeed : List ℕ → Type 0
 HasNoLineFeed line = list_any is_line_feed line ≡ false
 
--- A text is its ended lines and then a rest, none of them with a line feed. That rest is the last line, unless it is empty.
+-- A text is its ended lines and then a rest, none of them with a line feed. That rest is the last line, unless it is
+-- empty.
 pub record IsTextOf (text : List ℕ) (ended_lines lines : List (List ℕ)) (rest : List ℕ) : Type 0 where
   pub clean : AllByRecursion HasNoLineFeed ended_lines
   pub open_end : HasNoLineFeed rest
@@ -24,7 +25,8 @@ LinesJoin = (text : List ℕ) → (rest : List ℕ) × IsTextOf text (ended_line
 
 -- Only the lines of a text make it up so.
 abbrev pub LinesSplit : Type 0
-LinesSplit = (text : List ℕ) (ended_lines lines : List (List ℕ)) (rest : List ℕ) → IsTextOf text ended_lines lines rest
+LinesSplit =
+    (text : List ℕ) (ended_lines lines : List (List ℕ)) (rest : List ℕ) → IsTextOf text ended_lines lines rest
     → (ended_lines_of text ≡ ended_lines) × (lines_of text ≡ lines)
 
 -- a field, and the blanks behind it
@@ -47,11 +49,14 @@ pub record IsLineOf (line : List ℕ) (fields : List (List ℕ)) (parts : List (
   pub all : fields ≡ map (λ part. part.0) parts ++ filter is_filled (rest ∷ [])
 
 abbrev pub FieldsJoin : Type 0
-FieldsJoin = (line : List ℕ) → (parts : List (List ℕ × List ℕ)) × (lead rest : List ℕ) × IsLineOf line (fields_of line) parts lead rest
+FieldsJoin =
+    (line : List ℕ)
+    → (parts : List (List ℕ × List ℕ)) × (lead rest : List ℕ) × IsLineOf line (fields_of line) parts lead rest
 
 -- Only the fields of a line make it up so.
 abbrev pub FieldsSplit : Type 0
-FieldsSplit = (line : List ℕ) (fields : List (List ℕ)) (parts : List (List ℕ × List ℕ)) (lead rest : List ℕ)
+FieldsSplit =
+    (line : List ℕ) (fields : List (List ℕ)) (parts : List (List ℕ × List ℕ)) (lead rest : List ℕ)
     → IsLineOf line fields parts lead rest → fields_of line ≡ fields
 
 abbrev pub DecimalTextIsRead : Type 0

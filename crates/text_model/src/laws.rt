@@ -1,4 +1,5 @@
-// The definitions seen from the other side: what is printed is read, and lines and fields are the text again.
+// The definitions seen from the other side: what is printed is read, and lines and fields are the
+// text again.
 ghost use Rattle.text_model.specs.Laws.{DecimalTextIsRead, FieldsJoin, FieldsSplit, HexTextIsRead, LinesJoin, LinesSplit};
 
 /// Lines with a line feed behind each, and then a rest without one, are the text.
@@ -6,7 +7,8 @@ pub fn lines_join()
     ensures { LinesJoin }
 {}
 
-/// However a text is made of lines with a line feed behind each, and then a rest without one, these are its lines.
+/// However a text is made of lines with a line feed behind each, and then a rest without one, these
+/// are its lines.
 pub fn lines_split()
     ensures { LinesSplit }
 {}
@@ -16,8 +18,8 @@ pub fn fields_join()
     ensures { FieldsJoin }
 {}
 
-/// However a line is made of blanks, fields with blanks behind each, and then a rest without a blank, these are its
-/// fields.
+/// However a line is made of blanks, fields with blanks behind each, and then a rest without a
+/// blank, these are its fields.
 pub fn fields_split()
     ensures { FieldsSplit }
 {}

@@ -7,8 +7,8 @@ use std::marker::Model;
 
 /// The fields of a line that are left, from left to right.
 ///
-/// A field is a longest run of bytes other than space and tab. Every other byte, a carriage return too, is a byte
-/// of its field.
+/// A field is a longest run of bytes other than space and tab. Every other byte, a carriage return
+/// too, is a byte of its field.
 #[derive(Drop)]
 pub struct Fields<'a> {
     rest: &'a [u8],

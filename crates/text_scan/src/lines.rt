@@ -18,8 +18,8 @@ pub struct Line<'a> {
 
 /// The lines of a text that are left, first to last.
 ///
-/// A line ends with a line feed or at the end of the text. An empty rest behind the last line feed is no line.
-/// A carriage return is a byte of its line.
+/// A line ends with a line feed or at the end of the text. An empty rest behind the last line feed
+/// is no line. A carriage return is a byte of its line.
 #[derive(Drop)]
 pub struct Lines<'a> {
     taken: u64,

@@ -5,12 +5,13 @@ ghost use Rattle.text_scan.specs.Numbers.{within};
 
 use thiserror::Error;
 
-// A digit more fits behind a number below this.
+/// A digit more fits behind a number below this.
 const SHIFTS: u64 = 1 << 60;
 
+/// The worth of a byte that is no digit.
 const NO_DIGIT: u8 = 0xff;
 
-// What each byte is worth as a hexadecimal digit.
+/// What each byte is worth as a hexadecimal digit.
 static HEX_DIGITS: [u8; 256] = *b"\
     \xff\xff\xff\xff\xff\xff\xff\xff\xff\xff\xff\xff\xff\xff\xff\xff\
     \xff\xff\xff\xff\xff\xff\xff\xff\xff\xff\xff\xff\xff\xff\xff\xff\
@@ -40,7 +41,8 @@ pub enum NumberFault {
     NumberTooLarge,
 }
 
-/// The number that hexadecimal digits spell: `0` to `9`, `a` to `f` and `A` to `F`, one or more and nothing else.
+/// The number that hexadecimal digits spell: `0` to `9`, `a` to `f` and `A` to `F`, one or more and
+/// nothing else.
 ///
 /// Any number of leading zeros is accepted.
 ///

@@ -32,7 +32,7 @@ pub fn push_hex(out: &mut Vec<u8>, n: u64) -> Result<(), NoMemory>
     Ok(())
 }
 
-// The longest text of a hexadecimal number: the prefix and sixteen digits.
+/// The longest text of a hexadecimal number: the prefix and sixteen digits.
 const HEX_LEN: usize = 18;
 
 /// Writes the text of `n` at the end of `text`, and answers where it begins.

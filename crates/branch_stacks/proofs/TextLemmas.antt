@@ -2,7 +2,7 @@
 use Rattle.std.proofs.Common.{◌≡◌, ℕ, ◌+◌, ◌-◌, ◌<◌, ◌≤◌, nat_lt, nat_le, true, false, List, [], ◌∷◌, ◌++◌, length, map, take, drop, get_or, Option, None, Some, Err, refl, sym, ap, subst, ◌∙◌, arith}
 use Rattle.std.specs.Prelude.{filter, is_none, All}
 use Rattle.std.specs.List.{slice_split, onto_first, enumerate_from, flat_map, prefix_len}
-use Rattle.std.specs.Option.{option_map}
+use Rattle.std.specs.Option.{option_map, option_or}
 use Rattle.std.proofs.lemmas.Bool.{le-leb, lt-leb, lt-ltb, le-ltb}
 use Rattle.std.proofs.lemmas.List.{append-nil, append_assoc, map-append, length-append, take_at, take_all, take_more, take-append-drop, drop_more, length-drop, get_or-drop}
 use Rattle.std.proofs.lemmas.List.Splits.{slice_split-cons_yes, slice_split-cons_no, slice_split_none}
@@ -15,7 +15,7 @@ use Rattle.branch_stacks.specs.Text.{TellsLinesBefore}
 use Rattle.memchr.specs.Find.{IsLastByte, is_byte}
 use Rattle.text_model.specs.Lines.{is_line_feed, without_end, without_empty_end, lines_of, ended_lines_of}
 use Rattle.text_model.proofs.LineLemmas.{some_part, none_in, ended_lines_of-last}
-use Rattle.io_edge.proofs.PlaceLemmas.{places_come_in_order}
+use Rattle.io_edge.proofs.PlaceLemmas.{first_bad-append}
 use Rattle.sample_model.specs.Limits.{max_text_bytes}
 use Rattle.sample_model.specs.Line.{is_sample, branches_of_line}
 use Rattle.sample_model.specs.Samples.{ranges_between, samples_of_lines, branches_of_lines, ranges_of_lines}
@@ -236,10 +236,14 @@ CountedSoFar-some file lines left tally so_far =
     (length so_far.done, subst (λ (ls : List (List ℕ)). TellsOf ls tally) (sym (ap (take (length so_far.done)) (sym so_far.joined) ∙ take_at so_far.done so_far.rest (length so_far.done) refl)) so_far.tells)
 
 pub first_bad_of_lines : (file : ℕ) (text : List ℕ) (place : Place) → first_bad (items_of_lines file (judged_lines_of text)) ≡ Some place → first_bad_of_text file text ≡ Some place
-first_bad_of_lines file text place some = (places_come_in_order (items_of_lines file (judged_lines_of text)) (size_item file max_text_bytes text ∷ [])).bad place some
+first_bad_of_lines file text place some =
+    let size = size_item file max_text_bytes text ∷ [] in
+    first_bad-append (items_of_lines file (judged_lines_of text)) size ∙ ap (λ bad. option_or bad (first_bad size)) some
 
 pub first_bad_of_size : (file : ℕ) (text : List ℕ) → first_bad (items_of_lines file (judged_lines_of text)) ≡ None → first_bad_of_text file text ≡ first_bad (size_item file max_text_bytes text ∷ [])
-first_bad_of_size file text none = (places_come_in_order (items_of_lines file (judged_lines_of text)) (size_item file max_text_bytes text ∷ [])).good none
+first_bad_of_size file text none =
+    let size = size_item file max_text_bytes text ∷ [] in
+    first_bad-append (items_of_lines file (judged_lines_of text)) size ∙ ap (λ bad. option_or bad (first_bad size)) none
 
 -- a text whose next line stops the reading
 pub read_stop : (file : ℕ) (text : List ℕ) (left others : List (ℕ × List ℕ)) (next : ℕ × List ℕ) (old new : Tally) (stop : Stop) (P Q : Unit {0} → Type 0) → CountedSoFar file (judged_lines_of text) left old

@@ -18,7 +18,8 @@ ReadsEntry field (Err NoMemory) old new = ⊤
 
 -- the branches are those of the sample's entries, or it is not well formed
 abbrev pub ReadsSample : List ℕ → Result (Unit {0}) LineStop → List (ℕ × ℕ) → Type 0
-ReadsSample line (Ok done) branches = (is_well_formed line ≡ true) × (branches ≡ filter_map entry_of (entry_fields (fields_of line)))
+ReadsSample line (Ok done) branches =
+    (is_well_formed line ≡ true) × (branches ≡ filter_map entry_of (entry_fields (fields_of line)))
 ReadsSample line (Err (Fault kind)) branches = (kind ≡ BadLine) × (is_well_formed line ≡ false)
 ReadsSample line (Err NoMemory) branches = ⊤
 
@@ -26,8 +27,11 @@ ReadsSample line (Err NoMemory) branches = ⊤
 abbrev pub fault_of_total : ℕ → ℕ → Option Kind
 fault_of_total before more = if nat_lt max_branches (before + more) then Some TooManyBranches else None
 
--- the branches are those of the line, and only their number is left to judge; or the line is refused whatever stands before it
+-- the branches are those of the line, and only their number is left to judge; or the line is refused whatever stands
+-- before it
 abbrev pub ReadsLine : List ℕ → Result (Unit {0}) LineStop → List (ℕ × ℕ) → Type 0
-ReadsLine line (Ok done) branches = (branches ≡ branches_of_line line) × ((before : ℕ) → fault_of_line before line ≡ fault_of_total before (length branches))
+ReadsLine line (Ok done) branches =
+    (branches ≡ branches_of_line line)
+    × ((before : ℕ) → fault_of_line before line ≡ fault_of_total before (length branches))
 ReadsLine line (Err (Fault kind)) branches = (before : ℕ) → fault_of_line before line ≡ Some kind
 ReadsLine line (Err NoMemory) branches = ⊤

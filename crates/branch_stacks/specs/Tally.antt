@@ -24,7 +24,8 @@ pub record TellsOf (lines : List (List ℕ)) (tally : Tally) : Type 0 where
   pub branches : Tallies (branches_of_lines lines) tally.branches
   pub ranges : Tallies (ranges_of_lines lines) tally.ranges
 
--- What is kept: both are tables, the total is that of the branches and within the limit, and there are no more ranges than branches.
+-- What is kept: both are tables, the total is that of the branches and within the limit, and there are no more ranges
+-- than branches.
 pub record IsCounted (tally : Tally) (count : ℕ) : Type 0 where
   pub branches : IsTable tally.branches
   pub ranges : IsTable tally.ranges

@@ -11,7 +11,9 @@ use Rattle.branch_stacks.specs.Tally.{Tally, total_of, AddsStack, TellsOf}
 
 -- the place of a line behind those that were counted, if it is refused
 abbrev pub item_of_counted : ℕ → Tally → Line → Option Place
-item_of_counted file tally line = option_map (λ kind. record { file = file; at = line.number; kind = kind }) (fault_of_line (total_of tally) line.bytes.now)
+item_of_counted file tally line =
+    option_map (λ kind. record { file = file; at = line.number; kind = kind })
+    (fault_of_line (total_of tally) line.bytes.now)
 
 -- the branches of a line were counted, and the ranges between them
 abbrev pub CountsLine : Line → Tally → Tally → Type 0

@@ -21,7 +21,8 @@ pub enum CountsStop {
     NoMemory,
 }
 
-/// How often each distinct branch, and each distinct range between two branches of a sample, was counted.
+/// How often each distinct branch, and each distinct range between two branches of a sample, was
+/// counted.
 #[derive(Debug, Drop)]
 pub struct Counts {
     branches: Vec<Pair>,
@@ -36,7 +37,8 @@ impl Model for Counts {
 
     ghost view = { λ c. record { branches = c.branches.items; ranges = c.ranges.items } };
 
-    ghost invariant = { λ c. IsCounted (record { branches = c.branches.items; ranges = c.ranges.items }) c.total };
+    ghost invariant = { λ c. IsCounted
+        (record { branches = c.branches.items; ranges = c.ranges.items }) c.total };
 }
 
 impl Counts {
@@ -62,8 +64,9 @@ impl Counts {
         &self.branches
     }
 
-    /// The distinct sampled ranges, each with how often it was counted. `from` is the target of the older branch, where
-    /// the range begins, and `to` the source of the newer one, where it ends; both are held.
+    /// The distinct sampled ranges, each with how often it was counted. `from` is the target of the
+    /// older branch, where the range begins, and `to` the source of the newer one, where it ends;
+    /// both are held.
     pub fn ranges(&self) -> &[Pair]
         ensures rows { result.now ≡ self.now.ranges }
         ensures table { IsTable result.now }
@@ -87,15 +90,19 @@ impl Counts {
         *self.branches.allocator()
     }
 
-    /// Counts one branch from the address `from` to the address `to` `times` times more, and no range. `times` is above 0.
+    /// Counts one branch from the address `from` to the address `to` `times` times more, and no
+    /// range. `times` is above 0.
     ///
     /// # Errors
-    /// `TooMany` where the total would pass 2^32 - 1, and else `NoMemory`. The counts are then as they were.
+    /// `TooMany` where the total would pass 2^32 - 1, and else `NoMemory`. The counts are then as
+    /// they were.
     pub fn add_branch(&mut self, from: u64, to: u64, times: u64) -> Result<(), CountsStop>
         requires { 0 < times }
-        ensures added { OnOk result (AddsPairs self.old.branches self.new.branches (replicate times (from, to))) }
+        ensures added { OnOk result
+            (AddsPairs self.old.branches self.new.branches (replicate times (from, to))) }
         ensures ranges { self.new.ranges ≡ self.old.ranges }
-        ensures too_many { IsErrOf result CountsStop.TooMany ↔ (max_branches < total_of self.old + times) }
+        ensures too_many { IsErrOf result CountsStop.TooMany
+            ↔ (max_branches < total_of self.old + times) }
         ensures err { OnErr result (self.new ≡ self.old) }
     {
         if times > MAX_BRANCHES - self.total {
@@ -109,13 +116,15 @@ impl Counts {
         Ok(())
     }
 
-    /// Counts the branches of one sample, newest first, and the range between each two neighbours among them, from the
-    /// older one's target to the newer one's source.
+    /// Counts the branches of one sample, newest first, and the range between each two neighbours
+    /// among them, from the older one's target to the newer one's source.
     ///
     /// # Errors
-    /// `TooMany` where the total would pass 2^32 - 1, and else `NoMemory`. The counts are then as they were.
+    /// `TooMany` where the total would pass 2^32 - 1, and else `NoMemory`. The counts are then as
+    /// they were.
     ///
-    /// Source: perf-script(1), "brstack": each entry is a source and a target, and the newest stands first.
+    /// Source: perf-script(1), "brstack": each entry is a source and a target, and the newest
+    /// stands first.
     pub fn add_stack(&mut self, entries: &[(u64, u64)]) -> Result<(), CountsStop>
         ensures added { OnOk result (AddsStack self.old self.new entries.now) }
         ensures too_many { IsErrOf result CountsStop.TooMany

@@ -1,7 +1,8 @@
-//! Branch stacks, counted: how often each branch was taken, and how often each range ran between two branches.
+//! Branch stacks, counted: how often each branch was taken, and how often each range ran between
+//! two branches.
 //!
-//! The layer above makes `Counts`, reads a branch text into it, and takes its pairs out. The text is what
-//! `perf script -F ip,brstack` prints (perf-script(1), "brstack").
+//! The layer above makes `Counts`, reads a branch text into it, and takes its pairs out. The text
+//! is what `perf script -F ip,brstack` prints (perf-script(1), "brstack").
 #![tactic(auto)]
 
 mod counts;

@@ -23,8 +23,8 @@ pub(crate) enum LineStop {
     NoMemory,
 }
 
-/// Reads the branches of a line, newest first, into `branches`, in place of what was there. A line that is no sample has
-/// none. How many branches there are in all is for the caller to judge.
+/// Reads the branches of a line, newest first, into `branches`, in place of what was there. A line
+/// that is no sample has none. How many branches there are in all is for the caller to judge.
 pub(crate) fn read_line(line: &[u8], branches: &mut Vec<(u64, u64)>) -> Result<(), LineStop>
     ensures { ReadsLine line.now result branches.new.items }
 {
@@ -42,7 +42,8 @@ pub(crate) fn read_line(line: &[u8], branches: &mut Vec<(u64, u64)>) -> Result<(
     Ok(())
 }
 
-/// Whether a line is a sample: neither blank nor a comment nor one of perf's records of other events.
+/// Whether a line is a sample: neither blank nor a comment nor one of perf's records of other
+/// events.
 fn is_sample(line: &[u8]) -> bool
     ensures { result ≡ model.is_sample line.now }
 {
@@ -67,7 +68,8 @@ fn is_other_record(line: &[u8]) -> bool
     memmem::find(line, b"PERF_RECORD_").is_some()
 }
 
-/// Appends the branches of a sample: each field has to be an entry but an instruction pointer in front.
+/// Appends the branches of a sample: each field has to be an entry but an instruction pointer in
+/// front.
 fn read_sample(line: &[u8], branches: &mut Vec<(u64, u64)>) -> Result<(), LineStop>
     requires { branches.old.items ≡ [] }
     ensures { ReadsSample line.now result branches.new.items }

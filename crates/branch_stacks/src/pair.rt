@@ -1,7 +1,7 @@
 /// Two addresses, and how often they stand together.
 ///
-/// Of a branch `from` is its source and `to` its target. Of a sampled range `from` is the first address that ran and
-/// `to` the last, both held.
+/// Of a branch `from` is its source and `to` its target. Of a sampled range `from` is the first
+/// address that ran and `to` the last, both held.
 #[derive(Clone, Copy, Debug, PartialEq, Eq, PartialOrd, Ord)]
 pub struct Pair {
     pub from: u64,

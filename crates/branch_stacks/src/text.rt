@@ -2,6 +2,7 @@
 ghost use Rattle.std.specs.Prelude.{◌≡◌, OnErr, IsErrOf};
 ghost use Rattle.text_model.specs.Lines.{lines_of};
 ghost use Rattle.io_edge.specs.Place.{JudgesUnlessNoMemory};
+ghost use Rattle.io_edge.specs.declared.place.Stop.TheVariants.{Refused};
 ghost use Rattle.sample_model.specs.Judging.{first_bad_of_text, judged_lines_of};
 ghost use Rattle.branch_stacks.specs.Tally.{total_of, TellsOf};
 ghost use Rattle.branch_stacks.specs.Text.{item_of_counted, CountsLine, TellsLinesBefore};
@@ -15,13 +16,14 @@ use text_scan::{Line, Lines};
 /// The most bytes of a text.
 const MAX_TEXT_BYTES: usize = 1 << 40;
 
-/// Counts the branches and the sampled ranges of a branch text, which is the command's file `file`. Lines and files
-/// are numbered from 1. The counts have to hold nothing yet.
+/// Counts the branches and the sampled ranges of a branch text, which is the command's file `file`.
+/// Lines and files are numbered from 1. The counts have to hold nothing yet.
 ///
 /// # Errors
-/// `Refused` at the number of the first bad line, with `LineTooLong`, `BadLine`, `TooManyEntries` or `TooManyBranches`,
-/// tried in this order; and where no line that ends within 2^40 bytes is bad and the text is longer, `FileTooLarge` at 2^40.
-/// The counts then hold the lines before. After `NoMemory` they hold the lines before some line.
+/// `Refused` at the number of the first bad line, with `LineTooLong`, `BadLine`, `TooManyEntries`
+/// or `TooManyBranches`, tried in this order; and where no line that ends within 2^40 bytes is bad
+/// and the text is longer, `FileTooLarge` at 2^40. The counts then hold the lines before. After
+/// `NoMemory` they hold the lines before some line.
 ///
 /// Source: perf-script(1), "brstack".
 pub fn read_text(text: &[u8], file: u8, counts: &mut Counts) -> Result<(), Stop>
@@ -35,11 +37,7 @@ pub fn read_text(text: &[u8], file: u8, counts: &mut Counts) -> Result<(), Stop>
         count_line(line, file, &mut branches, counts)?;
     }
     if text.len() > MAX_TEXT_BYTES {
-        return Err(Stop::Refused(Place {
-            file,
-            at: MAX_TEXT_BYTES as u64,
-            kind: Kind::FileTooLarge,
-        }));
+        return Err(refused(file, MAX_TEXT_BYTES as u64, Kind::FileTooLarge));
     }
     Ok(())
 }
@@ -71,22 +69,19 @@ fn count_line(
 {
     match read_line(line.bytes, branches) {
         Ok(()) => {}
-        Err(LineStop::Fault(kind)) => {
-            return Err(Stop::Refused(Place {
-                file,
-                at: line.number,
-                kind,
-            }));
-        }
+        Err(LineStop::Fault(kind)) => return Err(refused(file, line.number, kind)),
         Err(LineStop::NoMemory) => return Err(Stop::NoMemory),
     }
     match counts.add_stack(branches) {
         Ok(()) => Ok(()),
-        Err(CountsStop::TooMany) => Err(Stop::Refused(Place {
-            file,
-            at: line.number,
-            kind: Kind::TooManyBranches,
-        })),
+        Err(CountsStop::TooMany) => Err(refused(file, line.number, Kind::TooManyBranches)),
         Err(CountsStop::NoMemory) => Err(Stop::NoMemory),
     }
+}
+
+/// The refusal of a text at a line, or at its limit.
+fn refused(file: u8, at: u64, kind: Kind) -> Stop
+    ensures { result ≡ Refused (record { file = file; at = at; kind = kind }) }
+{
+    Stop::Refused(Place { file, at, kind })
 }

@@ -3,16 +3,16 @@ use Rattle.std.specs.Prelude.{ℕ, ◌*◌, Bool, not, ◌&&◌, ◌||◌, ◌==
 use Rattle.std.specs.List.{starts_with, flat_map}
 use Rattle.std.specs.Option.{option_and_then}
 use Rattle.io_edge.specs.declared.place.Place.{Place}
-use Rattle.io_edge.specs.Place.{fails_at}
+use Rattle.io_edge.specs.Place.{fails_at, in_binary}
 use Rattle.io_edge.specs.declared.kind.Kind.{Kind}
 use Rattle.io_edge.specs.declared.kind.Kind.TheVariants.{NotElf, NotElf64Little, BadType, BadHeader, SectionPastEnd, NameBad, Compressed}
 use Rattle.elf_model.specs.Fields.{passes_end, e_type, e_phoff, e_phentsize, e_phnum, e_shoff, e_shentsize, e_shnum}
 use Rattle.elf_model.specs.Tables.{SectionHeader, has_table, section_count, name_index}
 use Rattle.elf_model.specs.Sections.{is_unused, is_nobits, is_compressed, name_section, name_of, section, sections}
 
--- An item that fails at this place where its cause holds. The binary is file 1 of each command that reads one.
+-- An item that fails so many bytes from the start of the binary where its cause holds.
 abbrev pub fails : Bool → ℕ → Kind → Option Place
-fails cause at kind = fails_at cause (record { file = 1; at = at; kind = kind })
+fails cause at kind = fails_at cause (in_binary at kind)
 
 -- gABI, "ELF Identification": the first bytes are 0x7f and "ELF".
 abbrev pub has_magic : List ℕ → Bool
@@ -90,4 +90,5 @@ items file = header_items file ++ section_items file
 
 -- The item of a look-up: the bytes of the section of a name are not compressed.
 unfoldable pub lookup_item : List ℕ → List ℕ → Option Place
-lookup_item file name = option_and_then (λ header. fails (is_compressed header) header.at Compressed) (section file name)
+lookup_item file name =
+    option_and_then (λ header. fails (is_compressed header) header.at Compressed) (section file name)

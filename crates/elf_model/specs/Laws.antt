@@ -17,7 +17,8 @@ pub record HoldsCode (lo hi : ℕ) (segment : ProgramHeader) : Type 0 where
 -- A range is live exactly where it does not begin at 0, is not empty, and one segment holds it as code.
 abbrev pub LiveRangesAreCode : Type 0
 LiveRangesAreCode =
-    (file : List ℕ) (lo hi : ℕ) → IsLive file lo hi ↔ ((0 < lo) × (lo < hi) × Any (HoldsCode lo hi) (program_headers file))
+    (file : List ℕ) (lo hi : ℕ)
+    → IsLive file lo hi ↔ ((0 < lo) × (lo < hi) × Any (HoldsCode lo hi) (program_headers file))
 
 -- The bytes of a section are within a file that has no bad place.
 abbrev pub SectionsAreWithin : Type 0

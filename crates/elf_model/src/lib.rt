@@ -1,17 +1,12 @@
 //! What an ELF64 file says: its tables, the names and bytes of its sections, its live ranges of
 //! addresses, and the places at which its headers are refused.
 //!
+//! Definitions in `specs/`, with examples in `proofs/`, and laws about them as functions with an
+//! empty body.
+//!
 //! Source: System V gABI, "ELF Header", "Sections", "String Table", "Program Header".
 #![tactic(auto)]
 
-ghost use Rattle.elf_model.specs.Laws.{LiveRangesAreCode, SectionsAreWithin};
+mod laws;
 
-/// A range of addresses is live exactly where one loaded executable segment holds it.
-pub fn live_ranges_are_code()
-    ensures { LiveRangesAreCode }
-{}
-
-/// The sections of a file without a bad place are within it.
-pub fn sections_are_within()
-    ensures { SectionsAreWithin }
-{}
+pub use laws::{live_ranges_are_code, sections_are_within};

@@ -5,12 +5,11 @@ ghost use Rattle.elf_model.specs.Items.{items};
 use crate::file_header::FileHeader;
 use crate::judgement::judge_sections;
 use crate::names::Names;
-use crate::refusal::refuse_if;
 use crate::section_header::SectionHeader;
 use crate::section_table::SectionTable;
 use crate::segment::SegmentTable;
 use byte_view::Part;
-use io_edge::{Kind, Place};
+use io_edge::{Kind, Place, refuse_if};
 use std::marker::Model;
 
 /// An ELF64 file whose headers are good: its sections, and the ranges of addresses that hold its
@@ -88,12 +87,13 @@ impl<'a> Elf<'a> {
         let Some(header) = self.find(name) else {
             return Ok(None);
         };
-        refuse_if(header.is_compressed(), header.at as u64, Kind::Compressed)?;
+        let place = Place::in_binary(header.at, Kind::Compressed);
+        refuse_if(header.is_compressed(), place)?;
         Ok(Some(header.piece(self.sections.file)))
     }
 
-    /// Whether the addresses from `lo` up to `hi`, `hi` left out, are code: `lo` is not 0, there are
-    /// some, and one loaded executable segment holds them all.
+    /// Whether the addresses from `lo` up to `hi`, `hi` left out, are code: `lo` is not 0, there
+    /// are some, and one loaded executable segment holds them all.
     ///
     /// Source: System V gABI, "Program Header".
     #[tactic(auto, unfolding(elf_model::specs::Segments::is_live))]

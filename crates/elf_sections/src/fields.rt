@@ -1,7 +1,15 @@
-ghost use Rattle.std.specs.Prelude.{◌≡◌, ◌+◌, ◌≤◌, length};
-ghost use Rattle.elf_model.specs.Fields.{number_at};
+ghost use Rattle.std.specs.Prelude.{◌≡◌, ◌+◌, ◌<◌, ◌≤◌, ◌^◌, length};
+ghost use Rattle.elf_model.specs.Fields.{number_at, passes_end};
 
 use byteorder::{ByteOrder, LittleEndian};
+
+/// Whether `size` bytes from an offset on pass the end of the file.
+pub(crate) fn passes_end(file: &[u8], at: u64, size: u128) -> bool
+    requires { size < 2 ^ 80 }
+    ensures { result ≡ passes_end file.now at size }
+{
+    u128::from(at) + size > file.len() as u128
+}
 
 /// The number in the two bytes at an offset.
 #[tactic(auto, unfolding(elf_model::specs::Fields::number_at))]

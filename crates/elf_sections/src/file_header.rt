@@ -1,14 +1,35 @@
 ghost use Rattle.std.specs.Prelude.{◌≡◌, ◌≤◌, length};
 
 use crate::fields::{u16_at, u64_at};
-use crate::refusal::refuse_if;
-use io_edge::{Kind, Place};
+use io_edge::{Kind, Place, refuse_if};
 
 /// The first bytes of each ELF file.
 const MAGIC: &[u8] = b"\x7fELF";
 /// The size of a file header in bytes.
 const SIZE: usize = 64;
 
+// The offsets of the fields (System V gABI, "ELF Header", Elf64_Ehdr).
+const EI_CLASS: usize = 4;
+
+const EI_DATA: usize = 5;
+
+const E_TYPE: usize = 16;
+
+pub(crate) const E_PHOFF: usize = 32;
+
+pub(crate) const E_SHOFF: usize = 40;
+
+pub(crate) const E_PHENTSIZE: usize = 54;
+
+pub(crate) const E_PHNUM: usize = 56;
+
+pub(crate) const E_SHENTSIZE: usize = 58;
+
+const E_SHNUM: usize = 60;
+
+pub(crate) const E_SHSTRNDX: usize = 62;
+
+// Values of the fields.
 const ELFCLASS64: u8 = 2;
 
 const ELFDATA2LSB: u8 = 1;
@@ -31,72 +52,76 @@ impl<'a> FileHeader<'a> {
     ghost use Rattle.elf_model.specs.Items.{identity_items};
 
     /// Judges what the file is: a little-endian ELF64 file that can be loaded.
+    ///
+    /// # Errors
+    ///
+    /// `NotElf` at 0, `NotElf64Little` at `EI_CLASS`, `BadType` at `E_TYPE`.
     pub fn identify(file: &'a [u8]) -> Result<FileHeader<'a>, Place>
         ensures { Judges (first_bad (identity_items file.now)) result
             (λ header. header.file.now ≡ file.now) }
     {
+        let is_elf = file.len() >= SIZE && file.starts_with(MAGIC);
+        refuse_if(!is_elf, Place::in_binary(0, Kind::NotElf))?;
+        let is_64_little = file[EI_CLASS] == ELFCLASS64 && file[EI_DATA] == ELFDATA2LSB;
         refuse_if(
-            file.len() < SIZE || !file.starts_with(MAGIC),
-            0,
-            Kind::NotElf,
+            !is_64_little,
+            Place::in_binary(EI_CLASS, Kind::NotElf64Little),
         )?;
-        let is_64_little = file[4] == ELFCLASS64 && file[5] == ELFDATA2LSB;
-        refuse_if(!is_64_little, 4, Kind::NotElf64Little)?;
         let header = FileHeader { file };
-        let kind = header.kind();
-        refuse_if(!(kind == ET_EXEC || kind == ET_DYN), 16, Kind::BadType)?;
+        let is_program = header.kind() == ET_EXEC || header.kind() == ET_DYN;
+        refuse_if(!is_program, Place::in_binary(E_TYPE, Kind::BadType))?;
         Ok(header)
     }
 
     fn kind(&self) -> u16
         ensures { result ≡ e_type self.now.file.now }
     {
-        u16_at(self.file, 16)
+        u16_at(self.file, E_TYPE)
     }
 
     /// The offset of the program headers.
     pub fn program_headers_at(&self) -> u64
         ensures { result ≡ e_phoff self.now.file.now }
     {
-        u64_at(self.file, 32)
+        u64_at(self.file, E_PHOFF)
     }
 
     /// The offset of the section headers, 0 where there are none.
     pub fn section_headers_at(&self) -> u64
         ensures { result ≡ e_shoff self.now.file.now }
     {
-        u64_at(self.file, 40)
+        u64_at(self.file, E_SHOFF)
     }
 
     pub fn program_header_size(&self) -> u16
         ensures { result ≡ e_phentsize self.now.file.now }
     {
-        u16_at(self.file, 54)
+        u16_at(self.file, E_PHENTSIZE)
     }
 
     pub fn program_header_count(&self) -> u16
         ensures { result ≡ e_phnum self.now.file.now }
     {
-        u16_at(self.file, 56)
+        u16_at(self.file, E_PHNUM)
     }
 
     pub fn section_header_size(&self) -> u16
         ensures { result ≡ e_shentsize self.now.file.now }
     {
-        u16_at(self.file, 58)
+        u16_at(self.file, E_SHENTSIZE)
     }
 
     /// The number of section headers, 0 where it stands in header 0.
     pub fn section_header_count(&self) -> u16
         ensures { result ≡ e_shnum self.now.file.now }
     {
-        u16_at(self.file, 60)
+        u16_at(self.file, E_SHNUM)
     }
 
     /// The index of the section of names, 0xffff where it stands in header 0.
     pub fn name_section_index(&self) -> u16
         ensures { result ≡ e_shstrndx self.now.file.now }
     {
-        u16_at(self.file, 62)
+        u16_at(self.file, E_SHSTRNDX)
     }
 }

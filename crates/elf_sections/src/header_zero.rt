@@ -6,10 +6,10 @@ ghost use Rattle.elf_model.specs.Tables.{name_index, section_count};
 ghost use Rattle.elf_model.specs.Items.{fails, header_0_passes_end, section_headers_pass_end};
 ghost use Rattle.elf_sections.specs.Room.{HasRoom};
 
-use crate::file_header::FileHeader;
-use crate::refusal::{passes_end, refuse_if};
+use crate::fields::passes_end;
+use crate::file_header::{E_SHOFF, FileHeader};
 use crate::section_header::SectionHeader;
-use io_edge::{Kind, Place};
+use io_edge::{Kind, Place, refuse_if};
 
 /// `e_shstrndx` where the index stands in header 0.
 const SHN_XINDEX: u16 = 0xffff;
@@ -20,13 +20,9 @@ pub(crate) fn judge_table_extent(header: &FileHeader<'_>) -> Result<u64, Place>
         (HasRoom header.now.file.now) }
 {
     let count = section_count(header)?;
-    let at = header.section_headers_at();
-    let passes = passes_end(
-        header.file,
-        at,
-        u128::from(SectionHeader::SIZE) * u128::from(count),
-    );
-    refuse_if(passes, 40, Kind::BadHeader)?;
+    let size = u128::from(SectionHeader::SIZE) * u128::from(count);
+    let passes = passes_end(header.file, header.section_headers_at(), size);
+    refuse_if(passes, Place::in_binary(E_SHOFF, Kind::BadHeader))?;
     Ok(count)
 }
 
@@ -40,7 +36,8 @@ fn section_count(header: &FileHeader<'_>) -> Result<u64, Place>
         return Ok(u64::from(count));
     }
     let at = header.section_headers_at();
-    refuse_if(passes_end(header.file, at, 64), 40, Kind::BadHeader)?;
+    let passes = passes_end(header.file, at, u128::from(SectionHeader::SIZE));
+    refuse_if(passes, Place::in_binary(E_SHOFF, Kind::BadHeader))?;
     Ok(SectionHeader::at(header.file, at as usize).size)
 }
 

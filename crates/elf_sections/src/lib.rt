@@ -13,7 +13,6 @@ mod file_header;
 mod header_zero;
 mod judgement;
 mod names;
-mod refusal;
 mod section_header;
 mod section_headers;
 mod section_table;

@@ -1,14 +1,13 @@
-ghost use Rattle.std.specs.Prelude.{◌≡◌, ◌+◌, ◌≤◌, length, None};
+ghost use Rattle.std.specs.Prelude.{◌≡◌, ◌+◌, ◌≤◌, ⊤, length, None};
 ghost use Rattle.io_edge.specs.Place.{Judges};
 ghost use Rattle.elf_model.specs.Fields.{passes_end};
 ghost use Rattle.elf_model.specs.Tables.{section_header_at};
 ghost use Rattle.elf_model.specs.Sections.{is_unused, is_nobits, is_compressed, file_size, start, bytes_of};
 ghost use Rattle.elf_model.specs.Items.{extent_item};
 
-use crate::fields::{u32_at, u64_at};
-use crate::refusal::{passes_end, refuse_if};
+use crate::fields::{passes_end, u32_at, u64_at};
 use byte_view::Part;
-use io_edge::{Kind, Place};
+use io_edge::{Kind, Place, refuse_if};
 
 /// `sh_type` of a header that describes no section.
 const SHT_NULL: u32 = 0;
@@ -17,7 +16,8 @@ const SHT_NOBITS: u32 = 8;
 /// `sh_flags` of a section whose bytes are compressed.
 const SHF_COMPRESSED: u64 = 0x800;
 
-/// One section header, and the offset in the file at which it stands.
+/// One section header (System V gABI, "Sections", Elf64_Shdr), and the offset in the file at which
+/// it stands.
 #[derive(Clone, Copy, Debug)]
 pub(crate) struct SectionHeader {
     pub at: usize,
@@ -74,11 +74,15 @@ impl SectionHeader {
     }
 
     /// Refuses a section whose bytes pass the end of the file.
+    ///
+    /// # Errors
+    ///
+    /// `SectionPastEnd` at the header.
     pub fn judge_extent(&self, file: &[u8]) -> Result<(), Place>
-        ensures { Judges (extent_item file.now (header_of self.now)) result (λ _. Unit {0}) }
+        ensures { Judges (extent_item file.now (header_of self.now)) result (λ _. ⊤) }
     {
         let passes = !self.is_unused() && !self.is_nobits() && self.passes_end(file);
-        refuse_if(passes, self.at as u64, Kind::SectionPastEnd)
+        refuse_if(passes, Place::in_binary(self.at, Kind::SectionPastEnd))
     }
 
     fn passes_end(&self, file: &[u8]) -> bool
@@ -87,8 +91,8 @@ impl SectionHeader {
         passes_end(file, self.offset, u128::from(self.size))
     }
 
-    /// The section's bytes; without any, an empty piece at its offset or, where that is past the end,
-    /// at the end.
+    /// The section's bytes; without any, an empty piece at its offset or, where that is past the
+    /// end, at the end.
     pub fn piece<'a>(&self, file: &'a [u8]) -> Part<'a>
         requires { extent_item file.now (header_of self.now) ≡ None }
         ensures { IsPiece file.now (header_of self.now) result }

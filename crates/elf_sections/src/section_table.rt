@@ -1,12 +1,11 @@
 ghost use Rattle.std.specs.Prelude.{◌+◌, ◌*◌, ◌≤◌, length};
 
-use crate::file_header::FileHeader;
+use crate::file_header::{E_SHENTSIZE, E_SHSTRNDX, FileHeader};
 use crate::header_zero::{judge_table_extent, name_index};
 use crate::names::Names;
-use crate::refusal::refuse_if;
 use crate::section_header::SectionHeader;
 use crate::section_headers::SectionHeaders;
-use io_edge::{Kind, Place};
+use io_edge::{Kind, Place, refuse_if};
 
 /// The section header table of a file, and in it the header of the section of names, where there
 /// is one.
@@ -20,17 +19,21 @@ pub(crate) struct SectionTable<'a> {
 }
 
 impl<'a> SectionTable<'a> {
-    ghost use Rattle.std.specs.Prelude.{◌≡◌, ◌+◌, ◌*◌, ◌<◌, ◌≤◌, length, drop, true};
+    ghost use Rattle.std.specs.Prelude.{◌≡◌, drop};
     ghost use Rattle.io_edge.specs.Place.{Judges, first_bad};
-    ghost use Rattle.elf_model.specs.Fields.{e_shoff};
-    ghost use Rattle.elf_model.specs.Tables.{has_table, name_index, section_count, section_headers};
+    ghost use Rattle.elf_model.specs.Tables.{section_headers};
     ghost use Rattle.elf_model.specs.Items.{name_table_item, section_table_items};
     ghost use Rattle.std.specs.Option.{option_map};
     ghost use Rattle.elf_model.specs.Sections.{name_section};
+    ghost use Rattle.elf_sections.specs.Room.{HasNameIndex};
     ghost use Rattle.elf_sections.specs.Shown.{header_of};
     ghost use Rattle.elf_sections.specs.Tables.{AreNames, IsSectionTable};
 
     /// Judges where the section headers are.
+    ///
+    /// # Errors
+    ///
+    /// `BadHeader` at `E_SHENTSIZE`, at `E_SHOFF` or at `E_SHSTRNDX`, in this order.
     pub fn judge(header: &FileHeader<'a>) -> Result<SectionTable<'a>, Place>
         ensures { Judges (first_bad (section_table_items header.now.file.now)) result
             (IsSectionTable header.now.file.now) }
@@ -43,24 +46,18 @@ impl<'a> SectionTable<'a> {
                 name_section: None,
             });
         }
-        refuse_if(
-            header.section_header_size() != SectionHeader::SIZE,
-            58,
-            Kind::BadHeader,
-        )?;
+        let other_size = header.section_header_size() != SectionHeader::SIZE;
+        refuse_if(other_size, Place::in_binary(E_SHENTSIZE, Kind::BadHeader))?;
         let count = judge_table_extent(header)?;
         let index = name_index(header);
-        refuse_if(!(u64::from(index) < count), 62, Kind::BadHeader)?;
+        let no_header = u64::from(index) >= count;
+        refuse_if(no_header, Place::in_binary(E_SHSTRNDX, Kind::BadHeader))?;
         Ok(SectionTable::judged(header, count, index))
     }
 
     /// The table that was judged.
     fn judged(header: &FileHeader<'a>, count: u64, index: u32) -> SectionTable<'a>
-        requires table { has_table header.now.file.now ≡ true }
-        requires counted { count ≡ section_count header.now.file.now }
-        requires indexed { index ≡ name_index header.now.file.now }
-        requires in_table { index < count }
-        requires inside { e_shoff header.now.file.now + 64 * count ≤ length header.now.file.now }
+        requires { HasNameIndex header.now.file.now count index }
         ensures { IsSectionTable header.now.file.now result }
     {
         SectionTable {
@@ -73,17 +70,14 @@ impl<'a> SectionTable<'a> {
 
     /// The header of the section of names, where there is one.
     fn name_section(header: &FileHeader<'a>, count: u64, index: u32) -> Option<SectionHeader>
-        requires table { has_table header.now.file.now ≡ true }
-        requires counted { count ≡ section_count header.now.file.now }
-        requires indexed { index ≡ name_index header.now.file.now }
-        requires in_table { index < count }
-        requires inside { e_shoff header.now.file.now + 64 * count ≤ length header.now.file.now }
+        requires { HasNameIndex header.now.file.now count index }
         ensures { option_map header_of result ≡ name_section header.now.file.now }
     {
         if index == 0 {
             return None;
         }
-        let at = header.section_headers_at() as usize + 64 * index as usize;
+        let passed = usize::from(SectionHeader::SIZE) * index as usize;
+        let at = header.section_headers_at() as usize + passed;
         Some(SectionHeader::at(header.file, at))
     }
 

@@ -1,10 +1,9 @@
 ghost use Rattle.std.specs.Prelude.{◌≡◌, ◌+◌, ◌*◌, ◌≤◌, ◌<◌, ◌^◌, length};
 
-use crate::fields::{u32_at, u64_at};
-use crate::file_header::FileHeader;
-use crate::refusal::{passes_end, refuse_if};
+use crate::fields::{passes_end, u32_at, u64_at};
+use crate::file_header::{E_PHENTSIZE, E_PHNUM, E_PHOFF, FileHeader};
 use crate::segments::Segments;
-use io_edge::{Kind, Place};
+use io_edge::{Kind, Place, refuse_if};
 
 /// `e_phnum` where the count does not fit in it.
 const PN_XNUM: u16 = 0xffff;
@@ -12,7 +11,8 @@ const PN_XNUM: u16 = 0xffff;
 const PT_LOAD: u32 = 1;
 /// `p_flags` of a segment that may be executed.
 const PF_X: u32 = 1;
-/// One program header: a segment's place in memory.
+
+/// One program header: a segment's place in memory (System V gABI, "Program Header", Elf64_Phdr).
 #[derive(Clone, Copy)]
 pub(crate) struct Segment {
     pub kind: u32,
@@ -75,17 +75,22 @@ impl<'a> SegmentTable<'a> {
     ghost use Rattle.elf_sections.specs.Tables.{IsSegmentTable};
 
     /// Judges where the program headers are.
+    ///
+    /// # Errors
+    ///
+    /// `BadHeader` at `E_PHNUM`, at `E_PHENTSIZE` or at `E_PHOFF`, in this order.
     pub fn judge(header: &FileHeader<'a>) -> Result<SegmentTable<'a>, Place>
         ensures { Judges (first_bad (program_table_items header.now.file.now)) result
             (IsSegmentTable header.now.file.now) }
     {
         let count = header.program_header_count();
-        refuse_if(count == PN_XNUM, 56, Kind::BadHeader)?;
+        refuse_if(count == PN_XNUM, Place::in_binary(E_PHNUM, Kind::BadHeader))?;
         let other_size = count != 0 && header.program_header_size() != Segment::SIZE;
-        refuse_if(other_size, 54, Kind::BadHeader)?;
+        refuse_if(other_size, Place::in_binary(E_PHENTSIZE, Kind::BadHeader))?;
         let at = header.program_headers_at();
-        let passes = passes_end(header.file, at, 56 * u128::from(count));
-        refuse_if(passes, 32, Kind::BadHeader)?;
+        let size = u128::from(Segment::SIZE) * u128::from(count);
+        let passes = passes_end(header.file, at, size);
+        refuse_if(passes, Place::in_binary(E_PHOFF, Kind::BadHeader))?;
         Ok(SegmentTable {
             file: header.file,
             at: at as usize,
@@ -95,7 +100,8 @@ impl<'a> SegmentTable<'a> {
 
     /// The headers of the table.
     pub fn headers(&self) -> Segments<'a>
-        ensures { result ≡ entries (program_header_at self.now.file.now) 56 self.now.at self.now.count }
+        ensures { result
+            ≡ entries (program_header_at self.now.file.now) 56 self.now.at self.now.count }
     {
         Segments::new(self.file, self.at, self.count)
     }

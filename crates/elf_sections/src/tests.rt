@@ -48,7 +48,8 @@ fn refuses_at_the_first_bad_place(rt: HostRuntime) -> Result<(), Fail> {
         (655, &[(16, &[2, 1])], 16, Kind::BadType),
         (655, &[(56, &[0xff, 0xff]), (54, &[0])], 56, Kind::BadHeader),
         (655, &[(54, &[57]), (32, ONES)], 54, Kind::BadHeader),
-        // The program headers pass the end by one byte; sums past 2^64; no headers, but past the end.
+        // The program headers pass the end by one byte; sums past 2^64; no headers, but past the
+        // end.
         (655, &[(32, &[0x58, 2])], 32, Kind::BadHeader),
         (655, &[(32, ONES)], 32, Kind::BadHeader),
         (

@@ -1,18 +1,14 @@
 -- The first bad place of lists of items, one behind the other.
 use Rattle.std.proofs.Common.{◌≡◌, List, [], ◌∷◌, ◌++◌, Option, None, Some, refl}
+use Rattle.std.specs.Option.{option_or}
 use Rattle.io_edge.specs.declared.place.Place.{Place}
 use Rattle.io_edge.specs.Place.{first_bad}
-use Rattle.io_edge.specs.Laws.{PlacesComeInOrder}
 
-first_bad-bad : (items more : List (Option Place)) (place : Place) → first_bad items ≡ Some place → first_bad (items ++ more) ≡ Some place
-first_bad-bad [] more place bad = absurd (cc)
-first_bad-bad (None ∷ items) more place bad = first_bad-bad items more place bad
-first_bad-bad (Some first ∷ items) more place bad = bad
+pub first_bad-append : (items more : List (Option Place)) → first_bad (items ++ more) ≡ option_or (first_bad items) (first_bad more)
+first_bad-append [] more = refl
+first_bad-append (None ∷ items) more = first_bad-append items more
+first_bad-append (Some place ∷ items) more = refl
 
-first_bad-good : (items more : List (Option Place)) → first_bad items ≡ None → first_bad (items ++ more) ≡ first_bad more
-first_bad-good [] more good = refl
-first_bad-good (None ∷ items) more good = first_bad-good items more good
-first_bad-good (Some place ∷ items) more good = absurd (cc)
-
-pub places_come_in_order : PlacesComeInOrder
-places_come_in_order items more = record { bad = first_bad-bad items more; good = first_bad-good items more }
+pub first_bad-cons : (item : Option Place) (items : List (Option Place)) → first_bad (item ∷ items) ≡ option_or item (first_bad items)
+first_bad-cons None items = refl
+first_bad-cons (Some place) items = refl

@@ -17,7 +17,8 @@ stored files name = option_map (λ file. file.bytes) (find (is_named name) files
 
 -- this call is to fail: the open of this number, counted from 1, where `call` is 0, else the `call`-th read behind it
 abbrev pub is_planned : List Fail → ℕ → ℕ → Bool
-is_planned fails file call = nat_lt 0 file && list_any (λ fail. (fail.file == file) && (fail.call == call)) fails
+is_planned fails file call =
+    nat_lt 0 file && list_any (λ fail. (fail.file == file) && (fail.call == call)) fails
 
 -- What files in memory show: the files, how many bytes a read gives at most, the calls that are to fail, what is
 -- left of the open file, and how many opens, reads since the last open and failed calls there were.
@@ -41,4 +42,5 @@ pub record GoesByPlan (file call : ℕ) (old new : InputsInMemory) (failed : Boo
 
 -- the bytes behind this place of the file at this index
 abbrev pub rest_of : List StoredFile → Option ℕ → ℕ → List ℕ
-rest_of files index at = drop at (unwrap_or (option_map (λ file. file.bytes) (option_and_then (slice_get files) index)) [])
+rest_of files index at =
+    drop at (unwrap_or (option_map (λ file. file.bytes) (option_and_then (slice_get files) index)) [])

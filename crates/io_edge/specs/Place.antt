@@ -1,5 +1,5 @@
 -- The first bad place of an input, and the answers that tell it.
-use Rattle.std.specs.Prelude.{◌≡◌, ℕ, nat_lt, Bool, List, [], ◌∷◌, length, Option, None, Some, Result, Ok, Err, if◌then◌else◌}
+use Rattle.std.specs.Prelude.{◌≡◌, ℕ, nat_lt, Bool, ⊤, List, [], ◌∷◌, length, Option, None, Some, Result, Ok, Err, if◌then◌else◌}
 use Rattle.io_edge.specs.declared.kind.Kind.{Kind}
 use Rattle.io_edge.specs.declared.kind.Kind.TheVariants.{FileTooLarge}
 use Rattle.io_edge.specs.declared.place.Place.{Place}
@@ -17,6 +17,10 @@ first_bad (Some place ∷ items) = Some place
 abbrev pub fails_at : Bool → Place → Option Place
 fails_at cause place = if cause then Some place else None
 
+-- the place so many bytes from the start of a binary, which is file 1 of each command that reads one
+abbrev pub in_binary : ℕ → Kind → Place
+in_binary at kind = record { file = 1; at = at; kind = kind }
+
 -- the kind of the first cause that holds
 abbrev pub first_cause : List (Bool × Kind) → Option Kind
 first_cause [] = None
@@ -24,7 +28,8 @@ first_cause ((holds, kind) ∷ causes) = if holds then Some kind else first_caus
 
 -- the size of a file that has a limit
 abbrev pub size_item : ℕ → ℕ → List ℕ → Option Place
-size_item file limit bytes = fails_at (nat_lt limit (length bytes)) (record { file = file; at = limit; kind = FileTooLarge })
+size_item file limit bytes =
+    fails_at (nat_lt limit (length bytes)) (record { file = file; at = limit; kind = FileTooLarge })
 
 -- The input is refused exactly at its first bad place; without one, P holds of what was read.
 abbrev pub Judges : {T : Type 0} → Option Place → Result T Place → (T → Type 0) → Type 0
@@ -35,4 +40,4 @@ Judges bad (Err place) P = bad ≡ Some place
 abbrev pub JudgesUnlessNoMemory : {T : Type 0} → Option Place → Result T Stop → (T → Type 0) → Type 0
 JudgesUnlessNoMemory bad (Ok x) P = (bad ≡ None) × P x
 JudgesUnlessNoMemory bad (Err (Refused place)) P = bad ≡ Some place
-JudgesUnlessNoMemory bad (Err NoMemory) P = Unit {0}
+JudgesUnlessNoMemory bad (Err NoMemory) P = ⊤

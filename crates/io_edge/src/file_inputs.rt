@@ -8,8 +8,8 @@ use std::rt::Files;
 
 /// The files of the system, by their paths.
 ///
-/// A path has to be UTF-8 text; any other cannot be opened, which counts as a failed call. A folder is opened, and
-/// fails when it is read.
+/// A path has to be UTF-8 text; any other cannot be opened, which counts as a failed call. A folder
+/// is opened, and fails when it is read.
 #[derive(Drop)]
 pub struct FileInputs<'a, R: Files> {
     files: &'a R,
@@ -80,7 +80,7 @@ impl<R: Files> Inputs for FileInputs<'_, R> {
     }
 }
 
-// The file at this path, or `None` where there is none.
+/// The file at this path, or `None` where there is none.
 fn open_path<R: Files>(files: &R, path: &[u8]) -> Result<Option<R::File>, OpenFailed> {
     let Ok(path) = str::from_utf8(path) else {
         return Err(OpenFailed);

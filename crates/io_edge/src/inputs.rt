@@ -13,12 +13,14 @@ pub struct ReadFailed;
 
 /// A store of files that are read by name, one at a time.
 ///
-/// An implementation starts with no file open and with its counts at 0. Both counts stand still at 2^64 - 1.
+/// An implementation starts with no file open and with its counts at 0. Both counts stand still at
+/// 2^64 - 1.
 pub trait Inputs {
     /// The store's files by name, where the type tells them.
     ghost store: { Self → Option Store };
 
-    /// The bytes left of the open file, where the type tells them; nothing is left where no file is open.
+    /// The bytes left of the open file, where the type tells them; nothing is left where no file is
+    /// open.
     ghost left: { Self → Option (List ℕ) };
 
     /// How many calls have failed.
@@ -27,8 +29,8 @@ pub trait Inputs {
     /// How many times `open` has been called.
     ghost opens: { Self → ℕ };
 
-    /// Opens the file of this name in place of the one that is open, and answers whether there is such a file.
-    /// All its bytes are then left.
+    /// Opens the file of this name in place of the one that is open, and answers whether there is
+    /// such a file. All its bytes are then left.
     ///
     /// # Errors
     /// Only where the count of faults rises; nothing is open then.
@@ -38,8 +40,8 @@ pub trait Inputs {
         ensures opens { opens self.new ≡ raised (opens self.old) }
         ensures cause { HasCause (faults self.old) (faults self.new) result };
 
-    /// Reads the next bytes of the open file into the front of `buf`, and answers how many: 0 exactly where
-    /// nothing is left or `buf` is empty. They are no longer left.
+    /// Reads the next bytes of the open file into the front of `buf`, and answers how many: 0
+    /// exactly where nothing is left or `buf` is empty. They are no longer left.
     ///
     /// # Errors
     /// Only where the count of faults rises; what is left stays as it was.

@@ -3,73 +3,128 @@ ghost use Rattle.io_edge.specs.Kind.{word_of};
 
 /// Why an input is refused: one name for each cause, the same in the program's messages.
 ///
-/// docs/FORMATS.md says of each file that is read so far which of them it can have, and where each stands. The others
-/// belong to files that are to come.
+/// docs/FORMATS.md says of each file that is read so far which of them it can have, and where each
+/// stands. The others belong to files that are to come.
 #[derive(Clone, Copy, Debug, PartialEq, Eq)]
 pub enum Kind {
     // The file and its headers.
+    /// The file is shorter than an ELF64 file header, or does not begin with `\x7fELF`.
     NotElf,
+    /// An ELF file, but not a 64-bit little-endian one.
     NotElf64Little,
+    /// Neither an executable nor a shared object: `e_type` is another than `ET_EXEC` and `ET_DYN`.
     BadType,
+    /// A field of the file header has a value that is not read, or leads past the end of the file.
     BadHeader,
+    /// A section passes the end of the file.
     SectionPastEnd,
+    /// A section's name does not begin in the section of names, or no NUL ends it there.
     NameBad,
+    /// A section that is read has the flag `SHF_COMPRESSED`.
     Compressed,
     // Bytes and sizes.
+    /// The bytes end before the last one of a value.
     Short,
+    /// A LEB128 number is longer than ten bytes, or does not fit 64 bits.
     LebTooLong,
+    /// No NUL ends a text.
     NoNul,
+    /// The file has more bytes than are read; the place is that limit.
     FileTooLarge,
-    // Forms, abbreviations and units; `TooManyEntries` also of a sample.
+    // Forms, abbreviations and units.
+    /// A form that is not read.
     BadForm,
+    /// `DW_FORM_indirect` leads to `DW_FORM_indirect`.
     IndirectTwice,
+    /// An abbreviation says neither `DW_CHILDREN_no` nor `DW_CHILDREN_yes`.
     BadChildren,
+    /// Two abbreviations of one table have the same code.
     CodeTwice,
+    /// A table has more abbreviations than are read.
     TooManyAbbrevs,
+    /// A unit's length is a reserved value, or passes the end of the section.
     BadUnitLength,
+    /// A version that is not read.
     BadVersion,
+    /// Addresses have another size than 8 bytes.
     BadAddressSize,
+    /// An entry's code is not in its unit's table of abbreviations.
     UnknownAbbrev,
+    /// An entry stands deeper than is read.
     TooDeep,
+    /// There are more debugging information entries than are read, or a sample has more branches.
     TooManyEntries,
     // Sections, texts and ranges.
+    /// An offset or an indexed slot passes the end of its section.
     PastSection,
+    /// The section that a value leads to is not there.
     NoSection,
+    /// A value goes by an index, and the unit has no base to count from.
     NoBase,
+    /// An attribute's value is of a class that the attribute cannot have.
     BadClass,
+    /// An entry of a range list has a code that is none.
     BadRangeEntry,
+    /// There are more ranges than are read.
     TooManyRanges,
     // Line programs.
+    /// The `line_range` of a line program is 0.
     BadLineRange,
+    /// The `opcode_base` of a line program is 0.
     BadOpcodeBase,
+    /// A line program has several operations an instruction (VLIW).
     ManyOperations,
+    /// An extended opcode has a length that does not fit it.
     BadExtended,
+    /// A line number falls below 0, or passes 2^32 - 1.
     LineOverflow,
+    /// A sequence of a line program is not ended.
     NoEnd,
+    /// A line program makes more rows than are read.
     TooManyRows,
     // References and inlined calls.
+    /// A reference leads to no entry.
     BadReference,
+    /// The way along abstract origins and specifications is longer than is followed.
     OriginTooLong,
+    /// More inlined calls stand in one another than are read.
     InlineTooDeep,
     // Branch texts.
+    /// A line has not the form of its text.
     BadLine,
+    /// A line has more bytes than are read.
     LineTooLong,
+    /// The text has more branches than are counted.
     TooManyBranches,
     // Block texts.
+    /// A block's number is not the next one.
     BlockOrder,
+    /// A block holds no address.
     BlockEmpty,
+    /// A block shares an address with an earlier one of its function.
     BlockOverlap,
+    /// A function has no block.
     NoBlocks,
+    /// An edge begins or ends at a block that its function has not.
     EdgeEnd,
+    /// An edge stands twice.
     EdgeTwice,
+    /// The text ends before a function's `end`.
     NoEndLine,
+    /// A function has more blocks than are read.
     TooManyBlocks,
+    /// A function has more edges than are read.
     TooManyEdges,
     // Repair texts.
+    /// A function is not the block text's next one.
     WrongFunction,
+    /// A block is not its function's next one.
     WrongBlock,
+    /// An edge is not its function's next one.
     WrongEdge,
+    /// A block, an edge or a function of the block text is not told of.
     Missing,
+    /// More is told of than the block text has.
     Extra,
 }
 

@@ -15,8 +15,8 @@ pub struct StoredFile {
     pub bytes: Items<u8>,
 }
 
-/// A call of a `MemoryInputs` that is to fail: the `file`-th `open`, counted from 1, where `call` is 0, and else
-/// the `call`-th `read` after it.
+/// A call of a `MemoryInputs` that is to fail: the `file`-th `open`, counted from 1, where `call`
+/// is 0, and else the `call`-th `read` after it.
 #[derive(Clone, Copy, Debug, PartialEq, Eq)]
 pub struct Fail {
     pub file: u64,
@@ -56,8 +56,8 @@ impl Model for MemoryInputs {
 }
 
 impl MemoryInputs {
-    /// Files that are read in pieces of at most `piece` bytes. Of two files of one name the first is opened.
-    /// The calls of `fail` fail, and no other.
+    /// Files that are read in pieces of at most `piece` bytes. Of two files of one name the first
+    /// is opened. The calls of `fail` fail, and no other.
     pub fn new(files: Vec<StoredFile>, piece: usize, fail: Vec<Fail>) -> Self
         requires { 0 < piece }
         ensures { result ≡ record {
@@ -136,21 +136,23 @@ impl Inputs for MemoryInputs {
     }
 }
 
+/// Whether a call is to fail.
 fn is_planned(fail: &[Fail], file: u64, call: u64) -> bool
     ensures { result ≡ is_planned fail.now file call }
 {
     file > 0 && fail.contains(&Fail { file, call })
 }
 
-// The index of the first file of this name.
+/// The index of the first file of this name.
 fn first_named(files: &[StoredFile], name: &[u8]) -> Option<usize>
-    ensures file { option_and_then (slice_get files.now) result ≡ find (is_named name.now) files.now }
+    ensures file { option_and_then (slice_get files.now) result
+        ≡ find (is_named name.now) files.now }
     ensures found { is_some result ≡ is_some (find (is_named name.now) files.now) }
 {
     files.iter().position(|file| file.name.as_slice() == name)
 }
 
-// The bytes behind a place of the open file.
+/// The bytes behind a place of the open file.
 fn rest_of(files: &[StoredFile], current: Option<usize>, at: usize) -> &[u8]
     ensures rest { result.now ≡ rest_of files.now current at }
     ensures fits { at + length result.now < 2 ^ 64 }
@@ -162,7 +164,7 @@ fn rest_of(files: &[StoredFile], current: Option<usize>, at: usize) -> &[u8]
     &bytes[at.min(bytes.len())..]
 }
 
-// Copies as much of the front of `from` as there is room for in `to`.
+/// Copies as much of the front of `from` as there is room for in `to`, and answers how much.
 fn copy_front(from: &[u8], to: &mut [u8]) -> usize
     ensures count { result ≡ min (length from.now) (length to.old) }
     ensures front { take result to.new ≡ take result from.now }

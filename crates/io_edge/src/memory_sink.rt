@@ -42,9 +42,9 @@ impl Model for MemorySink {
 }
 
 impl MemorySink {
-    /// A sink with room for `room` bytes, which takes at most `piece` bytes a write. The writes whose numbers are
-    /// in `fail`, counted from 1, fail, and each write while the room is full; a 0 in `fail` makes `finish` fail.
-    /// No other call fails.
+    /// A sink with room for `room` bytes, which takes at most `piece` bytes a write. The writes
+    /// whose numbers are in `fail`, counted from 1, fail, and each write while the room is full; a
+    /// 0 in `fail` makes `finish` fail. No other call fails.
     ///
     /// # Errors
     /// There is no memory for the room.

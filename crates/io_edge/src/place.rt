@@ -1,5 +1,6 @@
-ghost use Rattle.std.specs.Prelude.{◌≡◌};
-ghost use Rattle.io_edge.specs.declared.place.Stop.TheVariants.{NoMemory as no_memory};
+ghost use Rattle.std.specs.Prelude.{◌≡◌, ⊤};
+ghost use Rattle.io_edge.specs.Place.{Judges, fails_at, in_binary};
+ghost use Rattle.io_edge.specs.declared.place.Stop.TheVariants.{Refused, NoMemory as no_memory};
 
 use crate::kind::Kind;
 use std::alloc::{AllocError, AllocFailed};
@@ -22,13 +23,37 @@ impl<T: Drop> From<AllocFailed<T>> for NoMemory {
 
 /// Where an input is refused, and why.
 ///
-/// `file` is the file's position among the command's file words, from 1. `at` is an offset in bytes for a binary,
-/// a line number from 1 for a text, and for `Kind::FileTooLarge` the limit in bytes.
+/// `file` is the file's position among the command's file words, from 1. `at` is an offset in bytes
+/// for a binary, a line number from 1 for a text, and for `Kind::FileTooLarge` the limit in bytes.
 #[derive(Clone, Copy, Debug, PartialEq, Eq)]
 pub struct Place {
     pub file: u8,
     pub at: u64,
     pub kind: Kind,
+}
+
+impl Place {
+    /// The place `at` bytes from the start of a binary, which is file 1 of each command that reads
+    /// one.
+    pub fn in_binary(at: usize, kind: Kind) -> Place
+        ensures { result ≡ in_binary at kind }
+    {
+        Place {
+            file: 1,
+            at: at as u64,
+            kind,
+        }
+    }
+}
+
+/// Refuses an input at this place where a cause holds.
+///
+/// # Errors
+/// `place`, exactly where `cause` is true.
+pub fn refuse_if(cause: bool, place: Place) -> Result<(), Place>
+    ensures { Judges (fails_at cause place) result (λ _. ⊤) }
+{
+    if cause { Err(place) } else { Ok(()) }
 }
 
 /// Why a reading ended early.
@@ -40,8 +65,16 @@ pub enum Stop {
     NoMemory,
 }
 
+impl From<Place> for Stop {
+    ghost from_gives = { λ place stop. stop ≡ Refused place };
+
+    fn from(place: Place) -> Self {
+        Stop::Refused(place)
+    }
+}
+
 impl From<NoMemory> for Stop {
-    ghost from_gives = { λ _ e. e ≡ no_memory };
+    ghost from_gives = { λ _ stop. stop ≡ no_memory };
 
     fn from(_: NoMemory) -> Self {
         Stop::NoMemory

@@ -9,7 +9,8 @@ pub struct WriteFailed;
 
 /// Where bytes are written, piece by piece, and then finished.
 ///
-/// An implementation starts with nothing written, unfinished, and with its count at 0, which stands still at 2^64 - 1.
+/// An implementation starts with nothing written, unfinished, and with its count at 0, which stands
+/// still at 2^64 - 1.
 pub trait Sink {
     /// The bytes written, where the type tells them.
     ghost written: { Self → Option (List ℕ) };

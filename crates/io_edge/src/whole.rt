@@ -9,7 +9,7 @@ use crate::inputs::{Inputs, ReadFailed};
 use crate::sink::{Sink, WriteFailed};
 use std::alloc::AllocError;
 
-// How many bytes one read may give.
+/// The most bytes that one read gives.
 const PIECE: usize = 1 << 16;
 
 /// An output could not be written whole.
@@ -56,11 +56,13 @@ impl From<AllocError> for ReadStop {
 /// Writes all of `bytes` and finishes the output.
 ///
 /// # Errors
-/// Only where the sink's count of faults rises; some of the first of `bytes` may have been written then.
+/// Only where the sink's count of faults rises; some of the first of `bytes` may have been written
+/// then.
 pub fn write_all<O: Sink>(out: &mut O, bytes: &[u8]) -> Result<(), WriteFault>
     ensures written { OnOk result (Appends (O.written out.old) (O.written out.new) bytes.now) }
     ensures finished { OnOk result (O.finished out.new ≡ true) }
-    ensures prefix { OnErr result (AppendsPrefix (O.written out.old) (O.written out.new) bytes.now) }
+    ensures prefix { OnErr result
+        (AppendsPrefix (O.written out.old) (O.written out.new) bytes.now) }
     ensures cause { HasCause (O.faults out.old) (O.faults out.new) result }
 {
     let mut rest = bytes;
@@ -75,8 +77,8 @@ pub fn write_all<O: Sink>(out: &mut O, bytes: &[u8]) -> Result<(), WriteFault>
 /// Appends all bytes that are left of the open file to `into`, which are at most `limit`.
 ///
 /// # Errors
-/// `Fault` only where the inputs' count of faults rises, `TooLarge` exactly where more than `limit` bytes were
-/// left and no read failed. `into` may have grown then.
+/// `Fault` only where the inputs' count of faults rises, `TooLarge` exactly where more than `limit`
+/// bytes were left and no read failed. `into` may have grown then.
 pub fn read_whole<I: Inputs>(inputs: &mut I, limit: u64, into: &mut Vec<u8>) -> Result<(), ReadStop>
     ensures read { OnOk result (IfSome (I.left inputs.old) (λ bytes.
         (into.new.items ≡ into.old.items ++ bytes) × (length bytes ≤ limit)

@@ -21,10 +21,12 @@ returns-in_err-count_line-clause-before c =
     rw (p.1, p.2) (read_stop _ _ _ _ _ _ _ _ _ (λ _. Unit {0}) c.loop-line.invariant c.in-Some.ensures.steps c.in_err-count_line.ensures.judged c.in_err-count_line.ensures.err).1
 
 pub returns-then-text-gt-MAX_TEXT_BYTES-clause-judged : goal.returns-then-text-gt-MAX_TEXT_BYTES-clause-judged
-returns-then-text-gt-MAX_TEXT_BYTES-clause-judged c = (read_too_large _ _ _ _ c.loop-line.invariant c.in-None.ensures.steps.0 (omega arith)).0
+returns-then-text-gt-MAX_TEXT_BYTES-clause-judged c =
+    rw c.refused.ensures (read_too_large _ _ _ _ c.loop-line.invariant c.in-None.ensures.steps.0 (omega arith)).0
 
 pub returns-then-text-gt-MAX_TEXT_BYTES-clause-before : goal.returns-then-text-gt-MAX_TEXT_BYTES-clause-before
-returns-then-text-gt-MAX_TEXT_BYTES-clause-before c = (read_too_large _ _ _ _ c.loop-line.invariant c.in-None.ensures.steps.0 (omega arith)).1
+returns-then-text-gt-MAX_TEXT_BYTES-clause-before c =
+    rw c.refused.ensures (read_too_large _ _ _ _ c.loop-line.invariant c.in-None.ensures.steps.0 (omega arith)).1
 
 pub returns-clause-judged : goal.returns-clause-judged
 returns-clause-judged c = read_whole _ _ _ _ c.loop-line.invariant c.in-None.ensures.steps.0 (omega arith)

@@ -1,5 +1,0 @@
-use Rattle.elf_model.proofs.Laws.{sections_are_within}
-use Rattle.elf_model.proofs.sections_are_within.Goals as goal
-
-pub returns : goal.returns
-returns c = sections_are_within

@@ -1,3 +1,4 @@
+pub mod Halt
 pub mod Output
 pub mod Run
 pub mod Status

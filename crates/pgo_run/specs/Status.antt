@@ -1,8 +1,6 @@
 -- The codes and the texts of the statuses.
 use Rattle.std.specs.Prelude.{ℕ, List, [], ◌++◌, codes}
 use Rattle.io_edge.specs.Kind.{word_of}
-use Rattle.io_edge.specs.declared.place.Stop.{Stop}
-use Rattle.io_edge.specs.declared.place.Stop.TheVariants as stop
 use Rattle.text_model.specs.Numbers.{decimal_text}
 use Rattle.pgo_run.specs.declared.status.Status.{Status}
 use Rattle.pgo_run.specs.declared.status.Status.TheVariants.{Done, CheckFailed, Usage, NoSuchFile, Refused, ReadFault, WriteFault, NoMemory}
@@ -18,11 +16,6 @@ code_of (ReadFault file) = 5
 code_of WriteFault = 6
 code_of NoMemory = 7
 
--- a refusal of the parts as the program's
-abbrev pub status_of_stop : Stop → Status
-status_of_stop (stop.Refused place) = Refused place
-status_of_stop stop.NoMemory = NoMemory
-
 -- the line on the error output, with its line feed; none where all went well
 abbrev pub text_of : Status → List ℕ
 text_of Done = []
@@ -30,7 +23,8 @@ text_of (CheckFailed line) = codes "check failed at line " ++ decimal_text line 
 text_of Usage = codes "usage: pgo counts, where, profile, build, check or make\n"
 text_of (NoSuchFile file) = codes "no such file: " ++ decimal_text file ++ codes "\n"
 text_of (Refused place) =
-    codes "refused: file " ++ decimal_text place.file ++ codes " at " ++ decimal_text place.at ++ codes ": " ++ word_of place.kind ++ codes "\n"
+    codes "refused: file " ++ decimal_text place.file ++ codes " at " ++ decimal_text place.at
+    ++ codes ": " ++ word_of place.kind ++ codes "\n"
 text_of (ReadFault file) = codes "read fault: file " ++ decimal_text file ++ codes "\n"
 text_of WriteFault = codes "write fault\n"
 text_of NoMemory = codes "no memory\n"

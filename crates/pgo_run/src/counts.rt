@@ -12,8 +12,8 @@ ghost use Rattle.command_model.specs.Command.{counts as counts_command};
 ghost use Rattle.command_model.specs.Counts.{counts_line, counts_text, total_line};
 ghost use Rattle.pgo_run.specs.Output.{HasFileCause, Makes};
 
+use crate::halt::Halt;
 use crate::order::read_file;
-use crate::status::Status;
 use branch_stacks::{Counts, Pair, read_text};
 use io_edge::{Inputs, NoMemory, Stop};
 use std::alloc::Global;
@@ -26,12 +26,9 @@ const MAX_WHOLE_TEXT: u64 = 1 << 30;
 ///
 /// # Errors
 /// Those of reading file 1, and the first bad place of the text.
-pub(crate) fn output<I: Inputs>(
-    alloc: Global,
-    perf: &[u8],
-    inputs: &mut I,
-) -> Result<Vec<u8>, Status>
-    ensures makes { IfSome (I.store inputs.old) (λ files. Makes (answer_of_command files (counts_command perf.now)) result) }
+pub(crate) fn output<I: Inputs>(alloc: Global, perf: &[u8], inputs: &mut I) -> Result<Vec<u8>, Halt>
+    ensures makes { IfSome (I.store inputs.old)
+        (λ files. Makes (answer_of_command files (counts_command perf.now)) result) }
     ensures store { I.store inputs.new ≡ I.store inputs.old }
     ensures opens { I.opens inputs.new ≡ raised (I.opens inputs.old) }
     ensures cause { HasFileCause 1 (I.faults inputs.old) (I.faults inputs.new) result }
@@ -42,7 +39,8 @@ pub(crate) fn output<I: Inputs>(
 
 /// The counts of a branch text, which is file 1.
 fn count(alloc: Global, text: &[u8]) -> Result<Counts, Stop>
-    ensures { JudgesUnlessNoMemory (first_bad_of_text 1 text.now) result (TellsOf (lines_of text.now)) }
+    ensures { JudgesUnlessNoMemory (first_bad_of_text 1 text.now) result
+        (TellsOf (lines_of text.now)) }
 {
     let mut counts = Counts::new(alloc)?;
     read_text(text, 1, &mut counts)?;
@@ -51,7 +49,8 @@ fn count(alloc: Global, text: &[u8]) -> Result<Counts, Stop>
 
 /// The lines of the branches, by source and then by target, and the line of their number.
 fn print(alloc: Global, counts: &Counts) -> Result<Vec<u8>, NoMemory>
-    ensures { IfOk result (λ out. (lines : List (List ℕ)) → TellsOf lines counts.now → out.items ≡ counts_text (branches_of_lines lines)) }
+    ensures { IfOk result (λ out. (lines : List (List ℕ)) → TellsOf lines counts.now →
+        out.items ≡ counts_text (branches_of_lines lines)) }
 {
     let mut rows = Vec::from_slice(alloc, counts.branches())?;
     rows.sort()?;
@@ -64,7 +63,8 @@ fn print(alloc: Global, counts: &Counts) -> Result<Vec<u8>, NoMemory>
 }
 
 fn push_row(out: &mut Vec<u8>, row: &Pair) -> Result<(), NoMemory>
-    ensures { OnOk result (out.new.items ≡ out.old.items ++ counts_line (pair_of row.now) row.now.times) }
+    ensures { OnOk result
+        (out.new.items ≡ out.old.items ++ counts_line (pair_of row.now) row.now.times) }
 {
     push_hex(out, row.from)?;
     out.push(b' ')?;

@@ -1,11 +1,12 @@
 //! The top call: from a command's words and the files that they name to the bytes that are written.
 //!
-//! The layer above calls `run` with its words, a store of files and a sink, prints `status_line` and ends with
-//! `Status::code`.
+//! The layer above calls `run` with its words, a store of files and a sink, prints `status_line`
+//! and ends with `Status::code`.
 #![tactic(auto)]
 
 mod command;
 mod counts;
+mod halt;
 mod order;
 mod program;
 mod status;

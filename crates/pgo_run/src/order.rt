@@ -3,7 +3,7 @@ ghost use Rattle.std.specs.Prelude.{◌≡◌, IfSome};
 ghost use Rattle.io_edge.specs.Faults.{raised};
 ghost use Rattle.pgo_run.specs.Output.{ReadsFile, HasFileCause};
 
-use crate::status::Status;
+use crate::halt::Halt;
 use io_edge::{Inputs, Kind, Place, ReadStop, read_whole};
 use std::alloc::Global;
 
@@ -17,26 +17,27 @@ pub(crate) fn read_file<I: Inputs>(
     k: u8,
     name: &[u8],
     limit: u64,
-) -> Result<Vec<u8>, Status>
-    ensures file { IfSome (I.store inputs.old) (λ files. ReadsFile (files name.now) k limit result) }
+) -> Result<Vec<u8>, Halt>
+    ensures file { IfSome (I.store inputs.old)
+        (λ files. ReadsFile (files name.now) k limit result) }
     ensures store { I.store inputs.new ≡ I.store inputs.old }
     ensures opens { I.opens inputs.new ≡ raised (I.opens inputs.old) }
     ensures cause { HasFileCause k (I.faults inputs.old) (I.faults inputs.new) result }
 {
     match inputs.open(name) {
         Ok(true) => {}
-        Ok(false) => return Err(Status::NoSuchFile(k)),
-        Err(_) => return Err(Status::ReadFault(k)),
+        Ok(false) => return Err(Halt::NoSuchFile(k)),
+        Err(_) => return Err(Halt::ReadFault(k)),
     }
     let mut bytes = Vec::new(alloc);
     match read_whole(inputs, limit, &mut bytes) {
         Ok(()) => Ok(bytes),
-        Err(ReadStop::Fault) => Err(Status::ReadFault(k)),
-        Err(ReadStop::TooLarge) => Err(Status::Refused(Place {
+        Err(ReadStop::Fault) => Err(Halt::ReadFault(k)),
+        Err(ReadStop::TooLarge) => Err(Halt::Refused(Place {
             file: k,
             at: limit,
             kind: Kind::FileTooLarge,
         })),
-        Err(ReadStop::NoMemory) => Err(Status::NoMemory),
+        Err(ReadStop::NoMemory) => Err(Halt::NoMemory),
     }
 }

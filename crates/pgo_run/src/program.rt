@@ -5,21 +5,23 @@ ghost use Rattle.io_edge.specs.Sink.{AppendsPrefix};
 ghost use Rattle.io_edge.specs.declared.place.Place.{Place};
 ghost use Rattle.command_model.specs.Answer.{answer_of, answer_of_command, no_such_file, refused, writes};
 ghost use Rattle.command_model.specs.Command.{command_of};
-ghost use Rattle.pgo_run.specs.Run.{ComesExactly, FailsAt, IsWithoutFault, IsWithoutOutput};
+ghost use Rattle.pgo_run.specs.Run.{ComesExactly, FailsAt, HasWritten, IsWithoutFault, IsWithoutOutput};
 ghost use Rattle.pgo_run.specs.Output.{HasFileCause, Makes};
 ghost use Rattle.pgo_run.specs.Words.{meaning_of, texts_of};
 
 use crate::command::{Command, parse};
 use crate::counts;
+use crate::halt::Halt;
 use crate::status::Status;
 use io_edge::{Inputs, Sink, write_all};
 use std::alloc::Global;
 
-/// Carries out the command that the words spell: reads its files from `inputs` in the order of their words, each judged
-/// whole before the next is opened, makes all output, and then writes it to `out`.
+/// Carries out the command that the words spell: reads its files from `inputs` in the order of
+/// their words, each judged whole before the next is opened, makes all output, and then writes it
+/// to `out`.
 ///
-/// `words` are those behind the program's name. The clauses on content hold where `inputs` tells its files and `out` its
-/// bytes; `answer_of` says what the words come to over those files.
+/// `words` are those behind the program's name. The clauses on content hold where `inputs` tells
+/// its files and `out` its bytes; `answer_of` says what the words come to over those files.
 pub fn run<I: Inputs, O: Sink>(
     alloc: Global,
     words: &[Vec<u8>],
@@ -32,23 +34,32 @@ pub fn run<I: Inputs, O: Sink>(
 
     // Each file that is missing, and each first bad place, is told exactly.
     ensures no_such_file { IfSome (I.store inputs.old) (λ files. (k : ℕ) →
-        ComesExactly result (Status.NoSuchFile k) (answer_of files (texts_of words.now) ≡ no_such_file k)) }
+        ComesExactly result (Status.NoSuchFile k)
+        (answer_of files (texts_of words.now) ≡ no_such_file k)) }
     ensures refused { IfSome (I.store inputs.old) (λ files. (place : Place) →
-        ComesExactly result (Status.Refused place) (answer_of files (texts_of words.now) ≡ refused place)) }
+        ComesExactly result (Status.Refused place)
+        (answer_of files (texts_of words.now) ≡ refused place)) }
 
-    // `Done` comes only with the whole output written and finished.
-    ensures done { result ≡ Status.Done → (O.finished out.new ≡ true) × IfSome (I.store inputs.old) (λ files.
-        (text : List ℕ) × (answer_of files (texts_of words.now) ≡ writes text) × Appends (O.written out.old) (O.written out.new) text) }
-    ensures complete { IfSome (I.store inputs.old) (λ files. (text : List ℕ) → answer_of files (texts_of words.now) ≡ writes text →
-        ¬ Rises (I.faults inputs.old) (I.faults inputs.new) → ¬ Rises (O.faults out.old) (O.faults out.new) →
+    // `Done` comes only with the whole output written and finished, and it comes for good input.
+    ensures done { result ≡ Status.Done → IfSome (I.store inputs.old) (λ files.
+        HasWritten (answer_of files (texts_of words.now))
+        (Appends (O.written out.old) (O.written out.new))) }
+    ensures finished { result ≡ Status.Done → O.finished out.new ≡ true }
+    ensures complete { IfSome (I.store inputs.old) (λ files. (text : List ℕ) →
+        answer_of files (texts_of words.now) ≡ writes text →
+        ¬ Rises (I.faults inputs.old) (I.faults inputs.new) →
+        ¬ Rises (O.faults out.old) (O.faults out.new) →
         (result ≡ Status.Done) ⊎ (result ≡ Status.NoMemory)) }
 
     // A fault is told only where a call failed, and no failed call is passed over.
-    ensures read_fault { (k : ℕ) → result ≡ Status.ReadFault k → (k ≡ 1)
-        × FailsAt k (I.faults inputs.old) (I.faults inputs.new) (I.opens inputs.old) (I.opens inputs.new) }
-    ensures write_fault { result ≡ Status.WriteFault → (I.faults inputs.new ≡ I.faults inputs.old)
-        × Rises (O.faults out.old) (O.faults out.new) × IfSome (I.store inputs.old) (λ files.
-        (text : List ℕ) × (answer_of files (texts_of words.now) ≡ writes text) × AppendsPrefix (O.written out.old) (O.written out.new) text) }
+    ensures read_fault { (k : ℕ) → result ≡ Status.ReadFault k → (k ≡ 1) × FailsAt k
+        (I.faults inputs.old) (I.faults inputs.new) (I.opens inputs.old) (I.opens inputs.new) }
+    ensures write_fault { result ≡ Status.WriteFault →
+        Rises (O.faults out.old) (O.faults out.new)
+        × (I.faults inputs.new ≡ I.faults inputs.old) }
+    ensures cut_off { result ≡ Status.WriteFault → IfSome (I.store inputs.old) (λ files.
+        HasWritten (answer_of files (texts_of words.now))
+        (AppendsPrefix (O.written out.old) (O.written out.new))) }
     ensures faults { IsWithoutFault result →
         (I.faults inputs.new ≡ I.faults inputs.old) × (O.faults out.new ≡ O.faults out.old) }
 
@@ -62,7 +73,7 @@ pub fn run<I: Inputs, O: Sink>(
     };
     let text = match output(alloc, command, inputs) {
         Ok(text) => text,
-        Err(status) => return status,
+        Err(halt) => return Status::from(halt),
     };
     match write_all(out, &text) {
         Ok(()) => Status::Done,
@@ -71,8 +82,9 @@ pub fn run<I: Inputs, O: Sink>(
 }
 
 /// What a command writes.
-fn output<I: Inputs>(alloc: Global, command: Command<'_>, inputs: &mut I) -> Result<Vec<u8>, Status>
-    ensures makes { IfSome (I.store inputs.old) (λ files. Makes (answer_of_command files (meaning_of command.entry)) result) }
+fn output<I: Inputs>(alloc: Global, command: Command<'_>, inputs: &mut I) -> Result<Vec<u8>, Halt>
+    ensures makes { IfSome (I.store inputs.old)
+        (λ files. Makes (answer_of_command files (meaning_of command.entry)) result) }
     ensures store { I.store inputs.new ≡ I.store inputs.old }
     ensures opens { I.opens inputs.new ≡ raised (I.opens inputs.old) }
     ensures cause { HasFileCause 1 (I.faults inputs.old) (I.faults inputs.new) result }

@@ -1,9 +1,8 @@
 ghost use Rattle.std.specs.Prelude.{◌≡◌, ℕ, ◌+◌, ◌≤◌, ◌<◌, [], ◌∷◌, ◌++◌, length, take};
 ghost use Rattle.text_model.specs.Numbers.{decimal_text};
-ghost use Rattle.pgo_run.specs.Status.{code_of, text_of, status_of_stop};
-ghost use Rattle.pgo_run.specs.declared.status.Status.TheVariants.{NoMemory as no_memory};
+ghost use Rattle.pgo_run.specs.Status.{code_of, text_of};
 
-use io_edge::{NoMemory, Place, Stop};
+use io_edge::Place;
 use itoa::Buffer;
 
 /// How a command ended.
@@ -45,27 +44,8 @@ impl Status {
     }
 }
 
-impl From<Stop> for Status {
-    ghost from_gives = { λ stop status. status ≡ status_of_stop stop };
-
-    fn from(stop: Stop) -> Self {
-        match stop {
-            Stop::Refused(place) => Status::Refused(place),
-            Stop::NoMemory => Status::NoMemory,
-        }
-    }
-}
-
-impl From<NoMemory> for Status {
-    ghost from_gives = { λ _ status. status ≡ no_memory };
-
-    fn from(_: NoMemory) -> Self {
-        Status::NoMemory
-    }
-}
-
-/// Writes the status's line for the error output to the front of `buf`, with its line feed, and answers how many bytes
-/// it has: none for `Done`. No memory is taken.
+/// Writes the status's line for the error output to the front of `buf`, with its line feed, and
+/// answers how many bytes it has: none for `Done`. No memory is taken.
 pub fn status_line(status: &Status, buf: &mut [u8; 256]) -> usize
     ensures length { result ≡ length (text_of status.now) }
     ensures text { take result buf.new ≡ text_of status.now }

@@ -204,7 +204,8 @@ fn counted(alloc: Global) -> Result<(Status, MemorySink), NoMemory> {
     Ok((counts(alloc, b"perf", &mut inputs, &mut out)?, out))
 }
 
-// For runs in which one request for memory is refused. Where it is one of the test's own, there is nothing to see.
+// For runs in which one request for memory is refused. Where it is one of the test's own, there is
+// nothing to see.
 #[test]
 fn without_memory_nothing_is_written(rt: HostRuntime) {
     if let Ok((status, out)) = counted(rt.alloc()) {

@@ -1,42 +1,34 @@
 -- What searches of a line find, in the words of the definitions.
-use Rattle.std.proofs.Common.{◌≡◌, ℕ, suc, ◌+◌, ◌<◌, ◌≤◌, ◌^◌, nat_lt, Bool, true, false, ◌||◌, ◌&&◌, nat_eq, List, [], ◌∷◌, ◌++◌, length, take, drop, Option, None, Some, Ok, Err, refl, sym, ap, subst, ◌∙◌, arith}
+use Rattle.std.proofs.Common.{◌≡◌, ℕ, ◌+◌, ◌<◌, ◌≤◌, ◌^◌, nat_lt, Bool, true, false, ◌||◌, ◌&&◌, List, [], ◌∷◌, ◌++◌, length, take, drop, Option, None, Some, Ok, Err, refl, sym, ap, subst, ◌∙◌, arith}
 use Rattle.std.specs.Prelude.{is_some, is_ok, if◌then◌else◌}
-use Rattle.std.specs.List.{position_or_len, starts_with, list_all, filter_map}
+use Rattle.std.specs.List.{position_or_len, list_all, filter_map}
 use Rattle.std.specs.Result.{result_ok}
-use Rattle.std.proofs.lemmas.Bool.{eqb-true, lt-ltb, le-ltb}
-use Rattle.std.proofs.lemmas.Bool.Decides.{Decides-eqb}
-use Rattle.std.proofs.lemmas.Slice.Eq.{starts_is}
+use Rattle.std.proofs.lemmas.Bool.{false_from_ne_true, lt-ltb, le-ltb}
 use Rattle.std.proofs.lemmas.List.{append-nil, append_assoc, drop_at, length-append, take-append-drop}
 use Rattle.std.proofs.lemmas.List.Prefix.{at_from_reads, at_reads}
 use Rattle.std.proofs.lemmas.List.Sums.{position_or_len_is}
 use Rattle.memchr.specs.Find.{FindsNeedle, IsFirstByte, is_byte}
 use Rattle.text_model.specs.LineTests.{contains}
+use Rattle.text_model.proofs.LineTestLemmas.{contains-parts, parts-contains}
 use Rattle.text_scan.specs.Numbers.{within}
 use Rattle.text_scan.specs.declared.read.NumberFault.TheVariants.{NumberTooLarge}
-use Rattle.io_edge.specs.declared.kind.Kind.TheVariants.{LineTooLong, TooManyEntries}
+use Rattle.refusal.specs.declared.kind.Kind.TheVariants.{LineTooLong, TooManyEntries}
 use Rattle.text_model.specs.Fields.{fields_of}
 use Rattle.branch_stacks.specs.declared.line.LineStop.{LineStop}
-use Rattle.branch_stacks.specs.declared.line.LineStop.TheVariants.{Fault, NoMemory}
+use Rattle.branch_stacks.specs.declared.line.LineStop.TheVariants.{Refused, NoMemory}
 use Rattle.branch_stacks.specs.Line.{ReadsEntry, ReadsSample, ReadsLine}
-use Rattle.sample_model.specs.Judging.{fault_of_line}
+use Rattle.sample_model.specs.Judging.{cause_of_line}
 use Rattle.sample_model.specs.Limits.{max_line_bytes, max_entries}
 use Rattle.sample_model.specs.Line.{◌>>=◌, within_64_bits, is_slash, entry_of, entry_fields, is_sample, is_well_formed, branches_of_line}
-
-suc_not_zero : (n : ℕ) → suc n ≡ 0 → ⊥
-suc_not_zero n is = omega (arith, is)
-
-is_false : (b : Bool) → (b ≡ true → ⊥) → b ≡ false
-is_false true never = absurd (never refl)
-is_false false never = refl
 
 -- the first slash, where there is one
 pub first_slash : (text : List ℕ) (slash : ℕ) → IsFirstByte (is_byte 47) text (Some slash) → position_or_len is_slash text ≡ slash
 first_slash text slash found =
-    position_or_len_is is_slash text slash 0 (omega (arith, found.0.high)) (λ k below. is_false _ (found.0.before k (omega arith) below)) (λ _. found.1)
+    position_or_len_is is_slash text slash 0 (omega (arith, found.0.high)) (λ k below. false_from_ne_true _ (found.0.before k (omega arith) below)) (λ _. found.1)
 
 pub no_slash : (text : List ℕ) → IsFirstByte (is_byte 47) text None → position_or_len is_slash text ≡ length text
 no_slash text none =
-    position_or_len_is is_slash text (length text) 0 (omega arith) (λ k below. is_false _ (none k (omega arith) below)) (λ past. absurd (omega arith))
+    position_or_len_is is_slash text (length text) 0 (omega arith) (λ k below. false_from_ne_true _ (none k (omega arith) below)) (λ past. absurd (omega arith))
 
 -- a number that fits 64 bits, as it is answered and as it is defined
 pub result_ok-within : (n : Option ℕ) → result_ok (within 64 n) ≡ (n >>= within_64_bits)
@@ -48,21 +40,6 @@ pub is_ok-within : (n : Option ℕ) → is_ok (within 64 n) ≡ is_some (n >>= w
 is_ok-within None = refl
 is_ok-within (Some n) =
     elim (nat_lt n (2 ^ 64)) as (λ b. is_ok (if b then Ok n else Err NumberTooLarge) ≡ is_some (if b then Some n else None)) [ true ↦ refl | false ↦ refl ]
-
--- a needle in front of a text
-starts_with-front : (needle rest : List ℕ) → starts_with nat_eq (needle ++ rest) needle ≡ true
-starts_with-front needle rest = (starts_is Decides-eqb (needle ++ rest) needle _ refl).1 rest refl
-
-front-starts_with : (text needle : List ℕ) → starts_with nat_eq text needle ≡ true → text ≡ needle ++ drop (length needle) text
-front-starts_with text needle starts = (starts_is Decides-eqb text needle _ refl).0 starts
-
-true_or : (a b : Bool) → a ≡ true → (a || b) ≡ true
-true_or true b is = refl
-true_or false b is = absurd (cc)
-
-or_true : (a b : Bool) → b ≡ true → (a || b) ≡ true
-or_true true b is = refl
-or_true false b is = is
 
 -- what a || b answers, by the way it took
 pub or-then : (a b answer : Bool) → a ≡ true → answer ≡ true → answer ≡ (a || b)
@@ -77,23 +54,6 @@ pub or_regroup : (a b c : Bool) → ((a || b) || c) ≡ (a || (b || c))
 or_regroup true b c = refl
 or_regroup false b c = refl
 
--- a text contains what stands in it
-contains-parts : (front needle rest : List ℕ) → contains (front ++ (needle ++ rest)) needle ≡ true
-contains-parts [] [] [] = refl
-contains-parts [] [] (b ∷ rest) = refl
-contains-parts [] (n ∷ needle) rest = true_or _ _ (starts_with-front (n ∷ needle) rest)
-contains-parts (b ∷ front) needle rest = or_true _ _ (contains-parts front needle rest)
-
--- where it stands
-parts-contains : (text needle : List ℕ) → contains text needle ≡ true → (front : List ℕ) × (rest : List ℕ) × (text ≡ front ++ (needle ++ rest))
-parts-contains [] [] is = ([], [], refl)
-parts-contains [] (n ∷ needle) is = absurd (suc_not_zero (length needle) (eqb-true (suc (length needle)) 0 is))
-parts-contains (b ∷ text) needle is =
-    elim (starts_with nat_eq (b ∷ text) needle) as (λ v. starts_with nat_eq (b ∷ text) needle ≡ v → (v || contains text needle) ≡ true → (front : List ℕ) × (rest : List ℕ) × (b ∷ text ≡ front ++ (needle ++ rest))) [
-      | true ↦ λ starts _. ([], drop (length needle) (b ∷ text), front-starts_with (b ∷ text) needle starts)
-      | false ↦ λ _ later. let parts = parts-contains text needle later in (b ∷ parts.0, parts.1, ap (λ (t : List ℕ). b ∷ t) parts.2)
-    ] refl is
-
 -- the search for a needle finds one exactly where the text contains it
 pub find-contains : (text needle : List ℕ) (found : Option ℕ) → FindsNeedle text needle 0 found → is_some found ≡ contains text needle
 find-contains text needle (Some k) finds =
@@ -101,7 +61,7 @@ find-contains text needle (Some k) finds =
     let whole : take k text ++ (needle ++ drop (k + length needle) text) ≡ text = ap (λ (t : List ℕ). take k text ++ t) (sym here) ∙ take-append-drop k text in
     sym (subst (λ (t : List ℕ). contains t needle ≡ true) whole (contains-parts (take k text) needle (drop (k + length needle) text)))
 find-contains text needle None finds =
-    sym (is_false (contains text needle) (λ is.
+    sym (false_from_ne_true (contains text needle) (λ is.
     let parts = parts-contains text needle is in
     let here : drop (length parts.0) text ≡ needle ++ parts.1 = subst (λ (t : List ℕ). drop (length parts.0) t ≡ needle ++ parts.1) (sym parts.2) (drop_at parts.0 (needle ++ parts.1) (length parts.0) refl) in
     let fits : length parts.0 + length needle ≤ length text = omega (arith, ap length parts.2, length-append parts.0 (needle ++ parts.1), length-append needle parts.1) in
@@ -143,7 +103,7 @@ EntriesSoFar-bad fields left rest branches field so_far first none = so_far.good
 pub ReadsSample-stop : (line field : List ℕ) (left rest : List (List ℕ)) (branches old new : List (ℕ × ℕ)) (stop : LineStop) → EntriesSoFar (entry_fields (fields_of line)) left branches
     → left ≡ field ∷ rest → ReadsEntry field (Err stop) old new → ReadsSample line (Err stop) new
 unfolding is_well_formed
-ReadsSample-stop line field left rest branches old new (Fault kind) so_far first reads =
+ReadsSample-stop line field left rest branches old new (Refused kind) so_far first reads =
     (reads.0, EntriesSoFar-bad (entry_fields (fields_of line)) left rest branches field so_far first reads.1)
 ReadsSample-stop line field left rest branches old new NoMemory so_far first reads = tt
 
@@ -152,21 +112,21 @@ unfolding is_well_formed
 ReadsSample-all line left branches so_far none = EntriesSoFar-all (entry_fields (fields_of line)) left branches so_far none
 
 -- The causes of a line, one after the other: it is too long,
-pub fault-too_long : (before : ℕ) (line : List ℕ) → max_line_bytes < length line → fault_of_line before line ≡ Some LineTooLong
-unfolding fault_of_line
-fault-too_long before line long = let is : nat_lt max_line_bytes (length line) ≡ true = lt-ltb _ _ long in rw is refl
+pub cause-too_long : (before : ℕ) (line : List ℕ) → max_line_bytes < length line → cause_of_line before line ≡ Some LineTooLong
+unfolding cause_of_line
+cause-too_long before line long = let is : nat_lt max_line_bytes (length line) ≡ true = lt-ltb _ _ long in rw is refl
 
 -- it is no sample,
 pub reads_no_sample : (line : List ℕ) (branches : List (ℕ × ℕ)) → length line ≤ max_line_bytes → is_sample line ≡ false → branches ≡ [] → ReadsLine line (Ok tt) branches
-unfolding fault_of_line branches_of_line
+unfolding cause_of_line branches_of_line
 reads_no_sample line branches short none empty =
     let within : nat_lt max_line_bytes (length line) ≡ false = le-ltb _ _ short in
     (rw (none, empty) refl, λ before. rw (within, none, empty) refl)
 
 -- it is a sample that is not well formed,
 pub ReadsLine-stop : (line : List ℕ) (branches new : List (ℕ × ℕ)) (stop : LineStop) → length line ≤ max_line_bytes → is_sample line ≡ true → ReadsSample line (Err stop) branches → ReadsLine line (Err stop) new
-unfolding fault_of_line
-ReadsLine-stop line branches new (Fault kind) short sample reads =
+unfolding cause_of_line
+ReadsLine-stop line branches new (Refused kind) short sample reads =
     let within : nat_lt max_line_bytes (length line) ≡ false = le-ltb _ _ short in
     λ before. rw (within, sample, reads.1, reads.0) refl
 ReadsLine-stop line branches new NoMemory short sample reads = tt
@@ -176,16 +136,16 @@ pub branches_of_sample : (line : List ℕ) (branches : List (ℕ × ℕ)) → is
 unfolding branches_of_line
 branches_of_sample line branches sample reads = rw sample reads.1
 
-pub fault-many_entries : (line : List ℕ) (branches : List (ℕ × ℕ)) → length line ≤ max_line_bytes → is_sample line ≡ true → ReadsSample line (Ok tt) branches
-    → max_entries < length branches → (before : ℕ) → fault_of_line before line ≡ Some TooManyEntries
-unfolding fault_of_line
-fault-many_entries line branches short sample reads many before =
+pub cause-many_entries : (line : List ℕ) (branches : List (ℕ × ℕ)) → length line ≤ max_line_bytes → is_sample line ≡ true → ReadsSample line (Ok tt) branches
+    → max_entries < length branches → (before : ℕ) → cause_of_line before line ≡ Some TooManyEntries
+unfolding cause_of_line
+cause-many_entries line branches short sample reads many before =
     let within : nat_lt max_line_bytes (length line) ≡ false = le-ltb _ _ short in
     let too_many : nat_lt max_entries (length branches) ≡ true = lt-ltb _ _ many in
     rw (within, sample, reads.0, ← branches_of_sample line branches sample reads, too_many) refl
 
 pub reads_sample : (line : List ℕ) (branches : List (ℕ × ℕ)) → length line ≤ max_line_bytes → is_sample line ≡ true → ReadsSample line (Ok tt) branches → length branches ≤ max_entries → ReadsLine line (Ok tt) branches
-unfolding fault_of_line
+unfolding cause_of_line
 reads_sample line branches short sample reads few =
     let within : nat_lt max_line_bytes (length line) ≡ false = le-ltb _ _ short in
     let not_many : nat_lt max_entries (length branches) ≡ false = le-ltb _ _ few in

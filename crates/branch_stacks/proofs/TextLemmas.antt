@@ -1,25 +1,24 @@
 -- The lines of a text that were counted so far, and the lines that end within a limit.
 use Rattle.std.proofs.Common.{◌≡◌, ℕ, ◌+◌, ◌-◌, ◌<◌, ◌≤◌, nat_lt, nat_le, true, false, List, [], ◌∷◌, ◌++◌, length, map, take, drop, get_or, Option, None, Some, Err, refl, sym, ap, subst, ◌∙◌, arith}
 use Rattle.std.specs.Prelude.{filter, is_none, All}
-use Rattle.std.specs.List.{slice_split, onto_first, enumerate_from, flat_map, prefix_len}
+use Rattle.std.specs.List.{enumerate_from, flat_map, prefix_len}
 use Rattle.std.specs.Option.{option_map, option_or}
 use Rattle.std.proofs.lemmas.Bool.{le-leb, lt-leb, lt-ltb, le-ltb}
 use Rattle.std.proofs.lemmas.List.{append-nil, append_assoc, map-append, length-append, take_at, take_all, take_more, take-append-drop, drop_more, length-drop, get_or-drop}
-use Rattle.std.proofs.lemmas.List.Splits.{slice_split-cons_yes, slice_split-cons_no, slice_split_none}
-use Rattle.io_edge.specs.declared.place.Place.{Place}
-use Rattle.io_edge.specs.declared.kind.Kind.TheVariants.{FileTooLarge}
-use Rattle.io_edge.specs.declared.place.Stop.{Stop}
-use Rattle.io_edge.specs.declared.place.Stop.TheVariants.{Refused, NoMemory}
-use Rattle.io_edge.specs.Place.{first_bad, size_item, JudgesUnlessNoMemory}
+use Rattle.refusal.specs.declared.place.Place.{Place}
+use Rattle.refusal.specs.declared.kind.Kind.TheVariants.{FileTooLarge}
+use Rattle.refusal.specs.declared.place.Stop.{Stop}
+use Rattle.refusal.specs.declared.place.Stop.TheVariants.{Refused, NoMemory}
+use Rattle.refusal.specs.Place.{first_bad, size_item, JudgesUnlessNoMemory}
 use Rattle.branch_stacks.specs.Text.{TellsLinesBefore}
 use Rattle.memchr.specs.Find.{IsLastByte, is_byte}
-use Rattle.text_model.specs.Lines.{is_line_feed, without_end, without_empty_end, lines_of, ended_lines_of}
-use Rattle.text_model.proofs.LineLemmas.{some_part, none_in, ended_lines_of-last}
-use Rattle.io_edge.proofs.PlaceLemmas.{first_bad-append}
+use Rattle.text_model.specs.Lines.{is_line_feed, lines_of, ended_lines_of}
+use Rattle.text_model.proofs.LineLemmas.{none_in, ended_lines_of-last, lines_of-ended_part}
+use Rattle.refusal.proofs.PlaceLemmas.{first_bad-append}
 use Rattle.sample_model.specs.Limits.{max_text_bytes}
 use Rattle.sample_model.specs.Line.{is_sample, branches_of_line}
 use Rattle.sample_model.specs.Samples.{ranges_between, samples_of_lines, branches_of_lines, ranges_of_lines}
-use Rattle.sample_model.specs.Judging.{fault_of_line, item_of_line, items_of_lines, judged_lines_of, lines_before_bad, first_bad_of_text}
+use Rattle.sample_model.specs.Judging.{cause_of_line, item_of_line, items_of_lines, judged_lines_of, lines_before_bad, first_bad_of_text}
 use Rattle.branch_stacks.specs.Table.{Tallies, IsTable, total_in}
 use Rattle.branch_stacks.specs.declared.pair.Pair.{Pair}
 use Rattle.branch_stacks.specs.Tally.{Tally, total_of, AddsStack, TellsOf, IsCounted}
@@ -27,39 +26,6 @@ use Rattle.std.proofs.lemmas.Grind.{flat_map-append}
 use Rattle.std.proofs.lemmas.List.Elements.{filter-append}
 use Rattle.std.proofs.lemmas.List.Sums.{sum_by-cons}
 use Rattle.branch_stacks.proofs.TableLemmas.{Tallies-more}
-
--- the parts of a text around a line feed
-split-around : (xs ys : List ℕ) (b : ℕ) → is_line_feed b ≡ true → slice_split is_line_feed (xs ++ b ∷ ys) ≡ slice_split is_line_feed xs ++ slice_split is_line_feed ys
-split-around [] ys b feed = slice_split-cons_yes is_line_feed b ys feed
-split-around (x ∷ xs) ys b feed =
-    elim (is_line_feed x) as (λ v. is_line_feed x ≡ v → slice_split is_line_feed (x ∷ (xs ++ b ∷ ys)) ≡ slice_split is_line_feed (x ∷ xs) ++ slice_split is_line_feed ys) [
-      | true ↦ λ yes. slice_split-cons_yes is_line_feed x (xs ++ b ∷ ys) yes ∙ ap (λ (parts : List (List ℕ)). [] ∷ parts) (split-around xs ys b feed)
-          ∙ ap (λ (parts : List (List ℕ)). parts ++ slice_split is_line_feed ys) (sym (slice_split-cons_yes is_line_feed x xs yes))
-      | false ↦ λ no. slice_split-cons_no is_line_feed x (xs ++ b ∷ ys) no ∙ ap (onto_first x) (split-around xs ys b feed)
-          ∙ onto_first-append x (slice_split is_line_feed xs) (slice_split is_line_feed ys) (some_part is_line_feed xs)
-          ∙ ap (λ (parts : List (List ℕ)). parts ++ slice_split is_line_feed ys) (sym (slice_split-cons_no is_line_feed x xs no))
-    ] refl
-  where
-    onto_first-append : (x : ℕ) (parts more : List (List ℕ)) → (first : List ℕ) × (rest : List (List ℕ)) × (parts ≡ first ∷ rest) → onto_first x (parts ++ more) ≡ onto_first x parts ++ more
-    onto_first-append x parts more some =
-        ap (λ (ps : List (List ℕ)). onto_first x (ps ++ more)) some.2 ∙ sym (ap (λ (ps : List (List ℕ)). onto_first x ps ++ more) some.2)
-
-without_end-push : (parts : List (List ℕ)) (last : List ℕ) → without_end (parts ++ last ∷ []) ≡ parts
-without_end-push [] last = refl
-without_end-push (part ∷ []) last = refl
-without_end-push (part ∷ next ∷ parts) last = ap (λ (ps : List (List ℕ)). part ∷ ps) (without_end-push (next ∷ parts) last)
-
-without_empty_end-push : (parts : List (List ℕ)) → without_empty_end (parts ++ [] ∷ []) ≡ parts
-without_empty_end-push [] = refl
-without_empty_end-push (part ∷ []) = refl
-without_empty_end-push (part ∷ next ∷ parts) = ap (λ (ps : List (List ℕ)). part ∷ ps) (without_empty_end-push (next ∷ parts))
-
--- up to its last line feed a text has its ended lines
-lines_of-ended_part : (front rest : List ℕ) (b : ℕ) → is_line_feed b ≡ true → All (λ c. is_line_feed c ≡ false) rest → lines_of (front ++ b ∷ []) ≡ ended_lines_of (front ++ b ∷ rest)
-unfolding lines_of ended_lines_of
-lines_of-ended_part front rest b feed none =
-    ap without_empty_end (split-around front [] b feed) ∙ without_empty_end-push (slice_split is_line_feed front)
-    ∙ sym (ap without_end (split-around front rest b feed ∙ ap (λ (ps : List (List ℕ)). slice_split is_line_feed front ++ ps) (slice_split_none is_line_feed rest none)) ∙ without_end-push (slice_split is_line_feed front) rest)
 
 -- the same at the last line feed that a search found
 pub lines_of-last_feed : (front : List ℕ) (end : ℕ) → IsLastByte (is_byte 10) front (Some end) → lines_of (take (end + 1) front) ≡ ended_lines_of front
@@ -151,7 +117,7 @@ CountedSoFar-none file text lines left tally same numbered kept none =
 
 -- a line that is left, told by its number and bytes, with what the lines before it have
 abbrev place_after : ℕ → Tally → ℕ × List ℕ → Option Place
-place_after file tally (number, line) = option_map (λ kind. record { file = file; at = number; kind = kind }) (fault_of_line (total_of tally) line)
+place_after file tally (number, line) = option_map (λ kind. record { file = file; at = number; kind = kind }) (cause_of_line (total_of tally) line)
 
 -- the next line as an item
 item_of_next : (file : ℕ) (done rest lines : List (List ℕ)) (line : List ℕ) (tally : Tally) → done ++ rest ≡ lines → TellsOf done tally
@@ -159,7 +125,7 @@ item_of_next : (file : ℕ) (done rest lines : List (List ℕ)) (line : List ℕ
 item_of_next file done rest lines line tally joined tells =
     let number : length done + 1 - 1 ≡ length done = omega arith in
     let before : take (length done + 1 - 1) lines ≡ done = ap (λ n. take n lines) number ∙ ap (take (length done)) (sym joined) ∙ take_at done rest (length done) refl in
-    ap (λ (n : ℕ). option_map (λ kind. record { file = file; at = length done + 1; kind = kind }) (fault_of_line n line))
+    ap (λ (n : ℕ). option_map (λ kind. record { file = file; at = length done + 1; kind = kind }) (cause_of_line n line))
     (ap (λ (ls : List (List ℕ)). length (branches_of_lines ls)) before ∙ sym tells.branches.total)
 
 -- the first of the lines that are left

@@ -5,21 +5,21 @@ use Rattle.sample_model.specs.Samples.{branches_of_lines, ranges_of_lines, range
 use Rattle.branch_stacks.specs.declared.pair.Pair.{Pair}
 use Rattle.branch_stacks.specs.Table.{AddsPairs, IsTable, Tallies, total_in}
 
--- the distinct branches and the distinct sampled ranges, each with how often it stands
+-- The distinct branches and the distinct sampled ranges, each with how often it stands.
 pub record Tally : Type 0 where
   pub branches : List Pair
   pub ranges : List Pair
 
--- how many branches were counted, all in all
+-- How many branches were counted, all in all.
 abbrev pub total_of : Tally → ℕ
 total_of tally = total_in tally.branches
 
--- the branches of one sample were counted, newest first, and the ranges between them
+-- The branches of one sample were counted, newest first, and the ranges between them.
 pub record AddsStack (old new : Tally) (stack : List (ℕ × ℕ)) : Type 0 where
   pub branches : AddsPairs old.branches new.branches stack
   pub ranges : AddsPairs old.ranges new.ranges (ranges_between stack)
 
--- these lines were counted, and nothing else
+-- These lines were counted, and nothing else.
 pub record TellsOf (lines : List (List ℕ)) (tally : Tally) : Type 0 where
   pub branches : Tallies (branches_of_lines lines) tally.branches
   pub ranges : Tallies (ranges_of_lines lines) tally.ranges

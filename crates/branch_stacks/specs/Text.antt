@@ -1,21 +1,21 @@
 -- What reading a branch text, or one of its lines, gives.
 use Rattle.std.specs.Prelude.{ℕ, List, take, Option, Result, Ok, Err, ⊤}
 use Rattle.std.specs.Option.{option_map}
-use Rattle.io_edge.specs.declared.place.Place.{Place}
-use Rattle.io_edge.specs.declared.place.Stop.{Stop}
-use Rattle.io_edge.specs.declared.place.Stop.TheVariants.{Refused, NoMemory}
+use Rattle.refusal.specs.declared.place.Place.{Place}
+use Rattle.refusal.specs.declared.place.Stop.{Stop}
+use Rattle.refusal.specs.declared.place.Stop.TheVariants.{Refused, NoMemory}
 use Rattle.text_scan.specs.declared.lines.Line.{Line}
 use Rattle.sample_model.specs.Line.{branches_of_line}
-use Rattle.sample_model.specs.Judging.{fault_of_line, judged_lines_of, lines_before_bad}
+use Rattle.sample_model.specs.Judging.{cause_of_line, judged_lines_of, lines_before_bad}
 use Rattle.branch_stacks.specs.Tally.{Tally, total_of, AddsStack, TellsOf}
 
--- the place of a line behind those that were counted, if it is refused
+-- The place of a line behind those that were counted, if it is refused.
 abbrev pub item_of_counted : ℕ → Tally → Line → Option Place
 item_of_counted file tally line =
     option_map (λ kind. record { file = file; at = line.number; kind = kind })
-    (fault_of_line (total_of tally) line.bytes.now)
+    (cause_of_line (total_of tally) line.bytes.now)
 
--- the branches of a line were counted, and the ranges between them
+-- The branches of a line were counted, and the ranges between them.
 abbrev pub CountsLine : Line → Tally → Tally → Type 0
 CountsLine line old new = AddsStack old new (branches_of_line line.bytes.now)
 

@@ -2,11 +2,12 @@ ghost use Rattle.std.specs.Prelude.{◌≡◌, ◌<◌, ◌≤◌, ◌+◌, ◌�
 ghost use Rattle.sample_model.specs.Limits.{max_branches};
 ghost use Rattle.branch_stacks.specs.Table.{AddsPairs, IsTable, total_in};
 ghost use Rattle.branch_stacks.specs.Tally.{AddsStack, IsCounted, total_of};
+ghost use Rattle.branch_stacks.specs.declared.counts.CountsStop.TheVariants.{NoMemory as no_memory};
 
 use crate::pair::Pair;
 use crate::table;
-use io_edge::NoMemory;
-use std::alloc::Global;
+use refusal::NoMemory;
+use std::alloc::{AllocError, Global};
 use std::marker::Model;
 
 /// The most branches that are counted, all in all.
@@ -19,6 +20,14 @@ pub enum CountsStop {
     TooMany,
     /// Memory was refused.
     NoMemory,
+}
+
+impl From<AllocError> for CountsStop {
+    ghost from_gives = { λ _ stop. stop ≡ no_memory };
+
+    fn from(_: AllocError) -> Self {
+        CountsStop::NoMemory
+    }
 }
 
 /// How often each distinct branch, and each distinct range between two branches of a sample, was
@@ -83,11 +92,16 @@ impl Counts {
         self.total
     }
 
-    /// The allocator of the rows. Its clause is what is kept, for callers that ask nothing else.
-    pub(crate) fn allocator(&self) -> Global
+    /// The allocator of the rows.
+    pub(crate) fn allocator(&self) -> Global {
+        *self.branches.allocator()
+    }
+
+    /// What is kept of all counts, for a proof that rests on it. Nothing is done.
+    pub(crate) fn keeps(&self)
         ensures { IsCounted self.now (total_of self.now) }
     {
-        *self.branches.allocator()
+        let _total = self.total;
     }
 
     /// Counts one branch from the address `from` to the address `to` `times` times more, and no
@@ -108,9 +122,7 @@ impl Counts {
         if times > MAX_BRANCHES - self.total {
             return Err(CountsStop::TooMany);
         }
-        if self.branches.try_reserve(1).is_err() {
-            return Err(CountsStop::NoMemory);
-        }
+        self.branches.try_reserve(1)?;
         table::add_times(&mut self.branches, from, to, times);
         self.total += times;
         Ok(())
@@ -135,9 +147,8 @@ impl Counts {
         if count as u64 > MAX_BRANCHES - self.total {
             return Err(CountsStop::TooMany);
         }
-        if self.branches.try_reserve(count).is_err() || self.ranges.try_reserve(count).is_err() {
-            return Err(CountsStop::NoMemory);
-        }
+        self.branches.try_reserve(count)?;
+        self.ranges.try_reserve(count)?;
         table::add_branches(&mut self.branches, entries);
         table::add_ranges(&mut self.ranges, entries);
         self.total += count as u64;

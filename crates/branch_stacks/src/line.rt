@@ -5,9 +5,11 @@ ghost use Rattle.text_model.specs.Fields.{fields_of};
 ghost use Rattle.text_model.specs.LineTests.{is_blank_line as blank_line, is_comment as comment};
 ghost use Rattle.sample_model.specs.Line as model;
 ghost use Rattle.branch_stacks.specs.Line.{ReadsEntry, ReadsSample, ReadsLine};
+ghost use Rattle.branch_stacks.specs.declared.line.LineStop.TheVariants.{NoMemory as no_memory};
 
-use io_edge::Kind;
 use memchr::{memchr, memmem};
+use refusal::Kind;
+use std::alloc::AllocFailed;
 use text_scan::{Fields, hex, prefixed};
 
 /// The most bytes of a line, its line feed not counted.
@@ -19,8 +21,18 @@ const MAX_ENTRIES: usize = 1024;
 /// Why a line was not read.
 #[derive(Clone, Copy, Debug, PartialEq, Eq)]
 pub(crate) enum LineStop {
-    Fault(Kind),
+    /// The line breaks its format, for this cause.
+    Refused(Kind),
+    /// Memory was refused.
     NoMemory,
+}
+
+impl<T: Drop> From<AllocFailed<T>> for LineStop {
+    ghost from_gives = { λ _ stop. stop ≡ no_memory };
+
+    fn from(_: AllocFailed<T>) -> Self {
+        LineStop::NoMemory
+    }
 }
 
 /// Reads the branches of a line, newest first, into `branches`, in place of what was there. A line
@@ -30,14 +42,14 @@ pub(crate) fn read_line(line: &[u8], branches: &mut Vec<(u64, u64)>) -> Result<(
 {
     branches.clear();
     if line.len() > MAX_LINE_BYTES {
-        return Err(LineStop::Fault(Kind::LineTooLong));
+        return Err(LineStop::Refused(Kind::LineTooLong));
     }
     if !is_sample(line) {
         return Ok(());
     }
     read_sample(line, branches)?;
     if branches.len() > MAX_ENTRIES {
-        return Err(LineStop::Fault(Kind::TooManyEntries));
+        return Err(LineStop::Refused(Kind::TooManyEntries));
     }
     Ok(())
 }
@@ -47,21 +59,24 @@ pub(crate) fn read_line(line: &[u8], branches: &mut Vec<(u64, u64)>) -> Result<(
 fn is_sample(line: &[u8]) -> bool
     ensures { result ≡ model.is_sample line.now }
 {
-    !(is_blank(line) || is_comment(line) || is_other_record(line))
+    !(is_blank_line(line) || is_comment(line) || is_other_record(line))
 }
 
-fn is_blank(line: &[u8]) -> bool
+/// Whether a line has no field.
+fn is_blank_line(line: &[u8]) -> bool
     ensures { result ≡ blank_line line.now }
 {
     Fields::new(line).next().is_none()
 }
 
+/// Whether a line begins with `#`.
 fn is_comment(line: &[u8]) -> bool
     ensures { result ≡ comment line.now }
 {
     line.starts_with(b"#")
 }
 
+/// Whether a line is perf's record of another event, which holds `PERF_RECORD_` somewhere.
 fn is_other_record(line: &[u8]) -> bool
     ensures { result ≡ model.is_other_record line.now }
 {
@@ -91,14 +106,13 @@ fn entry_fields(line: &[u8]) -> Fields<'_>
     }
 }
 
+/// Appends the branch of a field, which has to be an entry.
 fn push_entry(field: &[u8], branches: &mut Vec<(u64, u64)>) -> Result<(), LineStop>
     ensures { ReadsEntry field.now result branches.old.items branches.new.items }
 {
-    let branch = entry(field).ok_or(LineStop::Fault(Kind::BadLine))?;
-    match branches.push(branch) {
-        Ok(()) => Ok(()),
-        Err(_) => Err(LineStop::NoMemory),
-    }
+    let branch = entry(field).ok_or(LineStop::Refused(Kind::BadLine))?;
+    branches.push(branch)?;
+    Ok(())
 }
 
 /// The branch of an entry, `FROM/TO` or `FROM/TO/..`.
@@ -122,6 +136,7 @@ fn split_at_slash(text: &[u8]) -> (&[u8], &[u8])
     }
 }
 
+/// An address as an entry has it: hexadecimal behind `0x`, within 64 bits.
 fn address(text: &[u8]) -> Option<u64>
     ensures { result ≡ model.address_of text.now }
 {

@@ -1,5 +1,5 @@
 // A table of pairs as a plain list of rows, which is looked through from its front.
-ghost use Rattle.std.specs.Prelude.{◌≡◌, ℕ, ◌+◌, ◌<◌, ◌≤◌, ◌^◌, ◌&&◌, ◌==◌, length, vec_len, vec_capacity, position, replicate};
+ghost use Rattle.std.specs.Prelude.{◌≡◌, ◌+◌, ◌<◌, ◌≤◌, ◌^◌, ◌&&◌, ◌==◌, length, vec_len, vec_capacity, position, replicate};
 ghost use Rattle.sample_model.specs.Samples.{ranges_between};
 ghost use Rattle.branch_stacks.specs.Table.{AddsPairs, total_in};
 

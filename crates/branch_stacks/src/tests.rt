@@ -1,5 +1,5 @@
 use crate::{Counts, CountsStop, Pair, read_text};
-use io_edge::{Kind, NoMemory, Place, Stop};
+use refusal::{Kind, NoMemory, Place, Stop};
 use std::alloc::Global;
 use std::test::Fail;
 

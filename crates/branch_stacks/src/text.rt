@@ -1,16 +1,16 @@
 // A branch text, line by line.
-ghost use Rattle.std.specs.Prelude.{◌≡◌, OnErr, IsErrOf};
+ghost use Rattle.std.specs.Prelude.{◌≡◌, OnErr};
 ghost use Rattle.text_model.specs.Lines.{lines_of};
-ghost use Rattle.io_edge.specs.Place.{JudgesUnlessNoMemory};
-ghost use Rattle.io_edge.specs.declared.place.Stop.TheVariants.{Refused};
+ghost use Rattle.refusal.specs.Place.{JudgesUnlessNoMemory};
+ghost use Rattle.refusal.specs.declared.place.Stop.TheVariants.{Refused};
 ghost use Rattle.sample_model.specs.Judging.{first_bad_of_text, judged_lines_of};
 ghost use Rattle.branch_stacks.specs.Tally.{total_of, TellsOf};
 ghost use Rattle.branch_stacks.specs.Text.{item_of_counted, CountsLine, TellsLinesBefore};
 
 use crate::counts::{Counts, CountsStop};
 use crate::line::{LineStop, read_line};
-use io_edge::{Kind, Place, Stop};
 use memchr::memrchr;
+use refusal::{Kind, Place, Stop};
 use text_scan::{Line, Lines};
 
 /// The most bytes of a text.
@@ -32,6 +32,7 @@ pub fn read_text(text: &[u8], file: u8, counts: &mut Counts) -> Result<(), Stop>
         (λ _. TellsOf (lines_of text.now) counts.new) }
     ensures before { OnErr result (TellsLinesBefore file text.now result counts.new) }
 {
+    counts.keeps();
     let mut branches = Vec::new(counts.allocator());
     for line in Lines::new(within_limit(text)) {
         count_line(line, file, &mut branches, counts)?;
@@ -69,7 +70,7 @@ fn count_line(
 {
     match read_line(line.bytes, branches) {
         Ok(()) => {}
-        Err(LineStop::Fault(kind)) => return Err(refused(file, line.number, kind)),
+        Err(LineStop::Refused(kind)) => return Err(refused(file, line.number, kind)),
         Err(LineStop::NoMemory) => return Err(Stop::NoMemory),
     }
     match counts.add_stack(branches) {

@@ -1,4 +1,4 @@
 pub mod LebLemmas
 pub mod Spellings
 pub mod TextLemmas
-pub mod Vectors
+pub mod Examples

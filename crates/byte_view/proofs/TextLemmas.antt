@@ -10,13 +10,13 @@ use Rattle.byte_view.specs.Cursor.{Cursor, Reads}
 use Rattle.byte_view.specs.Reading.{SpellsText, text_at}
 
 module _ (bytes : List ℕ) where
-  position-of_first : (k : ℕ) → IsFirstByte (is_byte 0) bytes (Some k) → position_or_len (is_byte 0) bytes ≡ k
+  pub position-of_first : (k : ℕ) → IsFirstByte (is_byte 0) bytes (Some k) → position_or_len (is_byte 0) bytes ≡ k
   position-of_first k first =
       prefix_len_is _ bytes k 0 (omega (arith, first.0.high))
       (λ j below. not_from_false _ (false_from_ne_true _ (first.0.before j (omega arith) below)))
       (λ _. not_from_true _ first.1)
 
-  position-of_none : IsFirstByte (is_byte 0) bytes None → position_or_len (is_byte 0) bytes ≡ length bytes
+  pub position-of_none : IsFirstByte (is_byte 0) bytes None → position_or_len (is_byte 0) bytes ≡ length bytes
   position-of_none nowhere =
       prefix_len_is _ bytes (length bytes) 0 (omega arith)
       (λ j below. not_from_false _ (false_from_ne_true _ (nowhere j (omega arith) below)))

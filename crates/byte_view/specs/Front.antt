@@ -20,6 +20,7 @@ pub record IsNine (bytes : List ℕ) (value tenth : ℕ) : Type 0 where
   pub value_is : value ≡ unsigned_value (take 9 bytes)
   pub tenth_is : tenth ≡ slice_index bytes 9
 
+-- The digits that stand first, in either case.
 abbrev pub IsFront : List ℕ → Front → Type 0
 IsFront bytes (Whole value count scale) = IsWhole bytes value count scale
 IsFront bytes (Nine value tenth) = IsNine bytes value tenth

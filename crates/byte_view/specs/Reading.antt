@@ -63,9 +63,11 @@ leb_at value fits bytes =
     else (if nat_le (length bytes) before_last then Err Short
     else (if fits n then Ok (n, drop (before_last + 1) bytes) else Err LebTooLong))
 
+-- The unsigned LEB128 number.
 unfoldable pub uleb_at : List ℕ → Reading ℕ
 uleb_at bytes = leb_at unsigned_value fits_u64 bytes
 
+-- The signed LEB128 number.
 unfoldable pub sleb_at : List ℕ → Reading ℤ
 sleb_at bytes = leb_at signed_value fits_i64 bytes
 

@@ -61,6 +61,7 @@ impl<'a> Cur<'a> {
         self.rest.len()
     }
 
+    /// Passes the next bytes, and answers them.
     fn pass(&mut self, count: usize) -> &'a [u8]
         requires { count ≤ length self.old.left }
         ensures bytes { result.now ≡ take count self.old.left }

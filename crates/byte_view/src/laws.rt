@@ -1,4 +1,4 @@
-// The definitions seen from the other side: what holds of all spellings, and of what a cursor passes.
+// The definitions seen from the other side: what holds of spellings, and of what a cursor passes.
 ghost use Rattle.std.specs.Prelude.{ℕ};
 ghost use Rattle.byte_view.specs.Laws.{IsPrefixFree, IsReadBack, PassesBytesOfFile};
 ghost use Rattle.byte_view.specs.Reading.{SpellsField, SpellsRun, SpellsText};

@@ -1,8 +1,7 @@
-ghost use Rattle.std.specs.Prelude.{◌≡◌, ◌≤◌, ◌<◌, ◌^◌, drop, length, IfOk, IfErr};
+ghost use Rattle.std.specs.Prelude.{◌≡◌, ◌≤◌, ◌<◌, drop, length, IfOk, IfErr};
 ghost use Rattle.byte_view.specs.Reading.{uleb_at, sleb_at};
 ghost use Rattle.byte_view.specs.Front.{IsFront};
-ghost use Rattle.byte_view.specs.Leb.{IsScale, goes_on, twos_complement};
-ghost use Rattle.std.specs.List.{prefix_len};
+ghost use Rattle.byte_view.specs.Leb.{IsScale, twos_complement};
 
 use crate::fault::ViewFault;
 

@@ -1,6 +1,6 @@
 //! Cursors over the bytes of one file.
 //!
-//! A [`Part`] is a piece of a file, and a [`Cur`] reads it from its first byte on: fields of fixed
+//! A `Part` is a piece of a file, and a `Cur` reads it from its first byte on: fields of fixed
 //! size, the lowest byte first, LEB128 numbers, texts up to a NUL, and runs of bytes. What it hands
 //! out are slices of the file's bytes from its place, which live as long as the file's buffer. No
 //! call takes memory, and a refusal leaves the cursor where it stood.

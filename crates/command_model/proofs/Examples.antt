@@ -3,12 +3,12 @@ use Rattle.std.proofs.Common.{◌≡◌, [], ◌∷◌, refl, Some, None}
 use Rattle.std.specs.Prelude.{codes, if◌then◌else◌}
 use Rattle.std.specs.Fmt.{digits}
 use Rattle.std.specs.Str.{bytes_eq}
-use Rattle.io_edge.specs.declared.kind.Kind.TheVariants.{BadLine}
+use Rattle.refusal.specs.declared.kind.Kind.TheVariants.{BadLine}
 use Rattle.text_model.specs.Lines.{lines_of, ended_lines_of}
 use Rattle.text_model.specs.Fields.{fields_of}
 use Rattle.text_model.specs.Numbers.{number_of, prefixed_of, hex_text}
 use Rattle.sample_model.specs.Line.{address_of, is_ip, entry_of, is_sample, is_well_formed, branches_of_line}
-use Rattle.sample_model.specs.Judging.{fault_of_line, items_of_lines, judged_lines_of}
+use Rattle.sample_model.specs.Judging.{cause_of_line, items_of_lines, judged_lines_of}
 use Rattle.io_edge.specs.Inputs.{Store}
 use Rattle.command_model.specs.Answer.{answer_of}
 use Rattle.command_model.specs.Answer.Answer.{usage, no_such_file, refused, writes}
@@ -47,5 +47,5 @@ answers : (answer_of two_files (codes "counts" ∷ codes "good" ∷ []) ≡ writ
     × (answer_of two_files (codes "counts" ∷ [] ∷ []) ≡ refused (record { file = 1; at = 2; kind = BadLine }))
     × (answer_of two_files (codes "counts" ∷ codes "none" ∷ []) ≡ no_such_file 1)
     × (answer_of two_files (codes "counts" ∷ codes "good" ∷ codes "good" ∷ []) ≡ usage) × (answer_of two_files [] ≡ usage)
-unfolding two_files counts_text hex_text digits lines_of ended_lines_of fields_of number_of prefixed_of address_of is_ip entry_of is_sample is_well_formed branches_of_line fault_of_line items_of_lines judged_lines_of
+unfolding two_files counts_text hex_text digits lines_of ended_lines_of fields_of number_of prefixed_of address_of is_ip entry_of is_sample is_well_formed branches_of_line cause_of_line items_of_lines judged_lines_of
 answers = (refl, refl, refl, refl, refl)

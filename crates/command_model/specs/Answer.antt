@@ -1,23 +1,23 @@
 -- What a command comes to over a store of files, where no call fails and memory suffices.
 use Rattle.std.specs.Prelude.{ℕ, ◌^◌, List, ◌∷◌, Option, None, Some}
 use Rattle.std.specs.Option.{option_map_or}
-use Rattle.io_edge.specs.declared.place.Place.{Place}
+use Rattle.refusal.specs.declared.place.Place.{Place}
 use Rattle.io_edge.specs.Inputs.{Store}
-use Rattle.io_edge.specs.Place.{first_bad, size_item}
+use Rattle.refusal.specs.Place.{first_bad, size_item}
 use Rattle.sample_model.specs.Judging.{items_of_text}
 use Rattle.sample_model.specs.Samples.{branches_of}
 use Rattle.command_model.specs.Command.{Command, counts, command_of}
 use Rattle.command_model.specs.Counts.{counts_text}
 
--- what a command comes to
+-- What a command comes to.
 pub data Answer : Type 0 where
-  -- the words spell no command
+  -- The words spell no command.
   usage : Answer
-  -- the store has no file for the k-th file word
+  -- The store has no file for the k-th file word.
   no_such_file : ℕ → Answer
-  -- the first bad place of the files, in the order of their words
+  -- The first bad place of the files, in the order of their words.
   refused : Place → Answer
-  -- all files are there and good, and this is to be written
+  -- All files are there and good, and this is to be written.
   writes : List ℕ → Answer
 
 -- The k-th file is looked up, then judged. Only a good one leads on.
@@ -25,7 +25,7 @@ abbrev pub with_file : Store → ℕ → List ℕ → (List ℕ → Option Place
 with_file files k name judge next =
     option_map_or (λ bytes. option_map_or refused (judge bytes) (next bytes)) (files name) (no_such_file k)
 
--- the most bytes of a branch text that is read whole
+-- The most bytes of a branch text that is read whole.
 abbrev pub max_whole_text : ℕ
 max_whole_text = 2 ^ 30
 
@@ -33,14 +33,16 @@ max_whole_text = 2 ^ 30
 abbrev pub first_bad_of_whole_text : ℕ → List ℕ → Option Place
 first_bad_of_whole_text file text = first_bad (size_item file max_whole_text text ∷ items_of_text file text)
 
+-- What a command comes to over these files.
 abbrev pub answer_of_command : Store → Command → Answer
 answer_of_command files (counts perf) =
     with_file files 1 perf (first_bad_of_whole_text 1) (λ text. writes (counts_text (branches_of text)))
 
+-- The same where the words may spell no command.
 abbrev pub answer_of_words : Store → Option Command → Answer
 answer_of_words files None = usage
 answer_of_words files (Some command) = answer_of_command files command
 
--- the answer to the words
+-- The answer to the words.
 abbrev pub answer_of : Store → List (List ℕ) → Answer
 answer_of files words = answer_of_words files (command_of words)

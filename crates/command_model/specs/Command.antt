@@ -2,12 +2,12 @@
 use Rattle.std.specs.Prelude.{ℕ, List, [], ◌∷◌, codes, Option, None, Some, if◌then◌else◌}
 use Rattle.std.specs.Str.{bytes_eq}
 
--- what a user can ask for
+-- What a user can ask for.
 pub data Command : Type 0 where
-  -- the branches of a branch text, counted
+  -- The branches of a branch text, counted.
   counts : List ℕ → Command
 
--- the command that the words spell, if they spell one
+-- The command that the words spell, if they spell one.
 abbrev pub command_of : List (List ℕ) → Option Command
 command_of (name ∷ perf ∷ []) = if bytes_eq name (codes "counts") then Some (counts perf) else None
 command_of _ = None

@@ -1,8 +1,8 @@
 -- The definitions computed on a small file: one segment of code and, behind header 0, four sections.
 use Rattle.std.proofs.Common.{◌≡◌, ℕ, true, false, List, [], ◌∷◌, map, take, set, None, Some, refl}
 use Rattle.std.specs.Prelude.{codes}
-use Rattle.io_edge.specs.declared.kind.Kind.TheVariants.{BadHeader, Compressed}
-use Rattle.io_edge.specs.Place.{first_bad}
+use Rattle.refusal.specs.declared.kind.Kind.TheVariants.{BadHeader, Compressed}
+use Rattle.refusal.specs.Place.{first_bad}
 use Rattle.elf_model.specs.Fields.{number_at}
 use Rattle.elf_model.specs.Tables.{section_headers}
 use Rattle.elf_model.specs.Sections.{name_of, section, sections, start, file_size}

@@ -5,8 +5,8 @@ use Rattle.std.specs.List.{Any, list_any, flat_map}
 use Rattle.std.proofs.lemmas.Bool.Decides.{nat_tests, Decides-and, Decides-ltb}
 use Rattle.std.proofs.lemmas.Grind.{and_numeral}
 use Rattle.std.proofs.lemmas.List.Folds.{Any-from_list_any, list_any-from_Any}
-use Rattle.io_edge.specs.declared.place.Place.{Place}
-use Rattle.io_edge.specs.Place.{first_bad}
+use Rattle.refusal.specs.declared.place.Place.{Place}
+use Rattle.refusal.specs.Place.{first_bad}
 use Rattle.elf_model.specs.Tables.{SectionHeader, ProgramHeader, program_headers}
 use Rattle.elf_model.specs.Sections.{start, file_size, section, sections, is_named}
 use Rattle.elf_model.specs.Segments.{is_live, is_code, holds}

@@ -2,10 +2,10 @@
 use Rattle.std.specs.Prelude.{ℕ, ◌*◌, Bool, not, ◌&&◌, ◌||◌, ◌==◌, nat_lt, nat_eq, List, [], ◌∷◌, ◌++◌, length, slice_index, Option, is_none}
 use Rattle.std.specs.List.{starts_with, flat_map}
 use Rattle.std.specs.Option.{option_and_then}
-use Rattle.io_edge.specs.declared.place.Place.{Place}
-use Rattle.io_edge.specs.Place.{fails_at, in_binary}
-use Rattle.io_edge.specs.declared.kind.Kind.{Kind}
-use Rattle.io_edge.specs.declared.kind.Kind.TheVariants.{NotElf, NotElf64Little, BadType, BadHeader, SectionPastEnd, NameBad, Compressed}
+use Rattle.refusal.specs.declared.place.Place.{Place}
+use Rattle.refusal.specs.Place.{fails_at, in_binary}
+use Rattle.refusal.specs.declared.kind.Kind.{Kind}
+use Rattle.refusal.specs.declared.kind.Kind.TheVariants.{NotElf, NotElf64Little, BadType, BadHeader, SectionPastEnd, NameBad, Compressed}
 use Rattle.elf_model.specs.Fields.{passes_end, e_type, e_phoff, e_phentsize, e_phnum, e_shoff, e_shentsize, e_shnum}
 use Rattle.elf_model.specs.Tables.{SectionHeader, has_table, section_count, name_index}
 use Rattle.elf_model.specs.Sections.{is_unused, is_nobits, is_compressed, name_section, name_of, section, sections}

@@ -1,7 +1,7 @@
 -- What follows from the definitions.
 use Rattle.std.specs.Prelude.{◌≡◌, ℕ, ◌+◌, ◌%◌, ◌<◌, ◌≤◌, ◌↔◌, List, length, Some, None}
 use Rattle.std.specs.List.{Any}
-use Rattle.io_edge.specs.Place.{first_bad}
+use Rattle.refusal.specs.Place.{first_bad}
 use Rattle.elf_model.specs.Tables.{SectionHeader, ProgramHeader, program_headers}
 use Rattle.elf_model.specs.Sections.{start, file_size, section}
 use Rattle.elf_model.specs.Segments.{IsLive}

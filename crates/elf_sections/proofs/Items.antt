@@ -2,8 +2,8 @@
 use Rattle.std.proofs.Common.{◌≡◌, ℕ, List, ◌++◌, ap, ◌∙◌}
 use Rattle.std.specs.List.{flat_map}
 use Rattle.std.specs.Option.{option_or}
-use Rattle.io_edge.specs.Place.{first_bad}
-use Rattle.io_edge.proofs.PlaceLemmas.{first_bad-append, first_bad-cons}
+use Rattle.refusal.specs.Place.{first_bad}
+use Rattle.refusal.proofs.PlaceLemmas.{first_bad-append, first_bad-cons}
 use Rattle.elf_model.specs.Sections.{sections}
 use Rattle.elf_model.specs.Items.{items, items_of, identity_items, program_table_items, section_table_items, section_items, name_table_item}
 

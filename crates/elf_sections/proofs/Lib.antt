@@ -1,3 +1,3 @@
-pub mod Entries
+pub mod EntryLemmas
 pub mod Items
 pub mod Texts

@@ -1,15 +1,16 @@
 ghost use Rattle.std.specs.Prelude.{◌≡◌};
-ghost use Rattle.io_edge.specs.Place.{Judges, first_bad};
+ghost use Rattle.refusal.specs.Place.{Judges, first_bad};
 ghost use Rattle.elf_model.specs.Items.{items};
 
+use crate::entries::Entries;
 use crate::file_header::FileHeader;
 use crate::judgement::judge_sections;
 use crate::names::Names;
+use crate::program_header::{ProgramHeader, judge_program_headers};
 use crate::section_header::SectionHeader;
 use crate::section_table::SectionTable;
-use crate::segment::SegmentTable;
 use byte_view::Part;
-use io_edge::{Kind, Place, refuse_if};
+use refusal::{Kind, Place, refuse_if};
 use std::marker::Model;
 
 /// An ELF64 file whose headers are good: its sections, and the ranges of addresses that hold its
@@ -18,7 +19,8 @@ use std::marker::Model;
 /// It borrows the file's bytes, and each section that it finds is lent from them.
 #[derive(Debug, Drop)]
 pub struct Elf<'a> {
-    segments: SegmentTable<'a>,
+    file: &'a [u8],
+    segments: Entries<'a, ProgramHeader>,
     sections: SectionTable<'a>,
     names: Names<'a>,
 }
@@ -30,7 +32,7 @@ impl<'a> Model for Elf<'a> {
 
     ghost use Rattle.elf_sections.specs.Judged.{IsJudged};
 
-    ghost view = { λ elf. elf.sections.file.now };
+    ghost view = { λ elf. elf.file.now };
 
     ghost invariant = { IsJudged };
 }
@@ -38,7 +40,6 @@ impl<'a> Model for Elf<'a> {
 /// Judges the headers of a file, whose size is the caller's to judge.
 ///
 /// # Errors
-///
 /// The first place, in the order of the file header, the section of names and the sections, where
 /// the file breaks a rule of docs/FORMATS.md ("ELF files").
 ///
@@ -48,11 +49,12 @@ pub fn read(file: &[u8]) -> Result<Elf<'_>, Place>
     ensures { Judges (first_bad (items file.now)) result (λ elf. elf ≡ file.now) }
 {
     let header = FileHeader::identify(file)?;
-    let segments = SegmentTable::judge(&header)?;
+    let segments = judge_program_headers(&header)?;
     let sections = SectionTable::judge(&header)?;
-    let names = sections.judge_names()?;
-    judge_sections(&sections, &names)?;
+    let names = sections.judge_names(file)?;
+    judge_sections(&sections, file, &names)?;
     Ok(Elf {
+        file,
         segments,
         sections,
         names,
@@ -61,21 +63,18 @@ pub fn read(file: &[u8]) -> Result<Elf<'_>, Place>
 
 impl<'a> Elf<'a> {
     ghost use Rattle.std.specs.Prelude.{◌≡◌, ◌&&◌, None, IfSome};
-    ghost use Rattle.std.specs.Option.{option_map};
     ghost use Rattle.std.specs.List.{list_any};
-    ghost use Rattle.io_edge.specs.Place.{Judges};
+    ghost use Rattle.refusal.specs.Place.{Judges};
     ghost use Rattle.elf_model.specs.Tables.{program_headers};
     ghost use Rattle.elf_model.specs.Sections.{section};
     ghost use Rattle.elf_model.specs.Segments.{is_code, holds, is_live};
     ghost use Rattle.elf_model.specs.Items.{extent_item, lookup_item};
-    ghost use Rattle.elf_sections.specs.Shown.{header_of};
     ghost use Rattle.elf_sections.specs.Found.{Finds};
 
     /// The piece of the first section of a name, where there is one. A section without bytes in the
     /// file has an empty piece.
     ///
     /// # Errors
-    ///
     /// `Kind::Compressed` at the section's header, where the section's bytes are compressed.
     ///
     /// Source: System V gABI, "Sections", "String Table".
@@ -89,7 +88,7 @@ impl<'a> Elf<'a> {
         };
         let place = Place::in_binary(header.at, Kind::Compressed);
         refuse_if(header.is_compressed(), place)?;
-        Ok(Some(header.piece(self.sections.file)))
+        Ok(Some(header.piece(self.file)))
     }
 
     /// Whether the addresses from `lo` up to `hi`, `hi` left out, are code: `lo` is not 0, there
@@ -109,7 +108,7 @@ impl<'a> Elf<'a> {
             ≡ list_any (λ segment. is_code segment && holds lo hi segment)
             (program_headers self.now) }
     {
-        for segment in self.segments.headers() {
+        for segment in self.segments.iter() {
             if segment.is_code() && segment.holds(lo, hi) {
                 return true;
             }
@@ -120,8 +119,8 @@ impl<'a> Elf<'a> {
     /// The header of the first section of a name.
     #[tactic(auto, unfolding(elf_model::specs::Sections::section))]
     fn find(&self, name: &[u8]) -> Option<SectionHeader>
-        ensures found { option_map header_of result ≡ section self.now name.now }
-        ensures good { IfSome result (λ header. extent_item self.now (header_of header) ≡ None) }
+        ensures found { result ≡ section self.now name.now }
+        ensures good { IfSome result (λ header. extent_item self.now header ≡ None) }
     {
         for header in self.sections.headers() {
             if !header.is_unused() && self.names.has(header.name, name) {

@@ -1,7 +1,7 @@
 ghost use Rattle.std.specs.Prelude.{◌≡◌, ◌≤◌, length};
 
 use crate::fields::{u16_at, u64_at};
-use io_edge::{Kind, Place, refuse_if};
+use refusal::{Kind, Place, refuse_if};
 
 /// The first bytes of each ELF file.
 const MAGIC: &[u8] = b"\x7fELF";
@@ -47,14 +47,13 @@ pub(crate) struct FileHeader<'a> {
 
 impl<'a> FileHeader<'a> {
     ghost use Rattle.std.specs.Prelude.{◌≡◌};
-    ghost use Rattle.io_edge.specs.Place.{Judges, first_bad};
+    ghost use Rattle.refusal.specs.Place.{Judges, first_bad};
     ghost use Rattle.elf_model.specs.Fields.{e_type, e_phoff, e_shoff, e_phentsize, e_phnum, e_shentsize, e_shnum, e_shstrndx};
     ghost use Rattle.elf_model.specs.Items.{identity_items};
 
     /// Judges what the file is: a little-endian ELF64 file that can be loaded.
     ///
     /// # Errors
-    ///
     /// `NotElf` at 0, `NotElf64Little` at `EI_CLASS`, `BadType` at `E_TYPE`.
     pub fn identify(file: &'a [u8]) -> Result<FileHeader<'a>, Place>
         ensures { Judges (first_bad (identity_items file.now)) result
@@ -73,6 +72,7 @@ impl<'a> FileHeader<'a> {
         Ok(header)
     }
 
+    /// `e_type`: what the file is for.
     fn kind(&self) -> u16
         ensures { result ≡ e_type self.now.file.now }
     {
@@ -93,18 +93,21 @@ impl<'a> FileHeader<'a> {
         u64_at(self.file, E_SHOFF)
     }
 
+    /// The size of a program header in bytes.
     pub fn program_header_size(&self) -> u16
         ensures { result ≡ e_phentsize self.now.file.now }
     {
         u16_at(self.file, E_PHENTSIZE)
     }
 
+    /// The number of program headers.
     pub fn program_header_count(&self) -> u16
         ensures { result ≡ e_phnum self.now.file.now }
     {
         u16_at(self.file, E_PHNUM)
     }
 
+    /// The size of a section header in bytes.
     pub fn section_header_size(&self) -> u16
         ensures { result ≡ e_shentsize self.now.file.now }
     {

@@ -8,18 +8,16 @@
 #![tactic(auto)]
 
 mod elf;
+mod entries;
 mod fields;
 mod file_header;
-mod header_zero;
+mod header_0;
 mod judgement;
 mod names;
+mod program_header;
 mod section_header;
-mod section_headers;
 mod section_table;
-mod segment;
-mod segments;
-
-pub use elf::{Elf, read};
-
 #[cfg(test)]
 mod tests;
+
+pub use elf::{Elf, read};

@@ -1,13 +1,15 @@
-ghost use Rattle.std.specs.Prelude.{◌≡◌, ◌+◌, ◌≤◌, ⊤, length, None};
-ghost use Rattle.io_edge.specs.Place.{Judges};
+ghost use Rattle.std.specs.Prelude.{◌≡◌, ◌+◌, ⊤, None};
+ghost use Rattle.refusal.specs.Place.{Judges};
 ghost use Rattle.elf_model.specs.Fields.{passes_end};
 ghost use Rattle.elf_model.specs.Tables.{section_header_at};
-ghost use Rattle.elf_model.specs.Sections.{is_unused, is_nobits, is_compressed, file_size, start, bytes_of};
+ghost use Rattle.elf_model.specs.Sections.{is_unused, is_nobits, is_compressed};
 ghost use Rattle.elf_model.specs.Items.{extent_item};
 
+use crate::entries::Entry;
 use crate::fields::{passes_end, u32_at, u64_at};
 use byte_view::Part;
-use io_edge::{Kind, Place, refuse_if};
+use refusal::{Kind, Place, refuse_if};
+use std::marker::Model;
 
 /// `sh_type` of a header that describes no section.
 const SHT_NULL: u32 = 0;
@@ -18,7 +20,7 @@ const SHF_COMPRESSED: u64 = 0x800;
 
 /// One section header (System V gABI, "Sections", Elf64_Shdr), and the offset in the file at which
 /// it stands.
-#[derive(Clone, Copy, Debug)]
+#[derive(Debug, Drop)]
 pub(crate) struct SectionHeader {
     pub at: usize,
     pub name: u32,
@@ -29,18 +31,32 @@ pub(crate) struct SectionHeader {
     pub link: u32,
 }
 
-impl SectionHeader {
-    ghost use Rattle.elf_sections.specs.Shown.{header_of};
-    ghost use Rattle.elf_sections.specs.Found.{IsPiece};
+impl Model for SectionHeader {
+    ghost use Rattle.elf_model.specs.Tables.{SectionHeader};
 
-    /// The size of a header in bytes.
-    pub const SIZE: u16 = 64;
+    ghost Value = { SectionHeader };
 
-    /// The header at an offset.
-    pub fn at(file: &[u8], at: usize) -> SectionHeader
-        requires { at + 64 ≤ length file.now }
-        ensures { header_of result ≡ section_header_at file.now at }
-    {
+    ghost view = { λ h. record {
+      at = h.at;
+      sh_name = h.name;
+      sh_type = h.kind;
+      sh_flags = h.flags;
+      sh_offset = h.offset;
+      sh_size = h.size;
+      sh_link = h.link;
+    } };
+}
+
+impl Entry for SectionHeader {
+    ghost use Rattle.elf_model.specs.Tables.{section_header_at};
+
+    ghost SIZE = { 64 };
+
+    ghost entry_at = { section_header_at };
+
+    const SIZE: u16 = 64;
+
+    fn at(file: &[u8], at: usize) -> SectionHeader {
         SectionHeader {
             at,
             name: u32_at(file, at),
@@ -51,24 +67,28 @@ impl SectionHeader {
             link: u32_at(file, at + 40),
         }
     }
+}
+
+impl SectionHeader {
+    ghost use Rattle.elf_sections.specs.Found.{IsPiece};
 
     /// Whether the header describes no section.
     pub fn is_unused(&self) -> bool
-        ensures { result ≡ is_unused (header_of self.now) }
+        ensures { result ≡ is_unused self.now }
     {
         self.kind == SHT_NULL
     }
 
     /// Whether the section takes no space in the file.
     pub fn is_nobits(&self) -> bool
-        ensures { result ≡ is_nobits (header_of self.now) }
+        ensures { result ≡ is_nobits self.now }
     {
         self.kind == SHT_NOBITS
     }
 
     /// Whether the section's bytes are compressed.
     pub fn is_compressed(&self) -> bool
-        ensures { result ≡ is_compressed (header_of self.now) }
+        ensures { result ≡ is_compressed self.now }
     {
         self.flags & SHF_COMPRESSED != 0
     }
@@ -76,17 +96,17 @@ impl SectionHeader {
     /// Refuses a section whose bytes pass the end of the file.
     ///
     /// # Errors
-    ///
     /// `SectionPastEnd` at the header.
     pub fn judge_extent(&self, file: &[u8]) -> Result<(), Place>
-        ensures { Judges (extent_item file.now (header_of self.now)) result (λ _. ⊤) }
+        ensures { Judges (extent_item file.now self.now) result (λ _. ⊤) }
     {
         let passes = !self.is_unused() && !self.is_nobits() && self.passes_end(file);
         refuse_if(passes, Place::in_binary(self.at, Kind::SectionPastEnd))
     }
 
+    /// Whether the extent that the header gives passes the end of the file.
     fn passes_end(&self, file: &[u8]) -> bool
-        ensures { result ≡ passes_end file.now self.now.offset self.now.size }
+        ensures { result ≡ passes_end file.now self.now.sh_offset self.now.sh_size }
     {
         passes_end(file, self.offset, u128::from(self.size))
     }
@@ -94,8 +114,8 @@ impl SectionHeader {
     /// The section's bytes; without any, an empty piece at its offset or, where that is past the
     /// end, at the end.
     pub fn piece<'a>(&self, file: &'a [u8]) -> Part<'a>
-        requires { extent_item file.now (header_of self.now) ≡ None }
-        ensures { IsPiece file.now (header_of self.now) result }
+        requires { extent_item file.now self.now ≡ None }
+        ensures { IsPiece file.now self.now result }
     {
         let at = self.offset.min(file.len() as u64) as usize;
         let len = if self.is_unused() || self.is_nobits() {

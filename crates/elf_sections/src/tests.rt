@@ -1,18 +1,17 @@
-//! The small file whole, and with some of its bytes changed.
-
+// The small file whole, and with some of its bytes changed.
 mod small_file;
 
-use super::*;
+use crate::{Elf, read};
 use byte_view::Part;
-use io_edge::{Kind, Place};
+use refusal::{Kind, Place};
 use small_file::SMALL_FILE;
 use std::alloc::{AllocError, Global};
 use std::test::Fail;
 
-/// Bytes that stand at some places of the file in place of its own.
+// Bytes that stand at some places of the file in place of its own.
 type Changes = &'static [(usize, &'static [u8])];
 
-/// The first bytes of the small file, with others at some places.
+// The first bytes of the small file, with others at some places.
 fn changed(alloc: Global, len: usize, changes: Changes) -> Result<Vec<u8>, AllocError> {
     let mut file = Vec::from_slice(alloc, &SMALL_FILE[..len.min(SMALL_FILE.len())])?;
     for (at, bytes) in changes {

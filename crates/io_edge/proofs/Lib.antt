@@ -1,4 +1,3 @@
 mod Copies
 mod Pieces
-mod Worked
-pub mod PlaceLemmas
+mod Examples

@@ -4,6 +4,7 @@ use Rattle.std.specs.List.{position_or_len}
 use Rattle.std.proofs.lemmas.Bool.Decides.{nat_tests}
 use Rattle.std.proofs.lemmas.List.{take-append-drop, take-take, drop-drop, length-take, length-append, nil_from_length}
 use Rattle.std.proofs.lemmas.List.Folds.{find_at}
+use Rattle.std.proofs.lemmas.Option.{slice_get_past}
 use Rattle.io_edge.specs.MemoryInputs.{rest_of}
 use Rattle.io_edge.specs.declared.memory_inputs.StoredFile.{StoredFile}
 
@@ -11,11 +12,6 @@ use Rattle.io_edge.specs.declared.memory_inputs.StoredFile.{StoredFile}
 pub record Leads {X : Type 0} (p : X → Bool) (xs : List X) (r : Option ℕ) : Type 0 where
   pub file : option_and_then (slice_get xs) r ≡ find p xs
   pub found : is_some r ≡ is_some (find p xs)
-
-past : {X : Type 0} (xs : List X) (i : ℕ) → length xs ≤ i → slice_get xs i ≡ None
-past [] i h = refl
-past (x ∷ xs) zero h = absurd (omega arith)
-past (x ∷ xs) (suc i) h = past xs i (omega arith)
 
 within : {X : Type 0} (xs : List X) (i : ℕ) → i < length xs → is_some (slice_get xs i) ≡ true
 within [] i h = absurd (omega arith)
@@ -35,7 +31,7 @@ leads_by p xs r true test is = record {
   found = ap is_some is ∙ sym (ap is_some (find_at p xs) ∙ within xs (position_or_len p xs) (below _ _ test));
 }
 leads_by p xs r false test is =
-    let none : find p xs ≡ None = find_at p xs ∙ past xs (position_or_len p xs) (not_below _ _ test) in
+    let none : find p xs ≡ None = find_at p xs ∙ slice_get_past xs (position_or_len p xs) (not_below _ _ test) in
     record {
       file = ap (option_and_then (slice_get xs)) is ∙ sym none;
       found = ap is_some is ∙ sym (ap is_some none);

@@ -1,7 +1,7 @@
 -- Counts that stand still at their end, and what a count of faults says of a failed call.
 use Rattle.std.specs.Prelude.{◌≡◌, ◌⊎◌, ℕ, ◌+◌, ◌-◌, ◌^◌, ◌<◌, ◌≤◌, min, Result, Ok, Err}
 
--- one more; at the largest 64-bit number a count stands still
+-- One more; at the largest 64-bit number a count stands still.
 abbrev pub raised : ℕ → ℕ
 raised n = min (n + 1) (2 ^ 64 - 1)
 

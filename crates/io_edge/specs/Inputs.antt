@@ -1,7 +1,7 @@
 -- What opening and reading the files of a store gives.
 use Rattle.std.specs.Prelude.{◌≡◌, ℕ, Bool, List, [], ⊤, is_some, unwrap_or, Option, None, Some, Result, Ok, Err}
 
--- a store of files: the bytes of the file of each name that has one
+-- A store of files: the bytes of the file of each name that has one.
 abbrev pub Store : Type 0
 Store = List ℕ → Option (List ℕ)
 

@@ -1,10 +1,7 @@
 pub mod Faults
 pub mod Inputs
-pub mod Kind
-pub mod Laws
 pub mod MemoryInputs
 pub mod MemorySink
 pub mod Outside
-pub mod Place
 pub mod Sink
 pub mod Whole

@@ -7,15 +7,15 @@ use Rattle.io_edge.specs.Inputs.{Store}
 use Rattle.io_edge.specs.declared.memory_inputs.StoredFile.{StoredFile}
 use Rattle.io_edge.specs.declared.memory_inputs.Fail.{Fail}
 
--- the file has this name
+-- The file has this name.
 abbrev pub is_named : List ℕ → StoredFile → Bool
 is_named name file = bytes_eq file.name name
 
--- the store of these files: of two files of one name the first counts
+-- The store of these files: of two files of one name the first counts.
 abbrev pub stored : List StoredFile → Store
 stored files name = option_map (λ file. file.bytes) (find (is_named name) files)
 
--- this call is to fail: the open of this number, counted from 1, where `call` is 0, else the `call`-th read behind it
+-- This call is to fail: the open of this number, counted from 1, where `call` is 0, else the `call`-th read behind it.
 abbrev pub is_planned : List Fail → ℕ → ℕ → Bool
 is_planned fails file call =
     nat_lt 0 file && list_any (λ fail. (fail.file == file) && (fail.call == call)) fails
@@ -40,7 +40,7 @@ pub record GoesByPlan (file call : ℕ) (old new : InputsInMemory) (failed : Boo
   pub piece_stays : new.piece ≡ old.piece
   pub plan_stays : new.fails ≡ old.fails
 
--- the bytes behind this place of the file at this index
+-- The bytes behind this place of the file at this index.
 abbrev pub rest_of : List StoredFile → Option ℕ → ℕ → List ℕ
 rest_of files index at =
     drop at (unwrap_or (option_map (λ file. file.bytes) (option_and_then (slice_get files) index)) [])

@@ -13,15 +13,15 @@ pub record SinkInMemory : Type 0 where
   pub faults : ℕ
   pub finished : Bool
 
--- the call of this number is to fail: 0 is `finish`, and writes count from 1
+-- The call of this number is to fail: 0 is `finish`, and writes count from 1.
 abbrev pub is_to_fail : List ℕ → ℕ → Bool
 is_to_fail fails call = list_any (λ number. number == call) fails
 
--- the write of this number fails: it is to fail, or the room is full
+-- The write of this number fails: it is to fail, or the room is full.
 abbrev pub write_fails : SinkInMemory → ℕ → Bool
 write_fails sink call = is_to_fail sink.fails call || (length sink.written == sink.room)
 
--- a call leaves the room, the piece and the calls that are to fail
+-- A call leaves the room, the piece and the calls that are to fail.
 pub record KeepsPlan (old new : SinkInMemory) : Type 0 where
   pub room_stays : new.room ≡ old.room
   pub piece_stays : new.piece ≡ old.piece

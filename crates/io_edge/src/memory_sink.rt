@@ -4,8 +4,8 @@ ghost use Rattle.io_edge.specs.Faults.{raised, HasCause};
 ghost use Rattle.io_edge.specs.MemorySink.{is_to_fail, write_fails, KeepsPlan};
 ghost use Rattle.io_edge.specs.Sink.{IsTaken};
 
-use crate::place::NoMemory;
 use crate::sink::{Sink, WriteFailed};
+use refusal::NoMemory;
 use std::alloc::Global;
 use std::marker::Model;
 

@@ -1,8 +1,8 @@
 ghost use Rattle.std.specs.Prelude.{◌<◌};
 
 use crate::{
-    Fail, FileInputs, Inputs, Items, Kind, MemoryInputs, MemorySink, ReadStop, Sink, StdSink,
-    StoredFile, WriteFault, read_whole, write_all,
+    Fail, FileInputs, Inputs, Items, MemoryInputs, MemorySink, ReadStop, Sink, StdSink, StoredFile,
+    WriteFault, read_whole, write_all,
 };
 use std::alloc::{AllocError, Global};
 use std::fs::OpenOptions;
@@ -185,10 +185,4 @@ fn a_writer_of_std_is_a_sink(rt: HostRuntime) -> Result<(), test::Fail> {
     assert_eq!(rt; late.write(b"x"), Ok(1));
     assert!(rt; late.finish().is_err());
     Ok(())
-}
-
-#[test]
-fn a_kind_has_its_name(rt: HostRuntime) {
-    assert_eq!(rt; Kind::NotElf64Little.word(), b"NotElf64Little".as_slice());
-    assert_eq!(rt; Kind::Extra.word(), b"Extra".as_slice());
 }

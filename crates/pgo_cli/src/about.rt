@@ -23,6 +23,7 @@ exit status:
   7  memory was refused
 ";
 
+/// What `--version` prints.
 const VERSION: &[u8] = b"pgo 0.1.0\n";
 
 /// The answer to a word that asks for it, where it is the only one.

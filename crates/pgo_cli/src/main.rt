@@ -42,7 +42,7 @@ fn answer<R: AllocGlobal + Env + Files + Print>(rt: &R) -> Status {
 fn report(rt: &impl Eprint, status: &Status) {
     let mut line = [0; 256];
     let len = status_line(status, &mut line);
-    if let Ok(text) = str::from_utf8(&line[..len.min(line.len())]) {
+    if let Ok(text) = str::from_utf8(&line[..len]) {
         let _ = rt.eprint(text);
     }
 }

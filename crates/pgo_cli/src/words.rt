@@ -10,6 +10,7 @@ const MAX_WORD_BYTES: usize = 1 << 17;
 pub(crate) enum WordsStop {
     /// A word has more bytes than the system says that it can have.
     TooLong,
+    /// Memory was refused.
     NoMemory,
 }
 

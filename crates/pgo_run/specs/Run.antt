@@ -5,7 +5,7 @@ use Rattle.command_model.specs.Answer.{Answer, writes}
 use Rattle.pgo_run.specs.declared.status.Status.{Status}
 use Rattle.pgo_run.specs.declared.status.Status.TheVariants.{Done, ReadFault, WriteFault, NoMemory}
 
--- a fault ended the call, or memory was refused
+-- A fault ended the call, or memory was refused.
 abbrev pub IsCutShort : Status → Type 0
 IsCutShort (ReadFault file) = ⊤
 IsCutShort WriteFault = ⊤
@@ -20,13 +20,13 @@ ComesExactly result status cause = (result ≡ status → cause) × (cause → (
 abbrev pub HasWritten : Answer → (List ℕ → Type 0) → Type 0
 HasWritten answer Written = (text : List ℕ) × (answer ≡ writes text) × Written text
 
--- no output was begun
+-- No output was begun.
 abbrev pub IsWithoutOutput : Status → Type 0
 IsWithoutOutput Done = ⊥
 IsWithoutOutput WriteFault = ⊥
 IsWithoutOutput _ = ⊤
 
--- no call failed
+-- No call failed.
 abbrev pub IsWithoutFault : Status → Type 0
 IsWithoutFault (ReadFault file) = ⊥
 IsWithoutFault WriteFault = ⊥

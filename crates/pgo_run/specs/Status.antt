@@ -1,11 +1,11 @@
 -- The codes and the texts of the statuses.
 use Rattle.std.specs.Prelude.{ℕ, List, [], ◌++◌, codes}
-use Rattle.io_edge.specs.Kind.{word_of}
+use Rattle.refusal.specs.Kind.{word_of}
 use Rattle.text_model.specs.Numbers.{decimal_text}
 use Rattle.pgo_run.specs.declared.status.Status.{Status}
 use Rattle.pgo_run.specs.declared.status.Status.TheVariants.{Done, CheckFailed, Usage, NoSuchFile, Refused, ReadFault, WriteFault, NoMemory}
 
--- the exit status of the program
+-- The exit status of the program.
 abbrev pub code_of : Status → ℕ
 code_of Done = 0
 code_of (CheckFailed line) = 1
@@ -16,7 +16,7 @@ code_of (ReadFault file) = 5
 code_of WriteFault = 6
 code_of NoMemory = 7
 
--- the line on the error output, with its line feed; none where all went well
+-- The line on the error output, with its line feed; none where all went well.
 abbrev pub text_of : Status → List ℕ
 text_of Done = []
 text_of (CheckFailed line) = codes "check failed at line " ++ decimal_text line ++ codes "\n"

@@ -5,10 +5,10 @@ use Rattle.command_model.specs.Command as model
 use Rattle.pgo_run.specs.declared.command.Command.{Command}
 use Rattle.pgo_run.specs.declared.command.Command.TheVariants.{Counts}
 
--- the bytes of each word
+-- The bytes of each word.
 abbrev pub texts_of : List (Vec ℕ) → List (List ℕ)
 texts_of words = map (λ w. w.items) words
 
--- what is asked for, apart from where the words lie
+-- What is asked for, apart from where the words lie.
 abbrev pub meaning_of : Command → model.Command
 meaning_of (Counts perf) = model.counts perf.now

@@ -1,7 +1,7 @@
 // `counts`: the branches of a branch text, each with how often it was taken.
 ghost use Rattle.std.specs.Prelude.{◌≡◌, ◌++◌, List, ℕ, IfOk, IfSome, OnOk};
 ghost use Rattle.io_edge.specs.Faults.{raised};
-ghost use Rattle.io_edge.specs.Place.{JudgesUnlessNoMemory};
+ghost use Rattle.refusal.specs.Place.{JudgesUnlessNoMemory};
 ghost use Rattle.text_model.specs.Lines.{lines_of};
 ghost use Rattle.sample_model.specs.Judging.{first_bad_of_text};
 ghost use Rattle.sample_model.specs.Samples.{branches_of_lines};
@@ -15,7 +15,8 @@ ghost use Rattle.pgo_run.specs.Output.{HasFileCause, Makes};
 use crate::halt::Halt;
 use crate::order::read_file;
 use branch_stacks::{Counts, Pair, read_text};
-use io_edge::{Inputs, NoMemory, Stop};
+use io_edge::Inputs;
+use refusal::{NoMemory, Stop};
 use std::alloc::Global;
 use text_scan::{push_hex, push_number};
 
@@ -62,6 +63,7 @@ fn print(alloc: Global, counts: &Counts) -> Result<Vec<u8>, NoMemory>
     Ok(out)
 }
 
+/// Appends the line of one row.
 fn push_row(out: &mut Vec<u8>, row: &Pair) -> Result<(), NoMemory>
     ensures { OnOk result
         (out.new.items ≡ out.old.items ++ counts_line (pair_of row.now) row.now.times) }
@@ -75,6 +77,7 @@ fn push_row(out: &mut Vec<u8>, row: &Pair) -> Result<(), NoMemory>
     Ok(())
 }
 
+/// Appends the line of the number of branches.
 fn push_total(out: &mut Vec<u8>, total: u64) -> Result<(), NoMemory>
     ensures { OnOk result (out.new.items ≡ out.old.items ++ total_line total) }
 {

@@ -3,7 +3,7 @@ ghost use Rattle.pgo_run.specs.Halt.{halt_of_stop, status_of};
 ghost use Rattle.pgo_run.specs.declared.halt.Halt.TheVariants.{NoMemory as no_memory};
 
 use crate::status::Status;
-use io_edge::{NoMemory, Place, Stop};
+use refusal::{NoMemory, Place, Stop};
 
 /// What ends a command before its output is made.
 #[derive(Clone, Copy, Debug)]

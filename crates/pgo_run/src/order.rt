@@ -4,7 +4,8 @@ ghost use Rattle.io_edge.specs.Faults.{raised};
 ghost use Rattle.pgo_run.specs.Output.{ReadsFile, HasFileCause};
 
 use crate::halt::Halt;
-use io_edge::{Inputs, Kind, Place, ReadStop, read_whole};
+use io_edge::{Inputs, ReadStop, read_whole};
+use refusal::{Kind, Place};
 use std::alloc::Global;
 
 /// The bytes of the file of the k-th file word, at most `limit` of them.

@@ -2,7 +2,7 @@ ghost use Rattle.std.specs.Prelude.{◌≡◌, ◌≢◌, ◌⊎◌, ◌↔◌, 
 ghost use Rattle.std.specs.Io.KnownBytes.{Appends};
 ghost use Rattle.io_edge.specs.Faults.{Rises, raised};
 ghost use Rattle.io_edge.specs.Sink.{AppendsPrefix};
-ghost use Rattle.io_edge.specs.declared.place.Place.{Place};
+ghost use Rattle.refusal.specs.declared.place.Place.{Place};
 ghost use Rattle.command_model.specs.Answer.{answer_of, answer_of_command, no_such_file, refused, writes};
 ghost use Rattle.command_model.specs.Command.{command_of};
 ghost use Rattle.pgo_run.specs.Run.{ComesExactly, FailsAt, HasWritten, IsWithoutFault, IsWithoutOutput};

@@ -1,9 +1,9 @@
-ghost use Rattle.std.specs.Prelude.{◌≡◌, ℕ, ◌+◌, ◌≤◌, ◌<◌, [], ◌∷◌, ◌++◌, length, take};
+ghost use Rattle.std.specs.Prelude.{◌≡◌, ◌+◌, ◌≤◌, ◌<◌, [], ◌∷◌, ◌++◌, length, take};
 ghost use Rattle.text_model.specs.Numbers.{decimal_text};
 ghost use Rattle.pgo_run.specs.Status.{code_of, text_of};
 
-use io_edge::Place;
 use itoa::Buffer;
+use refusal::Place;
 
 /// How a command ended.
 #[derive(Clone, Copy, Debug, PartialEq, Eq)]
@@ -47,6 +47,7 @@ impl Status {
 /// Writes the status's line for the error output to the front of `buf`, with its line feed, and
 /// answers how many bytes it has: none for `Done`. No memory is taken.
 pub fn status_line(status: &Status, buf: &mut [u8; 256]) -> usize
+    ensures within { result ≤ 256 }
     ensures length { result ≡ length (text_of status.now) }
     ensures text { take result buf.new ≡ text_of status.now }
 {
@@ -77,7 +78,7 @@ fn put(buf: &mut [u8; 256], at: usize, bytes: &[u8]) -> usize
     end
 }
 
-/// Puts a number's decimal digits.
+/// Puts a number's decimal digits, of which there are at most 20; 20 places more are left behind them.
 fn put_number(buf: &mut [u8; 256], at: usize, n: u64) -> usize
     requires { at ≤ 216 }
     ensures end { result ≡ at + length (decimal_text n) }
@@ -87,9 +88,10 @@ fn put_number(buf: &mut [u8; 256], at: usize, n: u64) -> usize
     put(buf, at, Buffer::new().format(n).as_bytes())
 }
 
-/// Puts a line that ends with a number.
+/// Puts a line of some words, fewer than 30 bytes, and a number.
 fn put_numbered(buf: &mut [u8; 256], words: &[u8], n: u64) -> usize
     requires { length words.now < 30 }
+    ensures within { result ≤ 256 }
     ensures end { result ≡ length words.now + length (decimal_text n) + 1 }
     ensures front { take result buf.new ≡ words.now ++ decimal_text n ++ 10 ∷ [] }
 {
@@ -100,6 +102,7 @@ fn put_numbered(buf: &mut [u8; 256], words: &[u8], n: u64) -> usize
 
 /// Puts the line of a refusal.
 fn put_place(buf: &mut [u8; 256], place: &Place) -> usize
+    ensures within { result ≤ 256 }
     ensures end { result ≡ length (text_of (Status.Refused place.now)) }
     ensures front { take result buf.new ≡ text_of (Status.Refused place.now) }
 {

@@ -1,7 +1,8 @@
 ghost use Rattle.std.specs.Prelude.{◌<◌};
 
 use crate::{Status, run, status_line};
-use io_edge::{Fail, Items, Kind, MemoryInputs, MemorySink, NoMemory, Place, StoredFile};
+use io_edge::{Fail, Items, MemoryInputs, MemorySink, StoredFile};
+use refusal::{Kind, NoMemory, Place};
 use std::alloc::{AllocError, Global};
 use std::test;
 
@@ -12,7 +13,8 @@ const TEXT: &[u8] =
 
 // What `counts` writes for them: 93 bytes.
 const OUTPUT: &[u8] =
-    b"0x401004 0x401010 1\n0x40100c 0x401020 1\n0x401034 0x401000 1\n0x401038 0x401036 2\n# branches 5\n";
+    b"0x401004 0x401010 1\n0x40100c 0x401020 1\n0x401034 0x401000 1\n0x401038 0x401036 2\n\
+    # branches 5\n";
 
 fn file(alloc: Global, name: &[u8], bytes: &[u8]) -> Result<StoredFile, AllocError> {
     Ok(StoredFile {

@@ -2,13 +2,13 @@
 use Rattle.std.proofs.Common.{◌≡◌, ℕ, true, false, List, [], ◌∷◌, ◌++◌, refl, Some, None}
 use Rattle.std.specs.Prelude.{codes, replicate}
 use Rattle.std.specs.List.{flat_map}
-use Rattle.io_edge.specs.declared.kind.Kind.TheVariants.{BadLine, LineTooLong, TooManyEntries, TooManyBranches}
+use Rattle.refusal.specs.declared.kind.Kind.TheVariants.{BadLine, LineTooLong, TooManyEntries, TooManyBranches}
 use Rattle.text_model.specs.Lines.{lines_of, ended_lines_of}
 use Rattle.text_model.specs.Fields.{fields_of}
 use Rattle.text_model.specs.Numbers.{number_of, prefixed_of}
 use Rattle.sample_model.specs.Line.{address_of, is_ip, entry_of, is_sample, is_well_formed, branches_of_line}
-use Rattle.sample_model.specs.Samples.{ranges_between, branches_of, ranges_of}
-use Rattle.sample_model.specs.Judging.{fault_of_line, items_of_lines, judged_lines_of, first_bad_of_text}
+use Rattle.sample_model.specs.Samples.{ranges_between, branches_of, ranges_of_lines}
+use Rattle.sample_model.specs.Judging.{cause_of_line, items_of_lines, judged_lines_of, first_bad_of_text}
 
 -- two samples, and their branches and ranges
 sampled : List ℕ
@@ -21,16 +21,16 @@ five_branches : branches_of sampled
 unfolding sampled lines_of fields_of number_of prefixed_of address_of is_ip entry_of is_sample branches_of_line
 five_branches = refl
 
-three_ranges : ranges_of sampled ≡ (0x401020, 0x401038) ∷ (0x401000, 0x40100c) ∷ (0x401010, 0x401038) ∷ []
+three_ranges : ranges_of_lines (lines_of sampled) ≡ (0x401020, 0x401038) ∷ (0x401000, 0x40100c) ∷ (0x401010, 0x401038) ∷ []
 unfolding sampled lines_of fields_of number_of prefixed_of address_of is_ip entry_of is_sample branches_of_line ranges_between
 three_ranges = refl
 
 no_bad_place : first_bad_of_text 1 sampled ≡ None
-unfolding sampled lines_of ended_lines_of fields_of number_of prefixed_of address_of is_ip entry_of is_sample is_well_formed branches_of_line fault_of_line items_of_lines judged_lines_of
+unfolding sampled lines_of ended_lines_of fields_of number_of prefixed_of address_of is_ip entry_of is_sample is_well_formed branches_of_line cause_of_line items_of_lines judged_lines_of
 no_bad_place = refl
 
 second_line_bad : first_bad_of_text 1 (codes "401036 0x1/0x2\n401036 zz\n0x1\n") ≡ Some (record { file = 1; at = 2; kind = BadLine })
-unfolding lines_of ended_lines_of fields_of number_of prefixed_of address_of is_ip entry_of is_sample is_well_formed branches_of_line fault_of_line items_of_lines judged_lines_of
+unfolding lines_of ended_lines_of fields_of number_of prefixed_of address_of is_ip entry_of is_sample is_well_formed branches_of_line cause_of_line items_of_lines judged_lines_of
 second_line_bad = refl
 
 not_samples : (is_sample (codes "# 0x1/0x2") ≡ false) × (is_sample (codes " 1 PERF_RECORD_MMAP2 2") ≡ false) × (is_sample (codes " \t") ≡ false) × (is_sample (codes " # 0x1/0x2") ≡ true)
@@ -51,15 +51,15 @@ perf_line : List ℕ
 perf_line = codes "          401036  0x401038/0xffffffff81e00010/P/-/-/0//-  0xffffffff81e01020/0x401036/M/-/-/12//-"
 
 as_perf_prints : (branches_of perf_line ≡ (0x401038, 0xffffffff81e00010) ∷ (0xffffffff81e01020, 0x401036) ∷ [])
-    × (ranges_of perf_line ≡ (0x401036, 0x401038) ∷ []) × (first_bad_of_text 1 perf_line ≡ None)
-unfolding perf_line lines_of ended_lines_of fields_of number_of prefixed_of address_of is_ip entry_of is_sample is_well_formed branches_of_line ranges_between fault_of_line items_of_lines judged_lines_of
+    × (ranges_of_lines (lines_of perf_line) ≡ (0x401036, 0x401038) ∷ []) × (first_bad_of_text 1 perf_line ≡ None)
+unfolding perf_line lines_of ended_lines_of fields_of number_of prefixed_of address_of is_ip entry_of is_sample is_well_formed branches_of_line ranges_between cause_of_line items_of_lines judged_lines_of
 as_perf_prints = (refl, refl, refl)
 
-ip_in_front_alone : (fault_of_line 0 (codes "401036") ≡ None) × (fault_of_line 0 (codes "0x") ≡ Some BadLine)
-    × (fault_of_line 0 (codes "0x1/0x2 401036") ≡ Some BadLine) × (fault_of_line 0 (codes "1 2") ≡ Some BadLine)
-    × (fault_of_line 0 (codes "00000000000000001 0x1/0x2") ≡ None) × (fault_of_line 0 (codes "10000000000000000 0x1/0x2") ≡ Some BadLine)
-    × (fault_of_line 0 (codes "0X1 0x1/0x2") ≡ Some BadLine)
-unfolding fields_of number_of prefixed_of address_of is_ip entry_of is_sample is_well_formed branches_of_line fault_of_line
+ip_in_front_alone : (cause_of_line 0 (codes "401036") ≡ None) × (cause_of_line 0 (codes "0x") ≡ Some BadLine)
+    × (cause_of_line 0 (codes "0x1/0x2 401036") ≡ Some BadLine) × (cause_of_line 0 (codes "1 2") ≡ Some BadLine)
+    × (cause_of_line 0 (codes "00000000000000001 0x1/0x2") ≡ None) × (cause_of_line 0 (codes "10000000000000000 0x1/0x2") ≡ Some BadLine)
+    × (cause_of_line 0 (codes "0X1 0x1/0x2") ≡ Some BadLine)
+unfolding fields_of number_of prefixed_of address_of is_ip entry_of is_sample is_well_formed branches_of_line cause_of_line
 ip_in_front_alone = (refl, refl, refl, refl, refl, refl, refl)
 
 slashes : (entry_of (codes "0x1/0x2/") ≡ Some (1, 2)) × (entry_of (codes "0x1/0x2/P//-") ≡ Some (1, 2)) × (entry_of (codes "0x1//0x2") ≡ None)
@@ -68,26 +68,26 @@ unfolding entry_of address_of prefixed_of number_of
 slashes = (refl, refl, refl, refl, refl, refl)
 
 -- A carriage return is a byte of the field in front of it, and a field of its own behind a blank or alone.
-carriage_returns : (fault_of_line 0 (codes "0x1/0x2/P\r") ≡ None) × (fault_of_line 0 (codes "0x1/0x2\r") ≡ Some BadLine)
-    × (fault_of_line 0 (codes "0x1/0x2/P \r") ≡ Some BadLine) × (fault_of_line 0 (codes "\r") ≡ Some BadLine) × (fault_of_line 0 (codes "#\r") ≡ None)
-unfolding fields_of number_of prefixed_of address_of is_ip entry_of is_sample is_well_formed branches_of_line fault_of_line
+carriage_returns : (cause_of_line 0 (codes "0x1/0x2/P\r") ≡ None) × (cause_of_line 0 (codes "0x1/0x2\r") ≡ Some BadLine)
+    × (cause_of_line 0 (codes "0x1/0x2/P \r") ≡ Some BadLine) × (cause_of_line 0 (codes "\r") ≡ Some BadLine) × (cause_of_line 0 (codes "#\r") ≡ None)
+unfolding fields_of number_of prefixed_of address_of is_ip entry_of is_sample is_well_formed branches_of_line cause_of_line
 carriage_returns = (refl, refl, refl, refl, refl)
 
-longest_line : (fault_of_line 0 (replicate 65536 32) ≡ None) × (fault_of_line 0 (replicate 65537 32) ≡ Some LineTooLong)
-    × (fault_of_line 0 (35 ∷ replicate 65536 32) ≡ Some LineTooLong) × (fault_of_line 0 (codes "zz" ++ replicate 65535 32) ≡ Some LineTooLong)
-unfolding fields_of number_of prefixed_of address_of is_ip entry_of is_sample is_well_formed branches_of_line fault_of_line
+longest_line : (cause_of_line 0 (replicate 65536 32) ≡ None) × (cause_of_line 0 (replicate 65537 32) ≡ Some LineTooLong)
+    × (cause_of_line 0 (35 ∷ replicate 65536 32) ≡ Some LineTooLong) × (cause_of_line 0 (codes "zz" ++ replicate 65535 32) ≡ Some LineTooLong)
+unfolding fields_of number_of prefixed_of address_of is_ip entry_of is_sample is_well_formed branches_of_line cause_of_line
 longest_line = (refl, refl, refl, refl)
 
 -- a line of n entries
 entries_of : ℕ → List ℕ
 entries_of n = flat_map (λ field. field) (replicate n (codes " 0x1/0x2"))
 
-most_entries : (fault_of_line 0 (codes "401036" ++ entries_of 1024) ≡ None) × (fault_of_line 0 (entries_of 1025) ≡ Some TooManyEntries)
-    × (fault_of_line 0 (entries_of 1025 ++ codes " zz") ≡ Some BadLine) × (fault_of_line 4294967295 (entries_of 1025) ≡ Some TooManyEntries)
-unfolding entries_of fields_of number_of prefixed_of address_of is_ip entry_of is_sample is_well_formed branches_of_line fault_of_line
+most_entries : (cause_of_line 0 (codes "401036" ++ entries_of 1024) ≡ None) × (cause_of_line 0 (entries_of 1025) ≡ Some TooManyEntries)
+    × (cause_of_line 0 (entries_of 1025 ++ codes " zz") ≡ Some BadLine) × (cause_of_line 4294967295 (entries_of 1025) ≡ Some TooManyEntries)
+unfolding entries_of fields_of number_of prefixed_of address_of is_ip entry_of is_sample is_well_formed branches_of_line cause_of_line
 most_entries = (refl, refl, refl, refl)
 
-most_branches : (fault_of_line 4294967294 (codes "0x1/0x2") ≡ None) × (fault_of_line 4294967295 (codes "0x1/0x2") ≡ Some TooManyBranches)
-    × (fault_of_line 4294967294 (codes "0x1/0x2 0x1/0x2") ≡ Some TooManyBranches) × (fault_of_line 4294967295 (codes "401036") ≡ None)
-unfolding fields_of number_of prefixed_of address_of is_ip entry_of is_sample is_well_formed branches_of_line fault_of_line
+most_branches : (cause_of_line 4294967294 (codes "0x1/0x2") ≡ None) × (cause_of_line 4294967295 (codes "0x1/0x2") ≡ Some TooManyBranches)
+    × (cause_of_line 4294967294 (codes "0x1/0x2 0x1/0x2") ≡ Some TooManyBranches) × (cause_of_line 4294967295 (codes "401036") ≡ None)
+unfolding fields_of number_of prefixed_of address_of is_ip entry_of is_sample is_well_formed branches_of_line cause_of_line
 most_branches = (refl, refl, refl, refl)

@@ -13,9 +13,6 @@ pub same_pair-equal : (p q : ℕ × ℕ) → same_pair p q ≡ true → p ≡ q
 same_pair-equal p q same = let a : p.0 ≡ q.0 = grind (arith, nat_tests) in let b : p.1 ≡ q.1 = grind (arith, nat_tests) in
     let first : ℕ → ℕ × ℕ = λ x. (x, p.1) in let second : ℕ → ℕ × ℕ = λ y. (q.0, y) in ap first a ∙ ap second b
 
-pub pair_lt-irrefl : (p : ℕ × ℕ) → pair_lt p p ≡ false
-pair_lt-irrefl p = grind (arith, nat_tests)
-
 pub pair_lt-trans : (p q r : ℕ × ℕ) → pair_lt p q ≡ true → pair_lt q r ≡ true → pair_lt p r ≡ true
 pair_lt-trans p q r first second = grind (arith, nat_tests)
 

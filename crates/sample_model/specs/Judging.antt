@@ -2,48 +2,48 @@
 use Rattle.std.specs.Prelude.{ℕ, ◌+◌, ◌-◌, nat_lt, nat_le, not, ◌&&◌, List, [], ◌∷◌, ◌++◌, map, length, take, Option, is_none, if◌then◌else◌}
 use Rattle.std.specs.List.{enumerate_from, prefix_len}
 use Rattle.std.specs.Option.{option_map}
-use Rattle.io_edge.specs.declared.kind.Kind.{Kind}
-use Rattle.io_edge.specs.declared.kind.Kind.TheVariants.{LineTooLong, BadLine, TooManyEntries, TooManyBranches}
-use Rattle.io_edge.specs.declared.place.Place.{Place}
-use Rattle.io_edge.specs.Place.{first_bad, first_cause, size_item}
+use Rattle.refusal.specs.declared.kind.Kind.{Kind}
+use Rattle.refusal.specs.declared.kind.Kind.TheVariants.{LineTooLong, BadLine, TooManyEntries, TooManyBranches}
+use Rattle.refusal.specs.declared.place.Place.{Place}
+use Rattle.refusal.specs.Place.{first_bad, first_cause, size_item}
 use Rattle.text_model.specs.Lines.{lines_of, ended_lines_of}
 use Rattle.sample_model.specs.Limits.{max_line_bytes, max_entries, max_branches, max_text_bytes}
 use Rattle.sample_model.specs.Line.{is_sample, is_well_formed, branches_of_line}
 use Rattle.sample_model.specs.Samples.{branches_of_lines}
 
--- why a line is refused, given how many branches the lines before it have
-unfoldable pub fault_of_line : ℕ → List ℕ → Option Kind
-fault_of_line before line = first_cause (
+-- Why a line is refused, given how many branches the lines before it have.
+unfoldable pub cause_of_line : ℕ → List ℕ → Option Kind
+cause_of_line before line = first_cause (
     (nat_lt max_line_bytes (length line), LineTooLong)
     ∷ (is_sample line && not (is_well_formed line), BadLine)
     ∷ (nat_lt max_entries (length (branches_of_line line)), TooManyEntries)
     ∷ (nat_lt max_branches (before + length (branches_of_line line)), TooManyBranches)
     ∷ [])
 
--- the item of a numbered line: its place, if it is refused
+-- The item of a numbered line: its place, if it is refused.
 abbrev pub item_of_line : ℕ → List (List ℕ) → ℕ × List ℕ → Option Place
 item_of_line file lines (number, line) =
     option_map (λ kind. record { file = file; at = number; kind = kind })
-    (fault_of_line (length (branches_of_lines (take (number - 1) lines))) line)
+    (cause_of_line (length (branches_of_lines (take (number - 1) lines))) line)
 
--- the lines as items, in order
+-- The lines as items, in order.
 unfoldable pub items_of_lines : ℕ → List (List ℕ) → List (Option Place)
 items_of_lines file lines = map (item_of_line file lines) (enumerate_from 1 lines)
 
--- the lines that end within the limit of the text's size
+-- The lines that end within the limit of the text's size.
 unfoldable pub judged_lines_of : List ℕ → List (List ℕ)
 judged_lines_of text =
     if nat_le (length text) max_text_bytes then lines_of text else ended_lines_of (take max_text_bytes text)
 
--- the items of a branch text: its lines, and last its size
+-- The items of a branch text: its lines, and last its size.
 abbrev pub items_of_text : ℕ → List ℕ → List (Option Place)
 items_of_text file text = items_of_lines file (judged_lines_of text) ++ size_item file max_text_bytes text ∷ []
 
--- the first bad place of a branch text
+-- The first bad place of a branch text.
 abbrev pub first_bad_of_text : ℕ → List ℕ → Option Place
 first_bad_of_text file text = first_bad (items_of_text file text)
 
--- the lines before the first bad one: all that are judged, where none is bad
+-- The lines before the first bad one: all that are judged, where none is bad.
 abbrev pub lines_before_bad : ℕ → List ℕ → List (List ℕ)
 lines_before_bad file text =
     take (prefix_len is_none (items_of_lines file (judged_lines_of text))) (judged_lines_of text)

@@ -4,16 +4,16 @@ use Rattle.std.specs.List.{AllByRecursion, list_any}
 use Rattle.sample_model.specs.Line.{address_of, entry_of}
 use Rattle.sample_model.specs.Pairs.{same_pair, pair_lt, distinct_pairs}
 
--- each pair stands below all pairs behind it
+-- Each pair stands below all pairs behind it.
 abbrev pub IsAscending : List (ℕ × ℕ) → Type 0
 IsAscending [] = Unit {0}
 IsAscending (p ∷ pairs) = AllByRecursion (λ q. pair_lt p q ≡ true) pairs × IsAscending pairs
 
--- whether a pair stands in a list
+-- Whether a pair stands in a list.
 abbrev pub has_pair : ℕ × ℕ → List (ℕ × ℕ) → Bool
 has_pair p pairs = list_any (same_pair p) pairs
 
--- two lists have the same pairs, however often
+-- Two lists have the same pairs, however often.
 abbrev pub HaveSamePairs : List (ℕ × ℕ) → List (ℕ × ℕ) → Type 0
 HaveSamePairs pairs others = (p : ℕ × ℕ) → has_pair p pairs ≡ has_pair p others
 
@@ -22,9 +22,11 @@ pub record IsDistinctPairs (pairs distinct : List (ℕ × ℕ)) : Type 0 where
   pub ascending : IsAscending distinct
   pub same : HaveSamePairs distinct pairs
 
+-- The distinct pairs of a list are so.
 abbrev pub DistinctPairsAscend : Type 0
 DistinctPairsAscend = (pairs : List (ℕ × ℕ)) → IsDistinctPairs pairs (distinct_pairs pairs)
 
+-- No other list is so.
 abbrev pub DistinctPairsAreUnique : Type 0
 DistinctPairsAreUnique =
     (pairs distinct : List (ℕ × ℕ)) → IsDistinctPairs pairs distinct → distinct ≡ distinct_pairs pairs
@@ -39,6 +41,7 @@ pub record SpellsEntry (field : List ℕ) (branch : ℕ × ℕ) : Type 0 where
   pub to : address_of to_text ≡ Some branch.1
   pub flags : (rest ≡ []) ⊎ ((more : List ℕ) × (rest ≡ codes "/" ++ more))
 
+-- An entry is read exactly as it is spelled.
 abbrev pub EntriesAreSpelled : Type 0
 EntriesAreSpelled =
     (field : List ℕ) (branch : ℕ × ℕ) → (entry_of field ≡ Some branch) ↔ SpellsEntry field branch

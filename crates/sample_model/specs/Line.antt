@@ -5,16 +5,17 @@ use Rattle.text_model.specs.Fields.{fields_of}
 use Rattle.text_model.specs.LineTests.{contains, is_blank_line, is_comment}
 use Rattle.text_model.specs.Numbers.{hex_of, prefixed_of}
 
+-- What the function gives of the value, if there is one: what `do` below chains by.
 infixl 10 ◌>>=◌
 abbrev pub ◌>>=◌ : {A B : Type 0} → Option A → (A → Option B) → Option B
 None >>= f = None
 (Some x) >>= f = f x
 
--- the number, if it fits 64 bits
+-- The number, if it fits 64 bits.
 abbrev pub within_64_bits : ℕ → Option ℕ
 within_64_bits n = if nat_lt n (2 ^ 64) then Some n else None
 
--- an address as an entry holds it: hexadecimal behind 0x, within 64 bits
+-- An address as an entry holds it: hexadecimal behind 0x, within 64 bits.
 unfoldable pub address_of : List ℕ → Option ℕ
 address_of text = prefixed_of text >>= within_64_bits
 
@@ -22,6 +23,7 @@ address_of text = prefixed_of text >>= within_64_bits
 unfoldable pub is_ip : List ℕ → Bool
 is_ip field = is_some (address_of field) || is_some (hex_of field >>= within_64_bits)
 
+-- The byte between the parts of an entry.
 abbrev pub is_slash : ℕ → Bool
 is_slash b = b == 47
 
@@ -32,7 +34,7 @@ entry_of field = do
   to ← address_of (before_first is_slash (after_first is_slash field))
   Some (from, to)
 
--- the fields of a sample that have to be entries: all but an ip in front
+-- The fields of a sample that have to be entries: all but an ip in front.
 abbrev pub entry_fields : List (List ℕ) → List (List ℕ)
 entry_fields [] = []
 entry_fields (first ∷ others) = if is_ip first then others else first ∷ others
@@ -49,7 +51,7 @@ is_sample line = not (is_blank_line line || (is_comment line || is_other_record 
 unfoldable pub is_well_formed : List ℕ → Bool
 is_well_formed line = list_all (λ field. is_some (entry_of field)) (entry_fields (fields_of line))
 
--- the branches of a line, as its entries stand: newest first, and none where the line is no sample (of a sample that is
--- not well formed, those of its fields that are entries, which nothing rests on)
+-- The branches of a line, as its entries stand: newest first, and none where the line is no sample (of a sample that is
+-- not well formed, those of its fields that are entries, which nothing rests on).
 unfoldable pub branches_of_line : List ℕ → List (ℕ × ℕ)
 branches_of_line line = if is_sample line then filter_map entry_of (entry_fields (fields_of line)) else []

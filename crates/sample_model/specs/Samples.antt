@@ -9,24 +9,22 @@ use Rattle.sample_model.specs.Line.{is_sample, branches_of_line}
 abbrev pub range_between : (ℕ × ℕ) × (ℕ × ℕ) → ℕ × ℕ
 range_between (newer, older) = (older.1, newer.0)
 
--- the sampled ranges of one sample: one for each two neighbours among its branches
+-- The sampled ranges of one sample: one for each two neighbours among its branches.
 unfoldable pub ranges_between : List (ℕ × ℕ) → List (ℕ × ℕ)
 ranges_between branches = map range_between (zip branches (drop 1 branches))
 
--- the samples among these lines, each as its branches, newest first
+-- The samples among these lines, each as its branches, newest first.
 abbrev pub samples_of_lines : List (List ℕ) → List (List (ℕ × ℕ))
 samples_of_lines lines = map branches_of_line (filter is_sample lines)
 
--- all branches of these lines
+-- All branches of these lines.
 abbrev pub branches_of_lines : List (List ℕ) → List (ℕ × ℕ)
 branches_of_lines lines = flat_map (λ branches. branches) (samples_of_lines lines)
 
--- all sampled ranges of these lines
+-- All sampled ranges of these lines.
 abbrev pub ranges_of_lines : List (List ℕ) → List (ℕ × ℕ)
 ranges_of_lines lines = flat_map ranges_between (samples_of_lines lines)
 
+-- All branches of a text.
 abbrev pub branches_of : List ℕ → List (ℕ × ℕ)
 branches_of text = branches_of_lines (lines_of text)
-
-abbrev pub ranges_of : List ℕ → List (ℕ × ℕ)
-ranges_of text = ranges_of_lines (lines_of text)

@@ -1,6 +1,7 @@
 mod Examples
 pub mod LawLemmas
 pub mod LineLemmas
+pub mod LineTestLemmas
 pub mod FieldLemmas
 pub mod NumberLemmas
 pub mod DigitLemmas

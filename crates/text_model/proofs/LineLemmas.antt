@@ -1,12 +1,12 @@
 -- The lines of a text, taken off its front one at a time.
-use Rattle.std.proofs.Common.{◌≡◌, ℕ, suc, ◌+◌, ◌<◌, ◌∙◌, get_or, take, drop, length-take, add-one, Bool, true, false, List, [], ◌∷◌, ◌++◌, refl, ap, All, arith, length, ◌==◌}
+use Rattle.std.proofs.Common.{◌≡◌, ℕ, suc, ◌+◌, ◌<◌, ◌∙◌, get_or, take, drop, length-take, add-one, Bool, true, false, List, [], ◌∷◌, ◌++◌, refl, sym, ap, All, arith, length, ◌==◌}
 use Rattle.std.proofs.lemmas.Bool.Decides.{nat_tests}
 use Rattle.std.proofs.Math.Seq.{split_at}
 use Rattle.std.proofs.lemmas.Bool.{false_from_ne_true, eqb-true}
 use Rattle.std.proofs.lemmas.List.{get_or-take, get_or_default}
 use Rattle.std.specs.List.{slice_split, onto_first}
-use Rattle.std.proofs.lemmas.List.Splits.{slice_split_at, slice_split_none}
-use Rattle.text_model.specs.Lines.{is_line_feed, lines_of, ended_lines_of, without_end}
+use Rattle.std.proofs.lemmas.List.Splits.{slice_split_at, slice_split_none, slice_split-cons_yes, slice_split-cons_no}
+use Rattle.text_model.specs.Lines.{is_line_feed, lines_of, ended_lines_of, without_end, without_empty_end}
 
 -- there is always a first part
 pub some_part : {X : Type 0} (p : X → Bool) (xs : List X) → (first : List X) × (parts : List (List X)) × (slice_split p xs ≡ first ∷ parts)
@@ -76,3 +76,36 @@ lines_of-whole (b ∷ line) some none = lines_of-last b line (none_in is_line_fe
 pub lines_of-empty : (text : List ℕ) → (length text == 0) ≡ true → lines_of text ≡ []
 lines_of-empty [] empty = lines_of-nil
 lines_of-empty (b ∷ line) empty = absurd (omega (arith, eqb-true (length (b ∷ line)) 0 empty))
+
+-- the parts of a text around a line feed
+split-around : (xs ys : List ℕ) (b : ℕ) → is_line_feed b ≡ true → slice_split is_line_feed (xs ++ b ∷ ys) ≡ slice_split is_line_feed xs ++ slice_split is_line_feed ys
+split-around [] ys b feed = slice_split-cons_yes is_line_feed b ys feed
+split-around (x ∷ xs) ys b feed =
+    elim (is_line_feed x) as (λ v. is_line_feed x ≡ v → slice_split is_line_feed (x ∷ (xs ++ b ∷ ys)) ≡ slice_split is_line_feed (x ∷ xs) ++ slice_split is_line_feed ys) [
+      | true ↦ λ yes. slice_split-cons_yes is_line_feed x (xs ++ b ∷ ys) yes ∙ ap (λ (parts : List (List ℕ)). [] ∷ parts) (split-around xs ys b feed)
+          ∙ ap (λ (parts : List (List ℕ)). parts ++ slice_split is_line_feed ys) (sym (slice_split-cons_yes is_line_feed x xs yes))
+      | false ↦ λ no. slice_split-cons_no is_line_feed x (xs ++ b ∷ ys) no ∙ ap (onto_first x) (split-around xs ys b feed)
+          ∙ onto_first-append x (slice_split is_line_feed xs) (slice_split is_line_feed ys) (some_part is_line_feed xs)
+          ∙ ap (λ (parts : List (List ℕ)). parts ++ slice_split is_line_feed ys) (sym (slice_split-cons_no is_line_feed x xs no))
+    ] refl
+  where
+    onto_first-append : (x : ℕ) (parts more : List (List ℕ)) → (first : List ℕ) × (rest : List (List ℕ)) × (parts ≡ first ∷ rest) → onto_first x (parts ++ more) ≡ onto_first x parts ++ more
+    onto_first-append x parts more some =
+        ap (λ (ps : List (List ℕ)). onto_first x (ps ++ more)) some.2 ∙ sym (ap (λ (ps : List (List ℕ)). onto_first x ps ++ more) some.2)
+
+without_end-push : (parts : List (List ℕ)) (last : List ℕ) → without_end (parts ++ last ∷ []) ≡ parts
+without_end-push [] last = refl
+without_end-push (part ∷ []) last = refl
+without_end-push (part ∷ next ∷ parts) last = ap (λ (ps : List (List ℕ)). part ∷ ps) (without_end-push (next ∷ parts) last)
+
+without_empty_end-push : (parts : List (List ℕ)) → without_empty_end (parts ++ [] ∷ []) ≡ parts
+without_empty_end-push [] = refl
+without_empty_end-push (part ∷ []) = refl
+without_empty_end-push (part ∷ next ∷ parts) = ap (λ (ps : List (List ℕ)). part ∷ ps) (without_empty_end-push (next ∷ parts))
+
+-- up to its last line feed a text has its ended lines
+pub lines_of-ended_part : (front rest : List ℕ) (b : ℕ) → is_line_feed b ≡ true → All (λ c. is_line_feed c ≡ false) rest → lines_of (front ++ b ∷ []) ≡ ended_lines_of (front ++ b ∷ rest)
+unfolding lines_of ended_lines_of
+lines_of-ended_part front rest b feed none =
+    ap without_empty_end (split-around front [] b feed) ∙ without_empty_end-push (slice_split is_line_feed front)
+    ∙ sym (ap without_end (split-around front rest b feed ∙ ap (λ (ps : List (List ℕ)). slice_split is_line_feed front ++ ps) (slice_split_none is_line_feed rest none)) ∙ without_end-push (slice_split is_line_feed front) rest)

@@ -3,7 +3,7 @@ use Rattle.std.specs.Prelude.{ℕ, ◌==◌, nat_eq, Bool, ◌||◌, List, [], �
 use Rattle.std.specs.List.{starts_with}
 use Rattle.text_model.specs.Fields.{fields_of}
 
--- whether the needle stands in the text somewhere
+-- Whether the needle stands in the text somewhere.
 abbrev pub contains : List ℕ → List ℕ → Bool
 contains [] needle = length needle == 0
 contains (b ∷ text) needle = starts_with nat_eq (b ∷ text) needle || contains text needle

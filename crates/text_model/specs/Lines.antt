@@ -2,17 +2,17 @@
 use Rattle.std.specs.Prelude.{ℕ, ◌==◌, Bool, List, [], ◌∷◌, length, if◌then◌else◌}
 use Rattle.std.specs.List.{slice_split}
 
--- the byte that ends a line
+-- The byte that ends a line.
 abbrev pub is_line_feed : ℕ → Bool
 is_line_feed b = b == 10
 
--- the parts but for an empty last one
+-- The parts but for an empty last one.
 abbrev pub without_empty_end : List (List ℕ) → List (List ℕ)
 without_empty_end [] = []
 without_empty_end (last ∷ []) = if length last == 0 then [] else last ∷ []
 without_empty_end (part ∷ next ∷ parts) = part ∷ without_empty_end (next ∷ parts)
 
--- the parts but for the last one
+-- The parts but for the last one.
 abbrev pub without_end : List (List ℕ) → List (List ℕ)
 without_end [] = []
 without_end (last ∷ []) = []
@@ -22,6 +22,6 @@ without_end (part ∷ next ∷ parts) = part ∷ without_end (next ∷ parts)
 unfoldable pub lines_of : List ℕ → List (List ℕ)
 lines_of text = without_empty_end (slice_split is_line_feed text)
 
--- those lines of a text that a line feed ends
+-- Those lines of a text that a line feed ends.
 unfoldable pub ended_lines_of : List ℕ → List (List ℕ)
 ended_lines_of text = without_end (slice_split is_line_feed text)

@@ -5,15 +5,15 @@ use Rattle.std.specs.Fmt.{decimal, digits}
 use Rattle.std.specs.List.{list_all, starts_with}
 use Rattle.std.specs.Str.Parse.{digits_value}
 
--- at least one digit of the base, and nothing else
+-- At least one digit of the base, and nothing else.
 abbrev pub is_numeral : ℕ → List ℕ → Bool
 is_numeral base text = nat_lt 0 (length text) && list_all (λ c. is_digit c base) text
 
--- the number that a numeral spells, however large; any other text spells none
+-- The number that a numeral spells, however large; any other text spells none.
 unfoldable pub number_of : ℕ → List ℕ → Option ℕ
 number_of base text = if is_numeral base text then Some (digits_value base text) else None
 
--- the number that decimal digits spell
+-- The number that decimal digits spell.
 abbrev pub decimal_of : List ℕ → Option ℕ
 decimal_of text = number_of 10 text
 
@@ -25,14 +25,14 @@ hex_of text = number_of 16 text
 abbrev pub has_prefix : List ℕ → Bool
 has_prefix text = starts_with nat_eq text (codes "0x")
 
--- a hexadecimal number behind 0x
+-- A hexadecimal number behind 0x.
 unfoldable pub prefixed_of : List ℕ → Option ℕ
 prefixed_of text = if has_prefix text then hex_of (drop 2 text) else None
 
--- how a hexadecimal number is printed: lower-case digits behind 0x, without leading zeros (up to 64 digits)
+-- How a hexadecimal number is printed: lower-case digits behind 0x, without leading zeros (up to 64 digits).
 unfoldable pub hex_text : ℕ → List ℕ
 hex_text n = codes "0x" ++ digits 16 false n
 
--- how a decimal number is printed: without leading zeros (up to 64 digits)
+-- How a decimal number is printed: without leading zeros (up to 64 digits).
 abbrev pub decimal_text : ℕ → List ℕ
 decimal_text n = decimal n

@@ -1,6 +1,6 @@
 // The definitions seen from the other side: what is printed is read, and lines and fields are the
 // text again.
-ghost use Rattle.text_model.specs.Laws.{DecimalTextIsRead, FieldsJoin, FieldsSplit, HexTextIsRead, LinesJoin, LinesSplit};
+ghost use Rattle.text_model.specs.Laws.{ContainsIsPart, DecimalTextIsRead, FieldsJoin, FieldsSplit, HexTextIsRead, LinesJoin, LinesSplit};
 
 /// Lines with a line feed behind each, and then a rest without one, are the text.
 pub fn lines_join()
@@ -22,6 +22,11 @@ pub fn fields_join()
 /// blank, these are its fields.
 pub fn fields_split()
     ensures { FieldsSplit }
+{}
+
+/// A text contains a needle exactly where it is a front, the needle and a rest.
+pub fn contains_is_part()
+    ensures { ContainsIsPart }
 {}
 
 /// A printed decimal number is read as that number.

@@ -6,5 +6,6 @@
 mod laws;
 
 pub use laws::{
-    decimal_text_is_read, fields_join, fields_split, hex_text_is_read, lines_join, lines_split,
+    contains_is_part, decimal_text_is_read, fields_join, fields_split, hex_text_is_read,
+    lines_join, lines_split,
 };

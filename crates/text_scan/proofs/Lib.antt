@@ -1,3 +1,3 @@
+mod Examples
 pub mod ReadLemmas
 pub mod WriteLemmas
-pub mod NumberedLemmas

@@ -58,18 +58,21 @@ fn split_field(line: &[u8]) -> Option<(&[u8], &[u8])>
     Some(line.split_at(end))
 }
 
+/// Whether a byte stands between fields: a space or a tab.
 fn is_blank(byte: u8) -> bool
     ensures { result ≡ is_blank byte }
 {
     byte == b' ' || byte == b'\t'
 }
 
+/// Where the first field begins.
 fn first_filled(line: &[u8]) -> Option<usize>
     ensures { result ≡ position (λ b. not (is_blank b)) line.now }
 {
     line.iter().position(|byte| !is_blank(*byte))
 }
 
+/// Where the first blank stands.
 fn first_blank(line: &[u8]) -> Option<usize>
     ensures { result ≡ position is_blank line.now }
 {

@@ -1,8 +1,8 @@
 //! Texts read and written: the lines of a text, the fields of a line, and numbers both ways.
 //!
-//! [`Lines`] and [`Fields`] are iterators that lend slices of the text, so reading takes no memory.
-//! A contract sees each as the list of what is left. [`hex`] and [`prefixed`] read a number or say
-//! why there is none, and [`push_number`] and [`push_hex`] append a number's text.
+//! `Lines` and `Fields` are iterators that lend slices of the text, so reading takes no memory.
+//! A contract sees each as the list of what is left. `hex` and `prefixed` read a number or say
+//! why there is none, and `push_number` and `push_hex` append a number's text.
 #![tactic(auto)]
 
 mod fields;

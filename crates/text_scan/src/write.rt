@@ -2,8 +2,11 @@ ghost use Rattle.std.specs.Prelude.{◌≡◌, ◌++◌, ◌<◌, ◌≤◌, fal
 ghost use Rattle.std.specs.Fmt.{digit_glyph};
 ghost use Rattle.text_model.specs.Numbers.{decimal_text, hex_text};
 
-use io_edge::NoMemory;
 use itoa::Buffer;
+use refusal::NoMemory;
+
+/// The longest text of a hexadecimal number: the prefix and sixteen digits.
+const HEX_LEN: usize = 18;
 
 /// Appends `n` in decimal digits, without leading zeros.
 ///
@@ -32,9 +35,6 @@ pub fn push_hex(out: &mut Vec<u8>, n: u64) -> Result<(), NoMemory>
     Ok(())
 }
 
-/// The longest text of a hexadecimal number: the prefix and sixteen digits.
-const HEX_LEN: usize = 18;
-
 /// Writes the text of `n` at the end of `text`, and answers where it begins.
 fn write_hex(n: u64, text: &mut [u8; HEX_LEN]) -> usize
     ensures within { result ≤ 18 }
@@ -55,6 +55,7 @@ fn write_hex(n: u64, text: &mut [u8; HEX_LEN]) -> usize
     start - 2
 }
 
+/// The lower-case digit of this worth.
 fn hex_glyph(digit: u8) -> u8
     requires { digit < 16 }
     ensures { result ≡ digit_glyph false digit }

@@ -4,15 +4,15 @@ use Rattle.text_model.specs.LineTests.{is_blank_line, is_comment}
 use Rattle.sample_model.specs.Line.{is_sample, is_other_record}
 use Rattle.branch_stacks.proofs.LineLemmas.{or-then, or-else, or_regroup}
 use Rattle.branch_stacks.proofs.line.is_sample.Goals as goal
-use Rattle.branch_stacks.proofs.line.is_sample.Goals.{then-is_blank, else-is_blank, then-is_comment, else-is_comment}
+use Rattle.branch_stacks.proofs.line.is_sample.Goals.{then-is_blank_line, else-is_blank_line, then-is_comment, else-is_comment}
 
 pub returns : goal.returns
 unfolding is_sample
 returns c =
     let line = c.args.line.now in
-    let front : c.if-is_blank.value ≡ (is_blank_line line || is_comment line) = elim c.if-is_blank.branch [
-      | then-is_blank w ↦ or-then _ _ _ (sym c.is_blank.ensures ∙ w.if-is_blank.true) (w.value-is ∙ w.if-is_blank.true)
-      | else-is_blank w ↦ or-else _ _ _ (sym c.is_blank.ensures ∙ w.if-is_blank.false) (w.value-is ∙ w.is_comment.ensures)
+    let front : c.if-is_blank_line.value ≡ (is_blank_line line || is_comment line) = elim c.if-is_blank_line.branch [
+      | then-is_blank_line w ↦ or-then _ _ _ (sym c.is_blank_line.ensures ∙ w.if-is_blank_line.true) (w.value-is ∙ w.if-is_blank_line.true)
+      | else-is_blank_line w ↦ or-else _ _ _ (sym c.is_blank_line.ensures ∙ w.if-is_blank_line.false) (w.value-is ∙ w.is_comment.ensures)
     ]
     in
     let all : c.if-is_comment.result ≡ ((is_blank_line line || is_comment line) || is_other_record line) = elim c.if-is_comment.branch [

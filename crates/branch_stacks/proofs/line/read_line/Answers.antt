@@ -1,10 +1,10 @@
 use Rattle.std.proofs.Common.{sym, ◌∙◌, arith}
 use Rattle.std.proofs.lemmas.Result.{err_from_is_err_and}
-use Rattle.branch_stacks.proofs.LineLemmas.{fault-too_long, reads_no_sample, ReadsLine-stop, fault-many_entries, reads_sample}
+use Rattle.branch_stacks.proofs.LineLemmas.{cause-too_long, reads_no_sample, ReadsLine-stop, cause-many_entries, reads_sample}
 use Rattle.branch_stacks.proofs.line.read_line.Goals as goal
 
 pub returns-then-line-gt-MAX_LINE_BYTES : goal.returns-then-line-gt-MAX_LINE_BYTES
-returns-then-line-gt-MAX_LINE_BYTES c = λ before. fault-too_long before c.args.line.now c.if-line-gt-MAX_LINE_BYTES.true
+returns-then-line-gt-MAX_LINE_BYTES c = λ before. cause-too_long before c.args.line.now c.if-line-gt-MAX_LINE_BYTES.true
 
 pub returns-then-not-is_sample : goal.returns-then-not-is_sample
 returns-then-not-is_sample c =
@@ -17,7 +17,7 @@ returns-in_err-read_sample c =
 
 pub returns-then-len-gt-MAX_ENTRIES : goal.returns-then-len-gt-MAX_ENTRIES
 returns-then-len-gt-MAX_ENTRIES c =
-    fault-many_entries _ _ (omega arith) (sym c.is_sample.ensures ∙ c.if-not-is_sample.false) c.in_ok-read_sample.ensures (omega arith)
+    cause-many_entries _ _ (omega arith) (sym c.is_sample.ensures ∙ c.if-not-is_sample.false) c.in_ok-read_sample.ensures (omega arith)
 
 pub returns : goal.returns
 returns c = reads_sample _ _ (omega arith) (sym c.is_sample.ensures ∙ c.if-not-is_sample.false) c.in_ok-read_sample.ensures (omega arith)

@@ -4,7 +4,7 @@ use Rattle.branch_stacks.proofs.TextLemmas.{CountedSoFar-none, CountedSoFar-more
 use Rattle.branch_stacks.proofs.text.read_text.Goals as goal
 
 pub loop-line-init : goal.loop-line-init
-loop-line-init c = CountedSoFar-none _ _ _ _ _ c.within_limit.ensures (c.into_iter-line-iterator.ensures.into_iter_gives ∙ c.new-line-items.ensures) c.allocator.ensures c.requires
+loop-line-init c = CountedSoFar-none _ _ _ _ _ c.within_limit.ensures (c.into_iter-line-iterator.ensures.into_iter_gives ∙ c.new-line-items.ensures) c.keeps.ensures c.requires
 
 pub loop-line-preserved : goal.loop-line-preserved
 loop-line-preserved c =

@@ -5,4 +5,4 @@ use Rattle.branch_stacks.proofs.counts.Counts.add_stack.Goals as goal
 pub invariant_of-self-2 : goal.invariant_of-self-2
 invariant_of-self-2 c =
     IsCounted-stack _ _ _ _ _ _ _ c.self.invariant c.try_reserve.ensures.items c.add_branches.ensures.added
-    c.try_reserve-else-is_err.ensures.items c.add_ranges.ensures.added (omega arith)
+    c.try_reserve-2.ensures.items c.add_ranges.ensures.added (omega arith)

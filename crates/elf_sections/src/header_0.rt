@@ -1,15 +1,16 @@
 ghost use Rattle.std.specs.Prelude.{◌≡◌, ◌+◌, ◌≤◌, length};
-ghost use Rattle.io_edge.specs.Place.{Judges};
-ghost use Rattle.io_edge.specs.declared.kind.Kind.TheVariants.{BadHeader};
+ghost use Rattle.refusal.specs.Place.{Judges};
+ghost use Rattle.refusal.specs.declared.kind.Kind.TheVariants.{BadHeader};
 ghost use Rattle.elf_model.specs.Fields.{e_shoff};
 ghost use Rattle.elf_model.specs.Tables.{name_index, section_count};
 ghost use Rattle.elf_model.specs.Items.{fails, header_0_passes_end, section_headers_pass_end};
 ghost use Rattle.elf_sections.specs.Room.{HasRoom};
 
+use crate::entries::Entry;
 use crate::fields::passes_end;
 use crate::file_header::{E_SHOFF, FileHeader};
 use crate::section_header::SectionHeader;
-use io_edge::{Kind, Place, refuse_if};
+use refusal::{Kind, Place, refuse_if};
 
 /// `e_shstrndx` where the index stands in header 0.
 const SHN_XINDEX: u16 = 0xffff;

@@ -1,5 +1,5 @@
 // The definitions seen from the other side.
-ghost use Rattle.io_edge.specs.Laws.{PlacesComeInOrder};
+ghost use Rattle.refusal.specs.Laws.{PlacesComeInOrder};
 
 /// The first bad place of items that stand behind others is the first one only where those before
 /// have none.

@@ -1,6 +1,6 @@
 ghost use Rattle.std.specs.Prelude.{◌≡◌, ⊤};
-ghost use Rattle.io_edge.specs.Place.{Judges, fails_at, in_binary};
-ghost use Rattle.io_edge.specs.declared.place.Stop.TheVariants.{Refused, NoMemory as no_memory};
+ghost use Rattle.refusal.specs.Place.{Judges, fails_at, in_binary};
+ghost use Rattle.refusal.specs.declared.place.Stop.TheVariants.{Refused, NoMemory as no_memory};
 
 use crate::kind::Kind;
 use std::alloc::{AllocError, AllocFailed};

@@ -1,10 +1,10 @@
 -- The first bad place of an input, and the answers that tell it.
 use Rattle.std.specs.Prelude.{◌≡◌, ℕ, nat_lt, Bool, ⊤, List, [], ◌∷◌, length, Option, None, Some, Result, Ok, Err, if◌then◌else◌}
-use Rattle.io_edge.specs.declared.kind.Kind.{Kind}
-use Rattle.io_edge.specs.declared.kind.Kind.TheVariants.{FileTooLarge}
-use Rattle.io_edge.specs.declared.place.Place.{Place}
-use Rattle.io_edge.specs.declared.place.Stop.{Stop}
-use Rattle.io_edge.specs.declared.place.Stop.TheVariants.{Refused, NoMemory}
+use Rattle.refusal.specs.declared.kind.Kind.{Kind}
+use Rattle.refusal.specs.declared.kind.Kind.TheVariants.{FileTooLarge}
+use Rattle.refusal.specs.declared.place.Place.{Place}
+use Rattle.refusal.specs.declared.place.Stop.{Stop}
+use Rattle.refusal.specs.declared.place.Stop.TheVariants.{Refused, NoMemory}
 
 -- An input is a list of items in a fixed order, each with the place at which it fails, if it fails. The first bad
 -- place is that of the first item that fails.
@@ -13,20 +13,20 @@ first_bad [] = None
 first_bad (None ∷ items) = first_bad items
 first_bad (Some place ∷ items) = Some place
 
--- an item that fails at this place where its cause holds
+-- An item that fails at this place where its cause holds.
 abbrev pub fails_at : Bool → Place → Option Place
 fails_at cause place = if cause then Some place else None
 
--- the place so many bytes from the start of a binary, which is file 1 of each command that reads one
+-- The place so many bytes from the start of a binary, which is file 1 of each command that reads one.
 abbrev pub in_binary : ℕ → Kind → Place
 in_binary at kind = record { file = 1; at = at; kind = kind }
 
--- the kind of the first cause that holds
+-- The kind of the first cause that holds.
 abbrev pub first_cause : List (Bool × Kind) → Option Kind
 first_cause [] = None
 first_cause ((holds, kind) ∷ causes) = if holds then Some kind else first_cause causes
 
--- the size of a file that has a limit
+-- The size of a file that has a limit.
 abbrev pub size_item : ℕ → ℕ → List ℕ → Option Place
 size_item file limit bytes =
     fails_at (nat_lt limit (length bytes)) (record { file = file; at = limit; kind = FileTooLarge })

@@ -1,9 +1,9 @@
 -- The names of the kinds.
 use Rattle.std.specs.Prelude.{ℕ, List, codes}
-use Rattle.io_edge.specs.declared.kind.Kind.{Kind}
-use Rattle.io_edge.specs.declared.kind.Kind.TheVariants as kinds
+use Rattle.refusal.specs.declared.kind.Kind.{Kind}
+use Rattle.refusal.specs.declared.kind.Kind.TheVariants as kinds
 
--- a kind's name, as it stands in its declaration
+-- A kind's name, as it stands in its declaration.
 abbrev pub word_of : Kind → List ℕ
 word_of kinds.NotElf = codes "NotElf"
 word_of kinds.NotElf64Little = codes "NotElf64Little"

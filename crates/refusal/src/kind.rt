@@ -1,5 +1,5 @@
 ghost use Rattle.std.specs.Prelude.{◌≡◌};
-ghost use Rattle.io_edge.specs.Kind.{word_of};
+ghost use Rattle.refusal.specs.Kind.{word_of};
 
 /// Why an input is refused: one name for each cause, the same in the program's messages.
 ///

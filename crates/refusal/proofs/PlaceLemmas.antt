@@ -1,8 +1,8 @@
 -- The first bad place of lists of items, one behind the other.
 use Rattle.std.proofs.Common.{◌≡◌, List, [], ◌∷◌, ◌++◌, Option, None, Some, refl}
 use Rattle.std.specs.Option.{option_or}
-use Rattle.io_edge.specs.declared.place.Place.{Place}
-use Rattle.io_edge.specs.Place.{first_bad}
+use Rattle.refusal.specs.declared.place.Place.{Place}
+use Rattle.refusal.specs.Place.{first_bad}
 
 pub first_bad-append : (items more : List (Option Place)) → first_bad (items ++ more) ≡ option_or (first_bad items) (first_bad more)
 first_bad-append [] more = refl

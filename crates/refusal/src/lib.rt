@@ -1,0 +1,14 @@
+//! Where an input is refused, and why.
+//!
+//! An input is judged item by item, in a fixed order. `Place` is where the first bad item stands,
+//! `Kind` why it is bad, and `refuse_if` judges one item. `Stop` and `NoMemory` are the answers of
+//! a reading that ended early.
+#![tactic(auto)]
+
+mod kind;
+mod laws;
+mod place;
+
+pub use kind::Kind;
+pub use laws::places_come_in_order;
+pub use place::{NoMemory, Place, Stop, refuse_if};

@@ -1,15 +1,15 @@
 -- The lines of a text that were counted so far, and the lines that end within a limit.
-use Rattle.std.proofs.Common.{◌≡◌, ℕ, ◌+◌, ◌-◌, ◌<◌, ◌≤◌, nat_lt, nat_le, true, false, List, [], ◌∷◌, ◌++◌, length, map, take, drop, get_or, Option, None, Some, Err, refl, sym, ap, subst, ◌∙◌, arith}
+use Rattle.std.proofs.Common.{◌≡◌, ℕ, ◌+◌, ◌-◌, ◌<◌, ◌≤◌, nat_lt, nat_le, Bool, true, false, List, [], ◌∷◌, ◌++◌, length, map, take, drop, get_or, Option, None, Some, Err, refl, sym, ap, subst, ◌∙◌, arith}
 use Rattle.std.specs.Prelude.{filter, is_none, All}
 use Rattle.std.specs.List.{enumerate_from, flat_map, prefix_len}
 use Rattle.std.specs.Option.{option_map, option_or}
-use Rattle.std.proofs.lemmas.Bool.{le-leb, lt-leb, lt-ltb, le-ltb}
+use Rattle.std.proofs.lemmas.Bool.Decides.{nat_tests}
+use Rattle.std.proofs.lemmas.Bool.{le-leb, lt-leb}
 use Rattle.std.proofs.lemmas.List.{append-nil, append_assoc, map-append, length-append, take_at, take_all, take_more, take-append-drop, drop_more, length-drop, get_or-drop}
 use Rattle.refusal.specs.declared.place.Place.{Place}
-use Rattle.refusal.specs.declared.kind.Kind.TheVariants.{FileTooLarge}
 use Rattle.refusal.specs.declared.place.Stop.{Stop}
 use Rattle.refusal.specs.declared.place.Stop.TheVariants.{Refused, NoMemory}
-use Rattle.refusal.specs.Place.{first_bad, size_item, JudgesUnlessNoMemory}
+use Rattle.refusal.specs.Place.{first_bad, fails_at, size_item, JudgesUnlessNoMemory}
 use Rattle.branch_stacks.specs.Text.{TellsLinesBefore}
 use Rattle.memchr.specs.Find.{IsLastByte, is_byte}
 use Rattle.text_model.specs.Lines.{is_line_feed, lines_of, ended_lines_of}
@@ -221,17 +221,30 @@ read_stop file text left others next old new (Refused place) P Q so_far first ju
 read_stop file text left others next old new NoMemory P Q so_far first judged same =
     (tt, subst (λ (t : Tally). (n : ℕ) × TellsOf (take n (judged_lines_of text)) t) (sym same) (CountedSoFar-some file (judged_lines_of text) left old so_far))
 
--- a text without a bad line that is too long
-pub read_too_large : (file : ℕ) (text : List ℕ) (left : List (ℕ × List ℕ)) (tally : Tally) → CountedSoFar file (judged_lines_of text) left tally → left ≡ [] → max_text_bytes < length text
-    → (first_bad_of_text file text ≡ Some (record { file = file; at = max_text_bytes; kind = FileTooLarge })) × TellsOf (lines_before_bad file text) tally
-read_too_large file text left tally so_far none over =
-    let all = CountedSoFar-all file (judged_lines_of text) left tally so_far none in
-    let is : nat_lt max_text_bytes (length text) ≡ true = lt-ltb _ _ over in
-    (first_bad_of_size file text all.0 ∙ rw is refl, subst (λ (ls : List (List ℕ)). TellsOf ls tally) (sym all.1.1) all.1.0)
+-- a text without a bad line whose size is judged: it is bad,
+pub read_bad_size : (file : ℕ) (text : List ℕ) (left : List (ℕ × List ℕ)) (tally : Tally) (place : Place) → CountedSoFar file (judged_lines_of text) left tally → left ≡ []
+    → size_item file max_text_bytes text ≡ Some place
+    → (first_bad_of_text file text ≡ Some place) × TellsOf (lines_before_bad file text) tally
+read_bad_size file text left tally place so_far none bad =
+    let all = CountedSoFar-all file (judged_lines_of text) left tally so_far none in (
+      first_bad_of_size file text all.0 ∙ ap (λ item. first_bad (item ∷ [])) bad,
+      subst (λ (ls : List (List ℕ)). TellsOf ls tally) (sym all.1.1) all.1.0,
+    )
 
-pub read_whole : (file : ℕ) (text : List ℕ) (left : List (ℕ × List ℕ)) (tally : Tally) → CountedSoFar file (judged_lines_of text) left tally → left ≡ [] → length text ≤ max_text_bytes
+-- or within the limit.
+pub read_whole : (file : ℕ) (text : List ℕ) (left : List (ℕ × List ℕ)) (tally : Tally) → CountedSoFar file (judged_lines_of text) left tally → left ≡ []
+    → size_item file max_text_bytes text ≡ None
     → (first_bad_of_text file text ≡ None) × TellsOf (lines_of text) tally
-read_whole file text left tally so_far none within =
+read_whole file text left tally so_far none good =
     let all = CountedSoFar-all file (judged_lines_of text) left tally so_far none in
-    let is : nat_lt max_text_bytes (length text) ≡ false = le-ltb _ _ within in
-    (first_bad_of_size file text all.0 ∙ rw is refl, subst (λ (ls : List (List ℕ)). TellsOf ls tally) (judged_lines_of-whole text within) all.1.0)
+    let within : length text ≤ max_text_bytes = le_from _ _ (holds_not _ _ good) in (
+      first_bad_of_size file text all.0 ∙ ap (λ item. first_bad (item ∷ [])) good,
+      subst (λ (ls : List (List ℕ)). TellsOf ls tally) (judged_lines_of-whole text within) all.1.0,
+    )
+  where
+    holds_not : (cause : Bool) (place : Place) → fails_at cause place ≡ None → cause ≡ false
+    holds_not true place good = absurd cc
+    holds_not false place good = refl
+
+    le_from : (m n : ℕ) → nat_lt m n ≡ false → n ≤ m
+    le_from m n not_below = grind (arith, nat_tests)

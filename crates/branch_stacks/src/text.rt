@@ -10,7 +10,7 @@ ghost use Rattle.branch_stacks.specs.Text.{item_of_counted, CountsLine, TellsLin
 use crate::counts::{Counts, CountsStop};
 use crate::line::{LineStop, read_line};
 use memchr::memrchr;
-use refusal::{Kind, Place, Stop};
+use refusal::{Kind, Place, Stop, refuse_if};
 use text_scan::{Line, Lines};
 
 /// The most bytes of a text.
@@ -37,9 +37,12 @@ pub fn read_text(text: &[u8], file: u8, counts: &mut Counts) -> Result<(), Stop>
     for line in Lines::new(within_limit(text)) {
         count_line(line, file, &mut branches, counts)?;
     }
-    if text.len() > MAX_TEXT_BYTES {
-        return Err(refused(file, MAX_TEXT_BYTES as u64, Kind::FileTooLarge));
-    }
+    let too_large = Place {
+        file,
+        at: MAX_TEXT_BYTES as u64,
+        kind: Kind::FileTooLarge,
+    };
+    refuse_if(text.len() > MAX_TEXT_BYTES, too_large)?;
     Ok(())
 }
 
@@ -80,7 +83,7 @@ fn count_line(
     }
 }
 
-/// The refusal of a text at a line, or at its limit.
+/// The refusal of a text at the line of this number.
 fn refused(file: u8, at: u64, kind: Kind) -> Stop
     ensures { result ≡ Refused (record { file = file; at = at; kind = kind }) }
 {

@@ -1,7 +1,6 @@
-ghost use Rattle.std.specs.Prelude.{◌≡◌, ◌+◌, ⊤, None};
+ghost use Rattle.std.specs.Prelude.{◌≡◌, ⊤, None};
 ghost use Rattle.refusal.specs.Place.{Judges};
 ghost use Rattle.elf_model.specs.Fields.{passes_end};
-ghost use Rattle.elf_model.specs.Tables.{section_header_at};
 ghost use Rattle.elf_model.specs.Sections.{is_unused, is_nobits, is_compressed};
 ghost use Rattle.elf_model.specs.Items.{extent_item};
 

@@ -8,7 +8,7 @@ use Rattle.refusal.specs.declared.kind.Kind.{Kind}
 use Rattle.refusal.specs.declared.kind.Kind.TheVariants.{NotElf, NotElf64Little, BadType, BadHeader, SectionPastEnd, NameBad, Compressed}
 use Rattle.elf_model.specs.Fields.{passes_end, e_type, e_phoff, e_phentsize, e_phnum, e_shoff, e_shentsize, e_shnum}
 use Rattle.elf_model.specs.Tables.{SectionHeader, has_table, section_count, name_index}
-use Rattle.elf_model.specs.Sections.{is_unused, is_nobits, is_compressed, name_section, name_of, section, sections}
+use Rattle.elf_model.specs.Sections.{has_bytes, is_compressed, name_section, name_of, section, sections}
 
 -- An item that fails so many bytes from the start of the binary where its cause holds.
 abbrev pub fails : Bool → ℕ → Kind → Option Place
@@ -65,8 +65,7 @@ header_items file = identity_items file ++ program_table_items file ++ section_t
 -- A section's bytes are within the file.
 abbrev pub extent_item : List ℕ → SectionHeader → Option Place
 extent_item file header =
-    fails (not (is_unused header) && not (is_nobits header) && passes_end file header.sh_offset header.sh_size)
-    header.at SectionPastEnd
+    fails (has_bytes header && passes_end file header.sh_offset header.sh_size) header.at SectionPastEnd
 
 -- A section has a name.
 abbrev pub name_item : List ℕ → SectionHeader → Option Place

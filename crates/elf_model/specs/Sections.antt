@@ -1,5 +1,5 @@
 -- The sections of a file: their names and their bytes.
-use Rattle.std.specs.Prelude.{ℕ, Bool, false, not, ◌==◌, if◌then◌else◌, List, [], min, length, take, drop, filter, find, Option, None, Some, position, slice_get}
+use Rattle.std.specs.Prelude.{ℕ, Bool, false, not, ◌||◌, ◌==◌, if◌then◌else◌, List, [], min, length, take, drop, filter, find, Option, None, Some, position, slice_get}
 use Rattle.std.specs.Option.{option_map, option_map_or}
 use Rattle.std.specs.Str.{bytes_eq}
 use Rattle.elf_model.specs.Fields.{has_flag}
@@ -25,9 +25,13 @@ used headers = filter (λ header. not (is_unused header)) headers
 abbrev pub sections : List ℕ → List SectionHeader
 sections file = used (drop 1 (section_headers file))
 
+-- A section has bytes in the file.
+abbrev pub has_bytes : SectionHeader → Bool
+has_bytes header = not (is_unused header || is_nobits header)
+
 -- How many bytes of the file a header's section has.
 abbrev pub file_size : SectionHeader → ℕ
-file_size header = if is_unused header then 0 else if is_nobits header then 0 else header.sh_size
+file_size header = if has_bytes header then header.sh_size else 0
 
 -- Where a section's bytes begin. A section without bytes may name an offset past the end, and then stands at the end.
 abbrev pub start : List ℕ → SectionHeader → ℕ

@@ -1,7 +1,7 @@
 ghost use Rattle.std.specs.Prelude.{◌≡◌, ⊤, None};
 ghost use Rattle.refusal.specs.Place.{Judges};
 ghost use Rattle.elf_model.specs.Fields.{passes_end};
-ghost use Rattle.elf_model.specs.Sections.{is_unused, is_nobits, is_compressed};
+ghost use Rattle.elf_model.specs.Sections.{is_unused, has_bytes, is_compressed};
 ghost use Rattle.elf_model.specs.Items.{extent_item};
 
 use crate::entries::Entry;
@@ -78,11 +78,11 @@ impl SectionHeader {
         self.kind == SHT_NULL
     }
 
-    /// Whether the section takes no space in the file.
-    pub fn is_nobits(&self) -> bool
-        ensures { result ≡ is_nobits self.now }
+    /// Whether the section has bytes in the file.
+    pub fn has_bytes(&self) -> bool
+        ensures { result ≡ has_bytes self.now }
     {
-        self.kind == SHT_NOBITS
+        self.kind != SHT_NULL && self.kind != SHT_NOBITS
     }
 
     /// Whether the section's bytes are compressed.
@@ -99,7 +99,7 @@ impl SectionHeader {
     pub fn judge_extent(&self, file: &[u8]) -> Result<(), Place>
         ensures { Judges (extent_item file.now self.now) result (λ _. ⊤) }
     {
-        let passes = !self.is_unused() && !self.is_nobits() && self.passes_end(file);
+        let passes = self.has_bytes() && self.passes_end(file);
         refuse_if(passes, Place::in_binary(self.at, Kind::SectionPastEnd))
     }
 
@@ -117,10 +117,10 @@ impl SectionHeader {
         ensures { IsPiece file.now self.now result }
     {
         let at = self.offset.min(file.len() as u64) as usize;
-        let len = if self.is_unused() || self.is_nobits() {
-            0
-        } else {
+        let len = if self.has_bytes() {
             self.size as usize
+        } else {
+            0
         };
         Part { file, at, len }
     }

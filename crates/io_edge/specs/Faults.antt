@@ -1,5 +1,6 @@
 -- Counts that stand still at their end, and what a count of faults says of a failed call.
-use Rattle.std.specs.Prelude.{◌≡◌, ◌⊎◌, ℕ, ◌+◌, ◌-◌, ◌^◌, ◌<◌, ◌≤◌, min, Result, Ok, Err}
+use Rattle.std.specs.Prelude.{◌≡◌, ◌⊎◌, ℕ, ◌+◌, ◌-◌, ◌^◌, ◌<◌, ◌≤◌, min, Bool, is_err, Result}
+use Rattle.std.specs.Bool.{MatchBool}
 
 -- One more; at the largest 64-bit number a count stands still.
 abbrev pub raised : ℕ → ℕ
@@ -11,7 +12,10 @@ pub record Rises (before after : ℕ) : Type 0 where
   pub rose : (before < after) ⊎ (after ≡ 2 ^ 64 - 1)
   pub bounded : after ≤ 2 ^ 64 - 1
 
+-- Some answers tell of a failed call. The count of faults rose under these, and is as it was under every other.
+abbrev pub HasCauseWhere : {A : Type 0} → (A → Bool) → ℕ → ℕ → A → Type 0
+HasCauseWhere tells_fault before after answer = MatchBool (tells_fault answer) (Rises before after) (after ≡ before)
+
 -- The count of faults rose where the call failed, and is as it was where it did not.
 abbrev pub HasCause : {T E : Type 0} → ℕ → ℕ → Result T E → Type 0
-HasCause before after (Ok x) = after ≡ before
-HasCause before after (Err e) = Rises before after
+HasCause before after answer = HasCauseWhere is_err before after answer

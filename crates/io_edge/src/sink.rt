@@ -31,7 +31,8 @@ pub trait Sink {
         ensures finished { finished self.new ≡ false }
         ensures cause { HasCause (faults self.old) (faults self.new) result };
 
-    /// Ends the output: all that was written has then reached its place.
+    /// Ends the output: nothing that was written is held back any longer. What that means is the
+    /// type's own word, as a flush is that of a writer of the system.
     ///
     /// # Errors
     /// Only where the count of faults rises; the sink is not finished then.

@@ -6,8 +6,8 @@ use crate::{
 };
 use std::alloc::{AllocError, Global};
 use std::fs::OpenOptions;
-use std::io::BufWriter;
-use std::{env, fs, process, test};
+use std::io::{BufWriter, Write};
+use std::{env, fs, io, process, test};
 
 // Thirty bytes.
 const TEXT: &[u8] = b"0x1/0x2/P 0x3/0x4/M\n0x5/0x6/P\n";
@@ -160,15 +160,36 @@ fn a_file_of_the_system_is_read(rt: HostRuntime) -> Result<(), test::Fail> {
         read_whole(&mut inputs, 199_999, &mut into),
         Err(ReadStop::TooLarge)
     );
+    // A failed open leaves nothing to read, not the file that was open before.
+    assert_eq!(rt; inputs.open(path.as_bytes()), Ok(true));
+    assert!(rt; inputs.open(b"/dev/null/x").is_err());
+    assert_eq!(rt; inputs.read(&mut [0; 8]), Ok(0));
     fs::remove_file(&rt, path.as_str())?;
     assert_eq!(rt; inputs.open(path.as_bytes()), Ok(false));
     assert_eq!(rt; inputs.read(&mut [0; 8]), Ok(0));
     assert_eq!(rt; inputs.open(b"/"), Ok(true));
     assert_eq!(rt; read_whole(&mut inputs, 8, &mut into), Err(ReadStop::Fault));
-    assert!(rt; inputs.open(b"/dev/null/x").is_err());
     assert!(rt; inputs.open(b"\xff").is_err());
     assert!(rt; inputs.open(b"a\0b").is_err());
     Ok(())
+}
+
+// A writer that takes three bytes at a time.
+#[derive(Drop)]
+struct Sips {
+    taken: Vec<u8>,
+}
+
+impl Write for Sips {
+    fn write(&mut self, bytes: &[u8]) -> io::Result<usize> {
+        let n = bytes.len().min(3);
+        self.taken.extend_from_slice(&bytes[..n])?;
+        Ok(n)
+    }
+
+    fn flush(&mut self) -> io::Result<()> {
+        Ok(())
+    }
 }
 
 #[test]
@@ -181,6 +202,11 @@ fn a_writer_of_std_is_a_sink(rt: HostRuntime) -> Result<(), test::Fail> {
         write_all(&mut StdSink::new(full()?), b"x"),
         Err(WriteFault)
     );
+    let mut sips = Sips {
+        taken: Vec::new(alloc),
+    };
+    assert_eq!(rt; write_all(&mut StdSink::new(&mut sips), TEXT), Ok(()));
+    assert_eq!(rt; sips.taken.as_slice(), TEXT);
     let mut late = StdSink::new(BufWriter::new(alloc, full()?)?);
     assert_eq!(rt; late.write(b"x"), Ok(1));
     assert!(rt; late.finish().is_err());

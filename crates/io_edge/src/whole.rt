@@ -1,9 +1,9 @@
-ghost use Rattle.std.specs.Prelude.{◌≡◌, ◌+◌, ◌<◌, ◌≤◌, ◌++◌, true, length, IfSome, OnOk, OnErr, IsErrOf, Some, []};
+ghost use Rattle.std.specs.Prelude.{◌≡◌, ◌+◌, ◌<◌, ◌≤◌, ◌++◌, length, is_ok, IfSome, OnOk, OnErr, IsErrOf, Some, []};
 ghost use Rattle.std.specs.Io.{StartsWith};
 ghost use Rattle.std.specs.Io.KnownBytes.{Appends};
-ghost use Rattle.io_edge.specs.Faults.{HasCause};
+ghost use Rattle.io_edge.specs.Faults.{HasCause, HasCauseWhere};
 ghost use Rattle.io_edge.specs.Sink.{AppendsPrefix};
-ghost use Rattle.io_edge.specs.Whole.{HasReadCause};
+ghost use Rattle.io_edge.specs.Whole.{tells_read_fault};
 
 use crate::inputs::{Inputs, ReadFailed};
 use crate::sink::{Sink, WriteFailed};
@@ -57,10 +57,10 @@ impl From<AllocError> for ReadStop {
 ///
 /// # Errors
 /// Only where the sink's count of faults rises; some of the first of `bytes` may have been written
-/// then.
+/// then, and the sink is not finished.
 pub fn write_all<O: Sink>(out: &mut O, bytes: &[u8]) -> Result<(), WriteFault>
     ensures written { OnOk result (Appends (O.written out.old) (O.written out.new) bytes.now) }
-    ensures finished { OnOk result (O.finished out.new ≡ true) }
+    ensures finished { O.finished out.new ≡ is_ok result }
     ensures prefix { OnErr result
         (AppendsPrefix (O.written out.old) (O.written out.new) bytes.now) }
     ensures cause { HasCause (O.faults out.old) (O.faults out.new) result }
@@ -89,7 +89,7 @@ pub fn read_whole<I: Inputs>(inputs: &mut I, limit: u64, into: &mut Vec<u8>) -> 
     ensures grows { StartsWith into.new.items into.old.items }
     ensures store { I.store inputs.new ≡ I.store inputs.old }
     ensures opens { I.opens inputs.new ≡ I.opens inputs.old }
-    ensures cause { HasReadCause (I.faults inputs.old) (I.faults inputs.new) result }
+    ensures cause { HasCauseWhere tells_read_fault (I.faults inputs.old) (I.faults inputs.new) result }
 {
     let mut piece = [0; PIECE];
     let mut room = limit;

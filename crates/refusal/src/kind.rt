@@ -126,6 +126,15 @@ pub enum Kind {
     Missing,
     /// More is told of than the block text has.
     Extra,
+    // Bounds and profile texts.
+    /// A lower bound is above its upper bound.
+    BadBound,
+    /// No line that is open encloses one that is set deeper.
+    BadIndent,
+    /// A function, a location or a target of a profile text stands twice.
+    KeyTwice,
+    /// Counts that are added up pass 2^64 - 1.
+    CountTooLarge,
 }
 
 impl Kind {
@@ -189,6 +198,10 @@ impl Kind {
             Kind::WrongEdge => b"WrongEdge",
             Kind::Missing => b"Missing",
             Kind::Extra => b"Extra",
+            Kind::BadBound => b"BadBound",
+            Kind::BadIndent => b"BadIndent",
+            Kind::KeyTwice => b"KeyTwice",
+            Kind::CountTooLarge => b"CountTooLarge",
         }
     }
 }

@@ -5,3 +5,4 @@ pub mod LineTestLemmas
 pub mod FieldLemmas
 pub mod NumberLemmas
 pub mod DigitLemmas
+pub mod PlaceLemmas

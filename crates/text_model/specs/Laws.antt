@@ -1,10 +1,11 @@
 -- Laws that tie the definitions to a second way of saying them.
-use Rattle.std.specs.Prelude.{◌≡◌, ◌↔◌, ℕ, ◌<◌, ◌^◌, true, false, List, [], ◌∷◌, ◌++◌, map, filter, Some}
+use Rattle.std.specs.Prelude.{◌≡◌, ◌↔◌, ℕ, ◌+◌, ◌*◌, ◌<◌, ◌^◌, true, false, List, [], ◌∷◌, ◌++◌, length, map, filter, codes, Some}
+use Rattle.std.specs.Char.{digit_value, to_ascii_uppercase}
 use Rattle.std.specs.List.{AllByRecursion, flat_map, list_all, list_any}
 use Rattle.text_model.specs.Fields.{fields_of, is_blank, is_filled}
 use Rattle.text_model.specs.Lines.{is_line_feed, lines_of, ended_lines_of}
 use Rattle.text_model.specs.LineTests.{contains}
-use Rattle.text_model.specs.Numbers.{decimal_of, decimal_text, prefixed_of, hex_text}
+use Rattle.text_model.specs.Numbers.{number_of, decimal_of, decimal_text, prefixed_of, hex_text}
 
 -- A line as a text holds it, with the line feed that ends it.
 abbrev pub ended : List ℕ → List ℕ
@@ -81,3 +82,21 @@ DecimalTextIsRead = (n : ℕ) → n < 2 ^ 128 → decimal_of (decimal_text n) �
 -- A printed hexadecimal number is read as that number.
 abbrev pub HexTextIsRead : Type 0
 HexTextIsRead = (n : ℕ) → n < 2 ^ 64 → prefixed_of (hex_text n) ≡ Some n
+
+-- What digits are worth by their places: each one's value, times the base to the power of how many stand behind it.
+abbrev pub place_value : ℕ → List ℕ → ℕ
+place_value base [] = 0
+place_value base (digit ∷ digits) = digit_value digit * base ^ length digits + place_value base digits
+
+-- The number that a numeral spells is the sum of its digits by their places.
+abbrev pub NumbersAreByPlace : Type 0
+NumbersAreByPlace = (base : ℕ) (text : List ℕ) (n : ℕ) → number_of base text ≡ Some n → n ≡ place_value base text
+
+-- Capital digits and small ones spell the same.
+abbrev pub CapitalsSpellTheSame : Type 0
+CapitalsSpellTheSame = (base : ℕ) (text : List ℕ) → number_of base (map to_ascii_uppercase text) ≡ number_of base text
+
+-- Zeros in front of a numeral change nothing.
+abbrev pub LeadingZerosSpellNothing : Type 0
+LeadingZerosSpellNothing =
+    (base : ℕ) (text : List ℕ) (n : ℕ) → number_of base text ≡ Some n → number_of base (codes "0" ++ text) ≡ Some n

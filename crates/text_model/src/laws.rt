@@ -1,6 +1,8 @@
-// The definitions seen from the other side: what is printed is read, and lines and fields are the
-// text again.
-ghost use Rattle.text_model.specs.Laws.{ContainsIsPart, DecimalTextIsRead, FieldsJoin, FieldsSplit, HexTextIsRead, LinesJoin, LinesSplit};
+// The definitions seen from the other side: what is printed is read, a number is the sum of
+// its digits, and lines and fields are the text again.
+ghost use Rattle.text_model.specs.Laws.{ContainsIsPart, FieldsJoin, FieldsSplit, LinesJoin, LinesSplit};
+ghost use Rattle.text_model.specs.Laws.{DecimalTextIsRead, HexTextIsRead};
+ghost use Rattle.text_model.specs.Laws.{CapitalsSpellTheSame, LeadingZerosSpellNothing, NumbersAreByPlace};
 
 /// Lines with a line feed behind each, and then a rest without one, are the text.
 pub fn lines_join()
@@ -27,6 +29,14 @@ pub fn fields_split()
 /// A text contains a needle exactly where it is a front, the needle and a rest.
 pub fn contains_is_part()
     ensures { ContainsIsPart }
+{}
+
+/// A number is the sum over its digits of their worth at their places, whether they are capital or
+/// small, and whatever zeros stand in front.
+pub fn numbers_are_by_place()
+    ensures places { NumbersAreByPlace }
+    ensures capitals { CapitalsSpellTheSame }
+    ensures zeros { LeadingZerosSpellNothing }
 {}
 
 /// A printed decimal number is read as that number.

@@ -1,3 +1,4 @@
+pub mod Fronts
 pub mod LebLemmas
 pub mod Spellings
 pub mod TextLemmas

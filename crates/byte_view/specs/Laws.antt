@@ -8,6 +8,17 @@ abbrev pub IsReadBack : {X : Type 0} → (List ℕ → X → Type 0) → (List �
 IsReadBack {X = X} Spells reading =
     (bytes rest : List ℕ) (value : X) → Spells bytes value → reading (bytes ++ rest) ≡ Ok (value, rest)
 
+-- The bytes begin with a spelling of the value, and the rest stands behind it.
+pub record BeginsWith {X : Type 0} (Spells : List ℕ → X → Type 0) (bytes : List ℕ) (value : X) (rest : List ℕ) : Type 0 where
+  pub front : List ℕ
+  pub spelled : Spells front value
+  pub parts : bytes ≡ front ++ rest
+
+-- What is read begins with a spelling of what was read.
+abbrev pub IsReadAsSpelled : {X : Type 0} → (List ℕ → X → Type 0) → (List ℕ → Reading X) → Type 0
+IsReadAsSpelled {X = X} Spells reading =
+    (bytes rest : List ℕ) (value : X) → reading bytes ≡ Ok (value, rest) → BeginsWith Spells bytes value rest
+
 -- No spelling is a proper prefix of another, and one spelling spells one value.
 abbrev pub IsPrefixFree : {X : Type 0} → (List ℕ → X → Type 0) → Type 0
 IsPrefixFree {X = X} Spells =

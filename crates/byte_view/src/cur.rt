@@ -1,4 +1,4 @@
-ghost use Rattle.std.specs.Prelude.{◌≡◌, ◌+◌, ◌^◌, ◌<◌, ◌≤◌, length, take, drop, IfOk, OnErr};
+ghost use Rattle.std.specs.Prelude.{◌≡◌, ◌+◌, ◌^◌, ◌<◌, ◌≤◌, ℕ, List, length, take, drop, IfOk, OnErr};
 
 use crate::fault::ViewFault;
 use crate::leb::{sleb_of, uleb_of};
@@ -59,6 +59,16 @@ impl<'a> Cur<'a> {
         ensures { result ≡ length self.now.left }
     {
         self.rest.len()
+    }
+
+    /// A second cursor at the same place, to read ahead.
+    pub fn fork(&self) -> Cur<'a>
+        ensures { result ≡ self.now }
+    {
+        Cur {
+            end: self.end,
+            rest: self.rest,
+        }
     }
 
     /// Passes the next bytes, and answers them.
@@ -205,6 +215,7 @@ impl<'a> Cur<'a> {
     /// `Short` where fewer are left.
     pub fn sub(&mut self, n: u64) -> Result<Cur<'a>, ViewFault>
         ensures at { IfOk result (λ piece. piece.at ≡ self.old.at) }
+        ensures file { (file : List ℕ) → IsOver file self.old → IfOk result (IsOver file) }
         ensures found { IfOk result (λ piece. Reads (SpellsRun n) self.old self.new piece.left) }
         ensures exact { Gives (λ piece. piece.left) result self.new.left (run_at n self.old.left) }
         ensures err { OnErr result (self.new ≡ self.old) }

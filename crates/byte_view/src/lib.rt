@@ -18,5 +18,7 @@ mod tests;
 
 pub use cur::Cur;
 pub use fault::ViewFault;
-pub use laws::{no_spelling_begins_another, passed_bytes_are_the_files, spelled_is_read};
+pub use laws::{
+    no_spelling_begins_another, passed_bytes_are_the_files, read_is_spelled, spelled_is_read,
+};
 pub use part::Part;

@@ -1,0 +1,3 @@
+mod Examples
+pub mod Read
+pub mod Spelled

@@ -1,0 +1,13 @@
+-- Tables of codes.
+use Rattle.std.specs.Prelude.{◌≡◌, ℕ, Bool, true, nat_lt, ◌&&◌, List, [], ◌∷◌, map, filter, is_some}
+use Rattle.value_model.specs.Forms.{forms, operand_of}
+
+-- Each number is above the one before it.
+abbrev pub ascends : List ℕ → Bool
+ascends [] = true
+ascends (first ∷ []) = true
+ascends (first ∷ second ∷ rest) = nat_lt first second && ascends (second ∷ rest)
+
+-- Those of some codes that are read are all that are read.
+abbrev pub HasReadForms : List ℕ → Type 0
+HasReadForms codes = filter (λ code. is_some (operand_of code)) codes ≡ map (λ row. row.0) forms

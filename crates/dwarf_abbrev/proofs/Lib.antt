@@ -1,0 +1,4 @@
+pub mod AttrLemmas
+pub mod CodeLemmas
+pub mod RowLemmas
+pub mod TableLemmas

@@ -1,0 +1,65 @@
+ghost use Rattle.refusal.specs.Place.{JudgesUnlessNoMemory};
+ghost use Rattle.placed_view.specs.Reader.{IsRead, refused_at, start_of};
+ghost use Rattle.abbrev_model.specs.Table.{table};
+
+use crate::abbrev::Abbrev;
+use crate::rows::Rows;
+use byte_view::{Cur, Part};
+use refusal::Stop;
+use std::alloc::Global;
+use std::marker::Model;
+
+/// The abbreviations of a table, in their order.
+#[derive(Debug, Drop)]
+pub struct Abbrevs {
+    rows: Rows,
+}
+
+impl Model for Abbrevs {
+    ghost use Rattle.std.specs.Prelude.{List};
+    ghost use Rattle.abbrev_model.specs.Abbrev.{Abbrev};
+    ghost use Rattle.dwarf_abbrev.specs.Rows.{table_of, IsWhole};
+
+    ghost Value = { List Abbrev };
+
+    ghost view = { λ t. table_of t.rows };
+
+    ghost invariant = { λ t. IsWhole t.rows };
+}
+
+impl Abbrevs {
+    ghost use Rattle.std.specs.Prelude.{◌≡◌};
+    ghost use Rattle.abbrev_model.specs.Abbrev.{find_code};
+
+    /// The abbreviation of a code.
+    pub fn find(&self, code: u64) -> Option<Abbrev<'_>>
+        ensures { result ≡ find_code self.now code }
+    {
+        let place = self.rows.codes.place(code)?;
+        let row = &self.rows.rows[place];
+        Some(Abbrev {
+            code: row.code,
+            tag: row.tag,
+            children: row.children,
+            attrs: &self.rows.attrs[row.first..row.end],
+        })
+    }
+}
+
+/// Reads the table that stands at the start of a piece, up to the code 0 that ends it.
+///
+/// # Errors
+/// The first place where the bytes break the table's form: `Short` and `LebTooLong` at the number,
+/// `BadChildren` at the byte, and `CodeTwice` and then `TooManyAbbrevs`, which is at the
+/// 1,048,577th abbreviation, at the code.
+///
+/// Source: DWARF 5, section 7.5.3.
+pub fn read_table(alloc: Global, part: Part<'_>) -> Result<Abbrevs, Stop>
+    ensures { JudgesUnlessNoMemory (refused_at (table (start_of part.entry))) result
+        (IsRead (table (start_of part.entry))) }
+{
+    let mut cur = Cur::new(part);
+    let mut rows = Rows::new(alloc);
+    while rows.read_next(&mut cur)? {}
+    Ok(Abbrevs { rows })
+}

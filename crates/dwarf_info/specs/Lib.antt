@@ -1,0 +1,7 @@
+pub mod Entries
+pub mod Found
+pub mod Rows
+pub mod Told
+pub mod Units
+pub mod Values
+pub mod Wanted

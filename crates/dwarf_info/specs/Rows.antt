@@ -1,0 +1,29 @@
+-- Entries in memory: a row for each, and the attributes of all in one list.
+use Rattle.std.specs.Prelude.{◌≤◌, List, map, length, slice_range}
+use Rattle.std.specs.List.{AllByRecursion}
+use Rattle.unit_model.specs.Values.{Found}
+use Rattle.unit_model.specs.Entries.{Entry}
+use Rattle.dwarf_info.specs.declared.rows.Row.{Row}
+
+-- The entry of a row.
+abbrev pub entry_of_row : List Found → Row → Entry
+entry_of_row found row = record {
+  at = row.at;
+  depth = row.depth;
+  tag = row.tag;
+  unit = row.unit;
+  found = slice_range found row.first row.end;
+}
+
+-- The attributes of a row are some of the list.
+pub record IsWithin (found : List Found) (row : Row) : Type 0 where
+  pub ordered : row.first ≤ row.end
+  pub within : row.end ≤ length found
+
+-- The entries of rows.
+abbrev pub entries_of : List Found → List Row → List Entry
+entries_of found rows = map (entry_of_row found) rows
+
+-- The attributes of each row are some of the list.
+abbrev pub AreWithin : List Found → List Row → Type 0
+AreWithin found rows = AllByRecursion (IsWithin found) rows

@@ -1,0 +1,123 @@
+// The entries of a unit.
+ghost use Rattle.std.specs.Prelude.{◌≡◌, ◌<◌, ◌≤◌, ◌+◌, ◌++◌, ◌∷◌, [], length, if◌then◌else◌, OnOk};
+ghost use Rattle.unit_model.specs.Entries.{entry_of, next_entry, entries as entries_told};
+ghost use Rattle.dwarf_info.specs.Entries.{all_of, IsWhole, ReadsSoFar, ReadsEntries};
+
+use crate::rows::{Entries, Row};
+use crate::values::read_values;
+use byte_view::Cur;
+use dwarf_abbrev::{Abbrev, Abbrevs};
+use dwarf_forms::UnitShape;
+use placed_view::uleb;
+use refusal::{Kind, NoMemory, Place, Stop, refuse_if};
+
+/// The deepest that an entry can stand.
+const MAX_DEPTH: u32 = 1024;
+
+/// The most entries of a file.
+const MAX_ENTRIES: usize = 1 << 24;
+
+/// The unit whose entries are read: its place among the units, and the size of its offsets.
+#[derive(Clone, Copy, Debug)]
+pub(crate) struct InUnit {
+    pub unit: u32,
+    pub shape: UnitShape,
+}
+
+/// Adds a row.
+fn push(rows: &mut Vec<Row>, row: Row) -> Result<(), NoMemory>
+    ensures { OnOk result (rows.new.items ≡ rows.old.items ++ row ∷ []) }
+{
+    rows.push(row)?;
+    Ok(())
+}
+
+/// The depth behind an entry.
+fn depth_behind(depth: u32, children: bool) -> u32
+    requires { depth ≤ 1024 }
+    ensures { result ≡ (if children then depth + 1 else depth) }
+{
+    if children { depth + 1 } else { depth }
+}
+
+/// Reads the values of an entry whose abbreviation was found for the code at `at`, and answers the
+/// depth of the next entry.
+#[tactic(auto, unfolding(unit_model::specs::Entries::entry_of), using(crate::proofs::EntryLemmas::entry_lemmas))]
+fn read_entry<'a>(
+    cur: &mut Cur<'a>,
+    at: usize,
+    abbrev: &Abbrev<'_>,
+    of: InUnit,
+    depth: u32,
+    entries: &mut Entries<'a>,
+) -> Result<u32, Stop>
+    requires { IsWhole entries.old }
+    ensures read { ReadsSoFar result entries.new cur.new
+        (entry_of (record { unit = of.unit; wide = of.shape.wide }) at abbrev.now
+        (record { depth = depth; entries = all_of entries.old }) cur.old) }
+    ensures not_longer { OnOk result (length cur.new.left ≤ length cur.old.left) }
+{
+    refuse_if(depth > MAX_DEPTH, Place::in_binary(at, Kind::TooDeep))?;
+    let is_full = entries.rows.len() >= MAX_ENTRIES;
+    refuse_if(is_full, Place::in_binary(at, Kind::TooManyEntries))?;
+    let first = entries.found.len();
+    let tag = abbrev.tag;
+    read_values(cur, tag, abbrev.attrs, of.shape, &mut entries.found)?;
+    let end = entries.found.len();
+    let row = Row {
+        at: at as u64,
+        tag,
+        depth,
+        unit: of.unit,
+        first,
+        end,
+    };
+    push(&mut entries.rows, row)?;
+    Ok(depth_behind(depth, abbrev.children))
+}
+
+/// Reads the next entry, or the code 0 that closes a level, and answers the depth of the one behind
+/// it.
+#[tactic(auto, unfolding(unit_model::specs::Entries::next_entry, unit_model::specs::Entries::entry_of_code))]
+fn read_next<'a>(
+    cur: &mut Cur<'a>,
+    table: &Abbrevs,
+    of: InUnit,
+    depth: u32,
+    entries: &mut Entries<'a>,
+) -> Result<u32, Stop>
+    requires { IsWhole entries.old }
+    ensures read { ReadsSoFar result entries.new cur.new
+        (next_entry (record { unit = of.unit; wide = of.shape.wide }) table.now
+        (record { depth = depth; entries = all_of entries.old }) cur.old) }
+    ensures shorter { OnOk result (length cur.new.left < length cur.old.left) }
+{
+    let at = cur.at();
+    let code = uleb(cur)?;
+    if code == 0 {
+        return Ok(depth.saturating_sub(1));
+    }
+    let Some(abbrev) = table.find(code) else {
+        return Err(Stop::Refused(Place::in_binary(at, Kind::UnknownAbbrev)));
+    };
+    read_entry(cur, at, &abbrev, of, depth, entries)
+}
+
+/// Reads the entries of a unit up to its end, behind those of the units before it.
+pub(crate) fn read_entries<'a>(
+    cur: &mut Cur<'a>,
+    table: &Abbrevs,
+    of: InUnit,
+    entries: &mut Entries<'a>,
+) -> Result<(), Stop>
+    requires { IsWhole entries.old }
+    ensures { ReadsEntries result entries.new
+        (entries_told (record { unit = of.unit; wide = of.shape.wide }) table.now
+        (all_of entries.old) cur.old) }
+{
+    let mut depth = 0;
+    while cur.left() > 0 {
+        depth = read_next(cur, table, of, depth, entries)?;
+    }
+    Ok(())
+}

@@ -1,0 +1,208 @@
+ghost use Rattle.std.specs.Prelude.{◌≡◌, ◌==◌, [], position, slice_get, length};
+
+use dwarf_forms::Value;
+use std::alloc::Global;
+use std::marker::Model;
+
+/// A wanted attribute of an entry: its name, where its value stands in the file, and the value.
+#[derive(Debug, Drop)]
+pub struct Found<'a> {
+    pub name: u64,
+    pub at: u64,
+    pub value: Value<'a>,
+}
+
+impl<'a> Model for Found<'a> {
+    ghost use Rattle.unit_model.specs.Values.{Found};
+    ghost use Rattle.dwarf_forms.specs.Meaning.{meaning_of};
+
+    ghost Value = { Found };
+
+    ghost view = { λ f. record { name = f.name; at = f.at; value = meaning_of f.value } };
+}
+
+/// An entry: where it stands in the file, how deep it stands among the entries of its unit, its
+/// tag, the place of its unit among the units, and its wanted attributes in the order of the
+/// abbreviation.
+#[derive(Debug, Drop)]
+pub struct Entry<'a, 'u> {
+    pub at: u64,
+    pub depth: u32,
+    pub tag: u64,
+    pub unit: u32,
+    pub found: &'u [Found<'a>],
+}
+
+impl<'a, 'u> Model for Entry<'a, 'u> {
+    ghost use Rattle.unit_model.specs.Entries.{Entry};
+
+    ghost Value = { Entry };
+
+    ghost view = { λ e. record {
+      at = e.at;
+      depth = e.depth;
+      tag = e.tag;
+      unit = e.unit;
+      found = e.found.now;
+    } };
+}
+
+/// A unit that is read: where it begins and ends in the file, its version, whether it is 64-bit
+/// DWARF, and which of the entries are its own: `count` of them from the place `first` on.
+#[derive(Debug, Drop)]
+pub struct Unit {
+    pub at: u64,
+    pub end: u64,
+    pub version: u16,
+    pub wide: bool,
+    pub first: u32,
+    pub count: u32,
+}
+
+impl Model for Unit {
+    ghost use Rattle.unit_model.specs.Units.{Unit};
+
+    ghost Value = { Unit };
+
+    ghost view = { λ u. record {
+      at = u.at;
+      end = u.end;
+      version = u.version;
+      wide = u.wide;
+      first = u.first;
+      count = u.count;
+    } };
+}
+
+/// An entry in memory. Its attributes stand in the list of all, from `first` up to `end`.
+#[derive(Clone, Copy, Debug)]
+pub(crate) struct Row {
+    pub at: u64,
+    pub tag: u64,
+    pub depth: u32,
+    pub unit: u32,
+    pub first: usize,
+    pub end: usize,
+}
+
+/// Entries in memory, with the attributes of all.
+#[derive(Debug, Drop)]
+pub(crate) struct Entries<'a> {
+    pub rows: Vec<Row>,
+    pub found: Vec<Found<'a>>,
+}
+
+/// The units that are read so far, with the entries of all, and where each unit that is passed over
+/// begins and ends.
+#[derive(Debug, Drop)]
+pub(crate) struct SoFar<'a> {
+    pub units: Vec<Unit>,
+    pub entries: Entries<'a>,
+    pub skipped: Vec<(u64, u64)>,
+}
+
+impl<'a> SoFar<'a> {
+    ghost use Rattle.dwarf_info.specs.Entries.{IsWhole};
+    ghost use Rattle.dwarf_info.specs.Units.{units_of};
+    ghost use Rattle.unit_model.specs.Units.{no_units};
+
+    /// No units.
+    pub fn new(alloc: Global) -> SoFar<'a>
+        ensures whole { IsWhole result.entries }
+        ensures none { units_of result ≡ no_units }
+        ensures few { length result.units.items ≡ 0 }
+    {
+        SoFar {
+            units: Vec::new(alloc),
+            entries: Entries {
+                rows: Vec::new(alloc),
+                found: Vec::new(alloc),
+            },
+            skipped: Vec::new(alloc),
+        }
+    }
+}
+
+/// The units of a file that are read, the entries of all of them, and where each unit that is
+/// passed over begins and ends.
+///
+/// In memory the entries are rows of one table, and their attributes stand in one list. So an entry
+/// is lent, as a value that borrows its attributes.
+#[derive(Debug, Drop)]
+pub struct Units<'a> {
+    pub(crate) so_far: SoFar<'a>,
+}
+
+impl<'a> Model for Units<'a> {
+    ghost use Rattle.unit_model.specs.Units.{Units};
+    ghost use Rattle.dwarf_info.specs.Entries.{IsWhole};
+    ghost use Rattle.dwarf_info.specs.Units.{units_of};
+
+    ghost Value = { Units };
+
+    ghost view = { λ u. units_of u.so_far };
+
+    ghost invariant = { λ u. IsWhole u.so_far.entries };
+}
+
+impl<'a> Units<'a> {
+    ghost use Rattle.dwarf_info.specs.Found.{FindsEntry};
+
+    /// The units that are read, in their order.
+    pub fn units(&self) -> &[Unit]
+        ensures { result.now ≡ self.now.units }
+    {
+        &self.so_far.units
+    }
+
+    /// Where each unit that is passed over begins and ends, as offsets in the file.
+    pub fn skipped(&self) -> &[(u64, u64)]
+        ensures { result.now ≡ self.now.skipped }
+    {
+        &self.so_far.skipped
+    }
+
+    /// How many entries there are.
+    pub fn entry_count(&self) -> usize
+        ensures { result ≡ length self.now.entries }
+    {
+        self.so_far.entries.rows.len()
+    }
+
+    /// The entry at a place among the entries of all units.
+    pub fn entry(&self, place: usize) -> Option<Entry<'a, '_>>
+        ensures { result ≡ slice_get self.now.entries place }
+    {
+        let entries = &self.so_far.entries;
+        if place >= entries.rows.len() {
+            return None;
+        }
+        let row = &entries.rows[place];
+        Some(Entry {
+            at: row.at,
+            depth: row.depth,
+            tag: row.tag,
+            unit: row.unit,
+            found: &entries.found[row.first..row.end],
+        })
+    }
+
+    /// The place of the entry that begins at an offset in the file, where one does.
+    #[tactic(auto, using(crate::proofs::FoundLemmas::found_lemmas))]
+    pub fn entry_at(&self, at: u64) -> Option<usize>
+        ensures { FindsEntry self.now.entries at result }
+    {
+        let rows = &self.so_far.entries.rows;
+        match rows.binary_search_by_key(&at, |row| row.at) {
+            Ok(place) if rows[place].at == at => Some(place),
+            _ => place_of(rows, at),
+        }
+    }
+}
+
+/// The place of the first row of an offset, one by one.
+fn place_of(rows: &[Row], at: u64) -> Option<usize>
+    ensures { result ≡ position (λ row. row.at == at) rows.now }
+{
+    rows.iter().position(|row| row.at == at)
+}

@@ -1,0 +1,5 @@
+pub mod Entries
+pub mod Header
+pub mod Units
+pub mod Values
+pub mod Wanted

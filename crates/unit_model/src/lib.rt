@@ -1,0 +1,7 @@
+//! What the units of debugging information say: their headers, and the entries with their wanted
+//! attributes.
+//!
+//! Definitions in `specs/`, with examples in `proofs/`.
+//!
+//! Source: DWARF 5, sections 7.5.1 to 7.5.5; DWARF 4, section 7.5.
+#![tactic(auto)]

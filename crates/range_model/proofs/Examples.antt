@@ -1,0 +1,85 @@
+-- Texts, addresses and range lists on worked bytes.
+use Rattle.std.proofs.Common.{◌≡◌, ℕ, false, List, [], ◌∷◌, ◌++◌, None, Some, Ok, Err, refl}
+use Rattle.refusal.specs.declared.kind.Kind.TheVariants.{Short, PastSection, NoSection, BadRangeEntry}
+use Rattle.byte_view.specs.Reading.{field_at, text_at, uleb_at}
+use Rattle.value_model.specs.Value.{str_index, addr_index, range_index, offset}
+use Rattle.range_model.specs.Texts.{Bases, Sections, text_of, address_of}
+use Rattle.range_model.specs.Entries.{coded_entry_at, pair_entry_at}
+use Rattle.range_model.specs.Lists.{RangeSections, bad_range, ranges_of}
+
+abbrev zeros : List ℕ
+zeros = 0 ∷ 0 ∷ 0 ∷ 0 ∷ 0 ∷ 0 ∷ 0 ∷ 0 ∷ []
+
+abbrev sections : Sections
+sections = record {
+  str = Some (97 ∷ 98 ∷ 0 ∷ 104 ∷ 105 ∷ 0 ∷ []);
+  line_str = None;
+  str_offsets = Some (zeros ++ 3 ∷ 0 ∷ 0 ∷ 0 ∷ []);
+  addr = Some (zeros ++ 0 ∷ 0x20 ∷ 0x40 ∷ 0 ∷ 0 ∷ 0 ∷ 0 ∷ 0 ∷ []);
+}
+
+abbrev bases : Bases
+bases = record { wide = false; str_offsets = Some 8; addr = Some 8; rnglists = Some 12 }
+
+a_text_by_index : text_of sections bases (str_index 0) ≡ Ok (104 ∷ 105 ∷ [])
+unfolding text_of field_at text_at
+a_text_by_index = refl
+
+an_address_by_index : address_of sections bases (addr_index 0) ≡ Ok 0x402000
+unfolding address_of field_at
+an_address_by_index = refl
+
+past_the_addresses : address_of sections bases (addr_index 1) ≡ Err PastSection
+unfolding address_of field_at
+past_the_addresses = refl
+
+-- a list of `.debug_rnglists` at its index 0, in a section at place 100
+abbrev with_list : List ℕ → RangeSections
+with_list list = record {
+  ranges = None;
+  rnglists = Some (record { at = 100; bytes = zeros ++ 0 ∷ 0 ∷ 0 ∷ 0 ∷ 4 ∷ 0 ∷ 0 ∷ 0 ∷ list });
+  texts = sections;
+}
+
+abbrev meant : List ℕ → List (ℕ × ℕ)
+meant list = ranges_of 5 0x401000 (with_list list) bases (range_index 0)
+
+no_ranges : meant (0 ∷ []) ≡ []
+unfolding ranges_of address_of coded_entry_at pair_entry_at field_at uleb_at
+no_ranges = refl
+
+from_the_units_base : meant (4 ∷ 0x10 ∷ 0x20 ∷ 0 ∷ []) ≡ (0x401010, 0x401020) ∷ []
+unfolding ranges_of address_of coded_entry_at pair_entry_at field_at uleb_at
+from_the_units_base = refl
+
+from_an_indexed_base : meant (1 ∷ 0 ∷ 4 ∷ 0x10 ∷ 0x20 ∷ 0 ∷ []) ≡ (0x402010, 0x402020) ∷ []
+unfolding ranges_of address_of coded_entry_at pair_entry_at field_at uleb_at
+from_an_indexed_base = refl
+
+by_index_and_length : meant (3 ∷ 0 ∷ 0x30 ∷ 0 ∷ []) ≡ (0x402000, 0x402030) ∷ []
+unfolding ranges_of address_of coded_entry_at pair_entry_at field_at uleb_at
+by_index_and_length = refl
+
+by_start_and_length : meant (7 ∷ 0 ∷ 0x30 ∷ 0x40 ∷ 0 ∷ 0 ∷ 0 ∷ 0 ∷ 0 ∷ 5 ∷ 0 ∷ []) ≡ (0x403000, 0x403005) ∷ []
+unfolding ranges_of address_of coded_entry_at pair_entry_at field_at uleb_at
+by_start_and_length = refl
+
+an_empty_range : meant (4 ∷ 0x20 ∷ 0x10 ∷ 0 ∷ []) ≡ []
+unfolding ranges_of address_of coded_entry_at pair_entry_at field_at uleb_at
+an_empty_range = refl
+
+no_code : bad_range 7 5 (with_list (8 ∷ [])) bases (range_index 0) ≡ Some (record { file = 1; at = 116; kind = BadRangeEntry })
+unfolding bad_range address_of coded_entry_at pair_entry_at field_at uleb_at
+no_code = refl
+
+cut_off : bad_range 7 5 (with_list (0 ∷ 4 ∷ 0x10 ∷ [])) bases (offset 17) ≡ Some (record { file = 1; at = 117; kind = Short })
+unfolding bad_range address_of coded_entry_at pair_entry_at field_at uleb_at
+cut_off = refl
+
+no_section : bad_range 7 4 (with_list []) bases (offset 0) ≡ Some (record { file = 1; at = 7; kind = NoSection })
+unfolding bad_range address_of coded_entry_at pair_entry_at field_at uleb_at
+no_section = refl
+
+good : bad_range 7 5 (with_list (4 ∷ 0x10 ∷ 0x20 ∷ 0 ∷ [])) bases (range_index 0) ≡ None
+unfolding bad_range address_of coded_entry_at pair_entry_at field_at uleb_at
+good = refl

@@ -1,0 +1,3 @@
+pub mod OpcodeLemmas
+pub mod RowLemmas
+pub mod TableLemmas

@@ -1,0 +1,4 @@
+pub mod FrameLemmas
+pub mod OverlayLemmas
+pub mod SearchLemmas
+pub mod SpanLemmas

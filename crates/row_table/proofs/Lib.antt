@@ -1,0 +1,4 @@
+pub mod CutLemmas
+pub mod IndexLemmas
+pub mod LastLemmas
+pub mod SequenceLemmas

@@ -1,0 +1,67 @@
+// Names and their numbers.
+ghost use Rattle.std.specs.Prelude.{◌≡◌, ◌<◌, ◌≤◌, ◌^◌, ◌+◌, ◌-◌, [], length, slice_get, take, IfOk, OnErr, OnOk, IsOk, Some};
+ghost use Rattle.key_types.specs.Numbers.{Adds, IsNumbered};
+
+use crate::ids::NameId;
+use indexmap::IndexSet;
+use refusal::NoMemory;
+use std::alloc::Global;
+use std::marker::Model;
+
+/// Names, each once: a name's number is its place, from 0, in the order in which they were added.
+///
+/// The names are lent, from a buffer that lives longer.
+#[derive(Drop)]
+pub struct Names<'a> {
+    names: IndexSet<&'a [u8]>,
+}
+
+// Clauses see the list of the names, each at its number. Without names there is
+// room for a first one.
+impl<'a> Model for Names<'a> {
+    ghost use Rattle.std.specs.Prelude.{◌≡◌, ◌<◌, ℕ, List, length, map};
+    ghost use Rattle.indexmap.specs.IndexSet.{spare};
+
+    ghost Value = { List (List ℕ) };
+
+    ghost view = { λ a. map (λ name. name.now) a.names.keys };
+
+    ghost invariant = { λ a. length a.names.keys ≡ 0 → 0 < spare a.names };
+}
+
+impl<'a> Names<'a> {
+    /// No names, with room for a first one.
+    pub fn new(alloc: Global) -> Result<Names<'a>, NoMemory>
+        ensures { IfOk result (λ names. names ≡ []) }
+    {
+        Ok(Names {
+            names: IndexSet::with_capacity(alloc, 1)?,
+        })
+    }
+
+    /// The number of a name. A new one gets the next number, and those given before stay.
+    ///
+    /// # Errors
+    /// `NoMemory`, never for a first name; the names are then as they were.
+    pub fn add(&mut self, name: &'a [u8]) -> Result<NameId, NoMemory>
+        requires { length self.old < 2 ^ 32 - 1 }
+        ensures added { OnOk result (Adds self.old self.new name.now) }
+        ensures number { IfOk result (λ id. slice_get self.new id.0 ≡ Some name.now) }
+        ensures given { IfOk result (λ id. id.0 < length self.new) }
+        ensures first { self.old ≡ [] → IsOk result }
+        ensures unchanged { OnErr result (self.new ≡ self.old) }
+        ensures numbered { IsNumbered self.new }
+        ensures one_more { length self.new ≤ length self.old + 1 }
+    {
+        let (index, _) = self.names.insert_full(name)?;
+        Ok(NameId(index as u32))
+    }
+
+    /// The name of a number that was given.
+    pub fn get(&self, id: NameId) -> &'a [u8]
+        requires { id.0 < length self.now }
+        ensures { slice_get self.now id.0 ≡ Some result.now }
+    {
+        self.names.as_slice()[id.0 as usize]
+    }
+}

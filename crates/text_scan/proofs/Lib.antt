@@ -1,3 +1,4 @@
 mod Examples
+pub mod DecimalLemmas
 pub mod ReadLemmas
 pub mod WriteLemmas

@@ -1,10 +1,11 @@
 //! Texts read and written: the lines of a text, the fields of a line, and numbers both ways.
 //!
 //! `Lines` and `Fields` are iterators that lend slices of the text, so reading takes no memory.
-//! A contract sees each as the list of what is left. `hex` and `prefixed` read a number or say
-//! why there is none, and `push_number` and `push_hex` append a number's text.
+//! A contract sees each as the list of what is left. `decimal`, `hex` and `prefixed` read a number
+//! or say why there is none, and `push_number` and `push_hex` append a number's text.
 #![tactic(auto)]
 
+mod decimals;
 mod fields;
 mod lines;
 mod read;
@@ -12,6 +13,7 @@ mod read;
 mod tests;
 mod write;
 
+pub use decimals::decimal;
 pub use fields::Fields;
 pub use lines::{Line, Lines};
 pub use read::{NumberFault, hex, prefixed};

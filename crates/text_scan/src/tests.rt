@@ -1,4 +1,4 @@
-use crate::{Fields, Lines, NumberFault, hex, prefixed, push_hex, push_number};
+use crate::{Fields, Lines, NumberFault, decimal, hex, prefixed, push_hex, push_number};
 use std::test::Fail;
 
 #[test]
@@ -58,4 +58,28 @@ fn numbers_are_written_behind_what_stands(rt: HostRuntime) -> Result<(), Fail> {
     push_hex(&mut out, 0xffff_ffff_81e0_0010)?;
     assert_eq!(rt; out.as_slice(), b"0x00xffffffff81e00010".as_slice());
     Ok(())
+}
+
+#[test]
+fn decimal_numbers_are_read_exactly(rt: HostRuntime) {
+    let cases: [(&[u8], Result<u64, NumberFault>); 9] = [
+        (b"0", Ok(0)),
+        (b"18446744073709551615", Ok(u64::MAX)),
+        (b"000000000000000000000000010", Ok(10)),
+        (b"18446744073709551616", Err(NumberFault::NumberTooLarge)),
+        (
+            b"99999999999999999999999999999999999999999",
+            Err(NumberFault::NumberTooLarge),
+        ),
+        (
+            b"99999999999999999999999999999999999999999a",
+            Err(NumberFault::NotNumber),
+        ),
+        (b"", Err(NumberFault::NotNumber)),
+        (b"+1", Err(NumberFault::NotNumber)),
+        (b"0x1", Err(NumberFault::NotNumber)),
+    ];
+    for (text, want) in cases {
+        assert_eq!(rt; decimal(text), want);
+    }
 }

@@ -1,0 +1,10 @@
+pub mod Bytes
+pub mod Functions
+pub mod Laws
+pub mod Dwarf
+pub mod Abbrev
+pub mod Info
+pub mod Line
+pub mod Elf
+pub mod Samples
+pub mod Blocks

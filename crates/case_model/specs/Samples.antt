@@ -1,0 +1,31 @@
+-- A generated branch text: the samples of each function, as `perf script -F ip,brstack` prints them.
+use Rattle.std.specs.Prelude.{ℕ, ◌+◌, List, [], ◌∷◌, ◌++◌, drop, codes, replicate}
+use Rattle.std.specs.List.{flat_map, concat}
+use Rattle.text_model.specs.Numbers.{hex_text}
+use Rattle.case_model.specs.Bytes.{for_each_function}
+use Rattle.case_model.specs.Functions.{address, weight, caller}
+
+-- A taken branch, predicted, behind a space.
+unfoldable pub branch : ℕ × ℕ → List ℕ
+branch ends = codes " " ++ hex_text ends.0 ++ codes "/" ++ hex_text ends.1 ++ codes "/P/-/-/1"
+
+-- A sample: the address at which it was taken, without 0x, and the branches before it, the newest first.
+abbrev pub sample : ℕ → List (ℕ × ℕ) → List ℕ
+sample ip branches = drop 2 (hex_text ip) ++ flat_map branch branches ++ codes "\n"
+
+-- A call of the function at `here` from the one at `there`: it comes in at the start, takes one branch inside, and
+-- returns.
+unfoldable pub call_sample : ℕ → ℕ → ℕ → ℕ → List ℕ
+call_sample here there from to =
+    sample (there + 0x36) ((here + 0x38, there + 0x36) ∷ (here + from, here + to) ∷ (there + 0x34, here) ∷ [])
+
+-- The samples of function k of n: as often as its weight says past the block from 0x10 on, and once past that from
+-- 0x8 on.
+unfoldable pub samples_of : ℕ → ℕ → List ℕ
+samples_of n k =
+    concat (replicate (weight k) (call_sample (address k) (address (caller n k)) 0xc 0x20))
+    ++ call_sample (address k) (address (caller n k)) 0x4 0x10
+
+-- The branch text of n functions.
+unfoldable pub branch_text : ℕ → List ℕ
+branch_text n = for_each_function (samples_of n) n

@@ -1,0 +1,78 @@
+-- The definitions on worked values.
+use Rattle.std.proofs.Common.{◌≡◌, List, [], ◌∷◌, refl, Some, None, true, false, codes, ℕ, Option}
+use Rattle.refusal.specs.declared.kind.Kind.{Kind}
+use Rattle.refusal.specs.declared.kind.Kind.TheVariants.{BadLine, BlockOrder, BlockOverlap, NoBlocks, NoEndLine, BadBound, EdgeEnd, EdgeTwice}
+use Rattle.refusal.specs.declared.place.Place.{Place}
+use Rattle.text_model.specs.Fields.{fields_of}
+use Rattle.text_model.specs.Lines.{lines_of}
+use Rattle.text_model.specs.Numbers.{number_of, prefixed_of}
+use Rattle.block_model.specs.Judging.{cause_of_block, cause_of_edge, cause_of_line, items_from, first_bad_of_text}
+use Rattle.block_model.specs.Line.{place_of, address_of, bounded_by, count_of, bound_by_word, bound_by_words, bound_of, block_line_of, edge_line_of, line_by_fields, line_of}
+use Rattle.block_model.specs.Line.{passed, tells_block, tells_edge}
+use Rattle.block_model.specs.Text.{functions_from, functions_of}
+
+a_block_line : line_of (codes " block 1\t0x8 0x10 exit lo=2 hi=03") ≡ Some (tells_block 1 (record { lo = 8; hi = 16; exit = true; bound = record { lower = 2; upper = Some 3 } }))
+unfolding line_of line_by_fields block_line_of place_of address_of bound_of bound_by_words bounded_by count_of fields_of number_of prefixed_of
+a_block_line = refl
+
+an_edge_line : line_of (codes "edge 0 1 never") ≡ Some (tells_edge 0 1 (record { lower = 0; upper = Some 0 }))
+unfolding line_of line_by_fields edge_line_of place_of bound_of bound_by_word fields_of number_of
+an_edge_line = refl
+
+an_edge_never_ran : line_of (codes "edge 0 1 ran") ≡ None
+unfolding line_of line_by_fields edge_line_of place_of bound_of bound_by_word bounded_by count_of fields_of number_of
+an_edge_never_ran = refl
+
+two_words_of_bounds : line_of (codes "block 0 0x1 0x2 never ran") ≡ None
+unfolding line_of line_by_fields block_line_of place_of address_of bound_of bound_by_words bounded_by count_of fields_of number_of prefixed_of
+two_words_of_bounds = refl
+
+a_comment : line_of (codes "# block") ≡ Some passed
+unfolding line_of
+a_comment = refl
+
+no_comment_behind_a_space : line_of (codes " # block") ≡ None
+unfolding line_of line_by_fields fields_of
+no_comment_behind_a_space = refl
+
+a_large_bound : line_of (codes "edge 0 1 lo=17592186044416") ≡ None
+unfolding line_of line_by_fields edge_line_of place_of bound_of bound_by_word bounded_by count_of fields_of number_of
+a_large_bound = refl
+
+bad : List ℕ → Option Place
+bad text = first_bad_of_text 2 text
+
+at : ℕ → Kind → Option Place
+at line kind = Some (record { file = 2; at = line; kind = kind })
+
+out_of_order : bad (codes "func a\nblock 1 0x1 0x2\n") ≡ at 2 BlockOrder
+unfolding bad at items_from cause_of_line cause_of_block line_of line_by_fields block_line_of place_of address_of bound_of fields_of number_of prefixed_of lines_of
+out_of_order = refl
+
+overlapping : bad (codes "func a\nblock 0 0x1 0x3\nblock 1 0x2 0x4\n") ≡ at 3 BlockOverlap
+unfolding bad at items_from cause_of_line cause_of_block line_of line_by_fields block_line_of place_of address_of bound_of fields_of number_of prefixed_of lines_of
+overlapping = refl
+
+no_blocks : bad (codes "func a\nend\n") ≡ at 2 NoBlocks
+unfolding bad at items_from cause_of_line line_of line_by_fields fields_of lines_of
+no_blocks = refl
+
+no_end : bad (codes "func a\nblock 0 0x1 0x2\n") ≡ at 3 NoEndLine
+unfolding bad at items_from cause_of_line cause_of_block line_of line_by_fields block_line_of place_of address_of bound_of fields_of number_of prefixed_of lines_of
+no_end = refl
+
+a_bad_bound : bad (codes "func a\nblock 0 0x1 0x2 lo=3 hi=2") ≡ at 2 BadBound
+unfolding bad at items_from cause_of_line cause_of_block line_of line_by_fields block_line_of place_of address_of bound_of bound_by_words bounded_by count_of fields_of number_of prefixed_of lines_of
+a_bad_bound = refl
+
+edges : (bad (codes "func a\nblock 0 0x1 0x2\nedge 0 1\n") ≡ at 3 EdgeEnd) × (bad (codes "func a\nedge 0 0\n") ≡ at 2 EdgeEnd)
+    × (bad (codes "func a\nblock 0 0x1 0x2\nedge 0 0\nedge 0 0\n") ≡ at 4 EdgeTwice)
+    × (bad (codes "func a\nblock 0 0x1 0x2\nedge 0 0\nblock 1 0x2 0x3\n") ≡ at 4 BadLine)
+unfolding bad at items_from cause_of_line cause_of_block cause_of_edge line_of line_by_fields block_line_of edge_line_of place_of address_of bound_of fields_of number_of prefixed_of lines_of
+edges = (refl, refl, refl, refl)
+
+a_text : functions_of (codes "# two\nfunc a\nblock 0 0x1 0x2 exit\nedge 0 0\nend\n\nfunc a\nblock 0 0x1 0x2 ran\nend")
+    ≡ record { name = codes "a"; blocks = record { lo = 1; hi = 2; exit = true; bound = record { lower = 0; upper = None } } ∷ []; edges = record { from = 0; to = 0; bound = record { lower = 0; upper = None } } ∷ [] }
+    ∷ record { name = codes "a"; blocks = record { lo = 1; hi = 2; exit = false; bound = record { lower = 1; upper = None } } ∷ []; edges = [] } ∷ []
+unfolding functions_from line_of line_by_fields block_line_of edge_line_of place_of address_of bound_of bound_by_word fields_of number_of prefixed_of lines_of
+a_text = refl

@@ -1,0 +1,5 @@
+pub mod Function
+pub mod Judging
+pub mod Limits
+pub mod Line
+pub mod Text

@@ -1,0 +1,4 @@
+pub mod SaidLemmas
+pub mod TakenLemmas
+pub mod DraftLemmas
+pub mod ReadingLemmas

@@ -1,0 +1,17 @@
+//! Block texts, read: the functions of a binary as basic blocks and the edges between them.
+//!
+//! The text stands in for the disassembly: `block` lines say which addresses run together, `edge`
+//! lines where the program can go on. `read` gives the functions or the first bad line.
+#![tactic(auto)]
+
+mod draft;
+mod fun;
+mod said;
+mod taken;
+#[cfg(test)]
+mod tests;
+mod text;
+
+pub use block_model::{Block, Bound, Edge, Weight};
+pub use fun::Fun;
+pub use text::read;

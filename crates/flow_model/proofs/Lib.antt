@@ -1,0 +1,4 @@
+mod Examples
+pub mod CirculationLemmas
+pub mod PriceLemmas
+pub mod LawLemmas

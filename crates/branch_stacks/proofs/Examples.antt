@@ -1,5 +1,5 @@
 -- The definitions on worked values.
-use Rattle.std.proofs.Common.{◌≡◌, ℕ, List, [], ◌∷◌, Some, None, refl, arith}
+use Rattle.std.proofs.Common.{◌≡◌, ℕ, true, List, [], ◌∷◌, Some, None, refl, arith}
 use Rattle.refusal.specs.declared.kind.Kind.TheVariants.{TooManyBranches}
 use Rattle.branch_stacks.specs.declared.pair.Pair.{Pair}
 use Rattle.branch_stacks.specs.Line.{cause_of_total}
@@ -29,7 +29,7 @@ table : IsTable rows
 unfolding rows row
 table = record { distinct = (refl, (refl, tt)); positive = (omega arith, (omega arith, tt)) }
 
-ranges_not_counted_in : total_of (record { branches = rows; ranges = row 5 6 7 ∷ [] }) ≡ 4
+ranges_not_counted_in : total_of (record { branches = rows; ranges = row 5 6 7 ∷ []; with_ranges = true }) ≡ 4
 unfolding rows row
 ranges_not_counted_in = refl
 

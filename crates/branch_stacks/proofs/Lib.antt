@@ -1,4 +1,6 @@
 mod Examples
+pub mod FeedLemmas
 pub mod LineLemmas
+pub mod ReaderLemmas
 pub mod TableLemmas
 pub mod TextLemmas

@@ -1,20 +1,21 @@
 -- What a written row and a new row do to a table.
-use Rattle.std.proofs.Common.{◌≡◌, ℕ, zero, suc, ◌+◌, ◌*◌, ◌<◌, ◌≤◌, ◌==◌, ◌&&◌, Bool, true, false, cond, List, [], ◌∷◌, ◌++◌, length, map, get_or, set, take, drop, replicate, None, Some, refl, sym, ap, subst, ◌∙◌, arith}
-use Rattle.std.specs.Prelude.{position, count_by}
-use Rattle.std.specs.List.{AllByRecursion, position_from, zip}
+use Rattle.std.proofs.Common.{◌≡◌, ℕ, zero, suc, ◌+◌, ◌*◌, ◌<◌, ◌≤◌, ◌==◌, ◌&&◌, ◌||◌, Bool, true, false, cond, List, [], ◌∷◌, ◌++◌, length, map, get_or, set, take, drop, replicate, Some, refl, sym, ap, subst, ◌∙◌, arith}
+use Rattle.std.specs.Prelude.{count_by, slice_get, not, if◌then◌else◌}
+use Rattle.std.specs.List.{AllByRecursion, list_any, zip}
 use Rattle.std.proofs.lemmas.Bool.Decides.{nat_tests}
-use Rattle.std.proofs.lemmas.List.{append-nil, append_assoc, map_push, length-append, length-map, length-replicate}
+use Rattle.std.proofs.lemmas.List.{append-nil, append_assoc, get_or-map, map_push, length-append, length-map, length-replicate}
 use Rattle.std.proofs.lemmas.Slice.Zip.{length-zip}
 use Rattle.std.proofs.lemmas.List.Sums.{sum_by-append, sum_by-set, sum_by-cons, sum_by_push}
 use Rattle.std.proofs.lemmas.List.Folds.{sum_by-replicate}
-use Rattle.std.proofs.lemmas.Iterator.Adapters.{position_from-zero}
-use Rattle.std.proofs.lemmas.List.Quantifiers.{position-Some}
+use Rattle.std.proofs.lemmas.Option.{slice_get_within, get_or_from_slice_get}
+use Rattle.indexmap.specs.IndexSet.{insert_key}
 use Rattle.std.proofs.Math.Seq.{map-set_same}
 use Rattle.sample_model.specs.Pairs.{same_pair, times_of}
+use Rattle.sample_model.proofs.PairLemmas.{same_pair-equal}
 use Rattle.sample_model.specs.Samples.{ranges_between, range_between}
 use Rattle.branch_stacks.specs.declared.pair.Pair.{Pair}
 use Rattle.branch_stacks.specs.Table.{pair_of, times_of_row, times_in, total_in, AllDistinct, IsTable, AddsPairs, Tallies}
-use Rattle.branch_stacks.specs.Tally.{Tally, IsCounted}
+use Rattle.branch_stacks.specs.Tally.{Tally, IsCounted, counted as counted_of}
 use Rattle.sample_model.specs.Limits.{max_branches}
 
 -- one for an element that passes
@@ -39,9 +40,8 @@ positive-push : (rows : List Pair) (new : Pair) → 0 < new.times → AllByRecur
 positive-push [] new more all = (more, tt)
 positive-push (row ∷ rows) new more all = (all.0, positive-push rows new more all.1)
 
--- the pair that a row was looked for by
-pair_of-found : (row : Pair) (from to : ℕ) → (row.from == from && row.to == to) ≡ true → pair_of row ≡ (from, to)
-pair_of-found row from to found = let a : row.from ≡ from = grind (arith, nat_tests) in let b : row.to ≡ to = grind (arith, nat_tests) in cc
+same_pair-other : (p q : ℕ × ℕ) → same_pair p q ≡ false → same_pair q p ≡ false
+same_pair-other p q is = grind (arith, nat_tests)
 
 -- what a row that grew adds
 times_in-set : (rows : List Pair) (i n : ℕ) (row : Pair) → i < length rows → row ≡ get_or rows i row → (p : ℕ × ℕ)
@@ -68,20 +68,29 @@ AddsPairs-row rows i n row within is more = record {
   total = total_in-set rows i n row within is ∙ ap (λ k. total_in rows + k) (sym (length-replicate n (pair_of row)));
 }
 
--- more times in the row that was found
-pub AddsPairs-found : (rows : List Pair) (from to n i : ℕ) (row : Pair) → position (λ r. r.from == from && r.to == to) rows ≡ Some i → row ≡ get_or rows i row → 0 < n
-    → AddsPairs rows (set rows i (record row { times = row.times + n })) (replicate n (from, to))
-AddsPairs-found rows from to n i row at is more =
-    let found = position-Some (λ r. r.from == from && r.to == to) rows i row at in
-    let here : (row.from == from && row.to == to) ≡ true = ap (λ (r : Pair). r.from == from && r.to == to) is ∙ found.1 in
-    subst (λ (p : ℕ × ℕ). AddsPairs rows (set rows i (record row { times = row.times + n })) (replicate n p)) (pair_of-found row from to here) (AddsPairs-row rows i n row found.0 is more)
+-- The pairs of the rows stand in an index: the row at the index of a pair is of that pair,
+row_at : (rows : List Pair) (pairs : List (ℕ × ℕ)) (pair k : ℕ × ℕ) (i : ℕ) (row : Pair) → pairs ≡ map pair_of rows → slice_get pairs i ≡ Some k → same_pair pair k ≡ true → row ≡ get_or rows i row
+    → (i < length rows) × (pair_of row ≡ pair)
+row_at rows pairs pair k i row indexed at same is =
+    let here : slice_get (map pair_of rows) i ≡ Some k = ap (λ (ps : List (ℕ × ℕ)). slice_get ps i) (sym indexed) ∙ at in
+    let within : i < length rows = omega (arith, slice_get_within (map pair_of rows) i k here, length-map rows pair_of) in
+    let found : pair_of (get_or rows i row) ≡ k = sym (get_or-map pair_of rows i row k within) ∙ get_or_from_slice_get (map pair_of rows) i k k here in
+    (within, ap pair_of is ∙ found ∙ sym (same_pair-equal pair k same))
 
-count_by-none_from : {X : Type 0} (test : X → Bool) (i : ℕ) (xs : List X) → position_from test i xs ≡ None → count_by test xs ≡ 0
-count_by-none_from test i [] none = refl
-count_by-none_from test i (x ∷ xs) none =
-    sum_by-cons (counted test) x xs
-    ∙ elim (test x) as (λ b. cond b (Some i) (position_from test (i + 1) xs) ≡ None → ◌≡◌ {A = ℕ} (cond b 1 0 + count_by test xs) 0)
-    [ true ↦ λ none. cc | false ↦ λ none. omega (arith, count_by-none_from test (i + 1) xs none) ] none
+-- and it is told more often,
+pub AddsPairs-at : (old rows : List Pair) (pairs : List (ℕ × ℕ)) (pair k : ℕ × ℕ) (n i : ℕ) (row : Pair) → pairs ≡ map pair_of rows → slice_get pairs i ≡ Some k → same_pair pair k ≡ true → row ≡ get_or rows i row → 0 < n → old ≡ rows
+    → AddsPairs old (set rows i (record row { times = row.times + n })) (replicate n pair)
+AddsPairs-at old rows pairs pair k n i row indexed at same is more seen =
+    let here = row_at rows pairs pair k i row indexed at same is in
+    rw seen (subst (λ (p : ℕ × ℕ). AddsPairs rows (set rows i (record row { times = row.times + n })) (replicate n p)) here.1 (AddsPairs-row rows i n row here.0 is more))
+
+-- while the pairs stay.
+pub pairs-at : (rows : List Pair) (pairs : List (ℕ × ℕ)) (i n : ℕ) (row : Pair) → pairs ≡ map pair_of rows → row ≡ get_or rows i row → pairs ≡ map pair_of (set rows i (record row { times = row.times + n }))
+pairs-at rows pairs i n row indexed is = indexed ∙ sym (map-set_same pair_of rows i (record row { times = row.times + n }) row (ap pair_of is))
+
+pub insert_key-present : (pairs : List (ℕ × ℕ)) (pair : ℕ × ℕ) → false ≡ not (list_any (same_pair pair) pairs) → insert_key same_pair pairs pair ≡ pairs
+insert_key-present pairs pair known =
+    elim (list_any (same_pair pair) pairs) as (λ b. false ≡ not b → (if b then pairs else pairs ++ pair ∷ []) ≡ pairs) [ true ↦ λ _. refl | false ↦ λ no. absurd cc ] known
 
 -- a row of its own for a pair that has none
 distinct-push : (rows : List Pair) (from to : ℕ) → count_by (λ r. r.from == from && r.to == to) rows ≡ 0 → AllDistinct (map pair_of rows) → AllDistinct (map pair_of rows ++ (from, to) ∷ [])
@@ -97,19 +106,36 @@ distinct-push (row ∷ rows) from to none old =
       )
     ] (sym (sum_by-cons (counted (λ (r : Pair). r.from == from && r.to == to)) row rows) ∙ none) refl
 
-pub AddsPairs-new : (rows : List Pair) (from to n : ℕ) → position (λ r. r.from == from && r.to == to) rows ≡ None → 0 < n
-    → AddsPairs rows (rows ++ record { from = from; to = to; times = n } ∷ []) (replicate n (from, to))
-AddsPairs-new rows from to n none more =
+-- no row is of a pair that the index has not
+absent : (rows : List Pair) (from to : ℕ) → list_any (same_pair (from, to)) (map pair_of rows) ≡ false → count_by (λ (r : Pair). r.from == from && r.to == to) rows ≡ 0
+absent [] from to none = refl
+absent (row ∷ rows) from to none =
+    let parts = either_false (same_pair (from, to) (pair_of row)) (list_any (same_pair (from, to)) (map pair_of rows)) none in
+    let other : (row.from == from && row.to == to) ≡ false = same_pair-other (from, to) (pair_of row) parts.0 in
+    sum_by-cons (counted (λ (r : Pair). r.from == from && r.to == to)) row rows
+    ∙ ap (λ b. cond b 1 0 + count_by (λ (r : Pair). r.from == from && r.to == to) rows) other ∙ omega (arith, absent rows from to parts.1)
+  where
+    either_false : (a b : Bool) → (a || b) ≡ false → (a ≡ false) × (b ≡ false)
+    either_false true b e = absurd cc
+    either_false false b e = (refl, e)
+
+pub AddsPairs-new : (old rows : List Pair) (pairs : List (ℕ × ℕ)) (from to n : ℕ) → pairs ≡ map pair_of rows → true ≡ not (list_any (same_pair (from, to)) pairs) → 0 < n → old ≡ rows
+    → AddsPairs old (rows ++ record { from = from; to = to; times = n } ∷ []) (replicate n (from, to))
+AddsPairs-new old rows pairs from to n indexed is_new more seen =
     let new : Pair = record { from = from; to = to; times = n } in
-    let absent = count_by-none_from (λ (r : Pair). r.from == from && r.to == to) 0 rows (sym (position_from-zero (λ (r : Pair). r.from == from && r.to == to) rows) ∙ none) in
-    record {
+    let none = absent rows from to (ap (list_any (same_pair (from, to))) (sym indexed) ∙ unknown (list_any (same_pair (from, to)) pairs) is_new) in
+    rw seen record {
       table = λ old. record {
-        distinct = subst AllDistinct (sym (map_push pair_of rows new)) (distinct-push rows from to absent old.distinct);
+        distinct = subst AllDistinct (sym (map_push pair_of rows new)) (distinct-push rows from to none old.distinct);
         positive = positive-push rows new more old.positive;
       };
       times = λ p. sum_by_push (times_of_row p) rows new ∙ ap (λ k. times_in rows p + k) (sym (count_by-replicate (same_pair p) (from, to) n));
       total = sum_by_push (λ (r : Pair). r.times) rows new ∙ ap (λ k. total_in rows + k) (sym (length-replicate n (from, to)));
     }
+  where
+    unknown : (b : Bool) → true ≡ not b → b ≡ false
+    unknown true e = absurd cc
+    unknown false e = refl
 
 pub AddsPairs-none : (rows : List Pair) → AddsPairs rows rows []
 AddsPairs-none rows = record { table = λ old. old; times = λ p. omega arith; total = omega arith }
@@ -163,23 +189,27 @@ unfolding ranges_between
 length-ranges_between branches =
     omega (arith, length-map (zip branches (drop 1 branches)) range_between, length-zip branches (drop 1 branches))
 
+pub length-counted : {A : Type 0} (with_ranges : Bool) (all : List A) → length (counted_of with_ranges all) ≤ length all
+length-counted true all = omega arith
+length-counted false all = omega arith
+
 -- what is kept of a table, where it grew from one with the same rows
 table-grown : (old rows new : List Pair) (pairs : List (ℕ × ℕ)) → rows ≡ old → AddsPairs rows new pairs → IsTable old → IsTable new × (total_in new ≡ total_in old + length pairs)
 table-grown old rows new pairs same adds table = (adds.table (subst IsTable (sym same) table), adds.total ∙ ap (λ r. total_in r + length pairs) same)
 
 -- what is kept where a sample was counted
-pub IsCounted-stack : (old : Tally) (count : ℕ) (branches ranges new_branches new_ranges : List Pair) (stack : List (ℕ × ℕ)) → IsCounted old count
-    → branches ≡ old.branches → AddsPairs branches new_branches stack → ranges ≡ old.ranges → AddsPairs ranges new_ranges (ranges_between stack)
-    → count + length stack ≤ max_branches → IsCounted (record { branches = new_branches; ranges = new_ranges }) (count + length stack)
-IsCounted-stack old count branches ranges new_branches new_ranges stack kept same_branches more_branches same_ranges more_ranges room =
+pub IsCounted-stack : (old : Tally) (count : ℕ) (branches ranges new_branches new_ranges : List Pair) (stack ranged : List (ℕ × ℕ)) → IsCounted old count
+    → branches ≡ old.branches → AddsPairs branches new_branches stack → ranges ≡ old.ranges → ranged ≡ counted_of old.with_ranges stack → AddsPairs ranges new_ranges (ranges_between ranged)
+    → count + length stack ≤ max_branches → IsCounted (record { branches = new_branches; ranges = new_ranges; with_ranges = old.with_ranges }) (count + length stack)
+IsCounted-stack old count branches ranges new_branches new_ranges stack ranged kept same_branches more_branches same_ranges is_ranged more_ranges room =
     let grown_branches = table-grown old.branches branches new_branches stack same_branches more_branches kept.branches in
-    let grown_ranges = table-grown old.ranges ranges new_ranges (ranges_between stack) same_ranges more_ranges kept.ranges in
+    let grown_ranges = table-grown old.ranges ranges new_ranges (ranges_between ranged) same_ranges more_ranges kept.ranges in
     record {
       branches = grown_branches.0;
       ranges = grown_ranges.0;
       total = omega (arith, kept.total, grown_branches.1);
       within = room;
-      fewer_ranges = omega (arith, kept.fewer_ranges, grown_ranges.1, length-ranges_between stack);
+      fewer_ranges = omega (arith, kept.fewer_ranges, grown_ranges.1, length-ranges_between ranged, length-counted old.with_ranges stack, ap length is_ranged);
     }
 
 -- more pairs were counted

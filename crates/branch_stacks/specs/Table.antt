@@ -4,6 +4,11 @@ use Rattle.std.specs.List.{AllByRecursion, sum_by}
 use Rattle.sample_model.specs.Pairs.{same_pair, times_of}
 use Rattle.branch_stacks.specs.declared.pair.Pair.{Pair}
 
+-- What a table shows: its rows, and how many more fit without memory.
+pub record Table : Type 0 where
+  pub rows : List Pair
+  pub room : ℕ
+
 -- The pair of a row.
 abbrev pub pair_of : Pair → ℕ × ℕ
 pair_of row = (row.from, row.to)

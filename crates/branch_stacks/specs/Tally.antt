@@ -1,28 +1,35 @@
 -- What is counted of a branch text.
-use Rattle.std.specs.Prelude.{◌≡◌, ℕ, ◌≤◌, List}
+use Rattle.std.specs.Prelude.{◌≡◌, ℕ, ◌≤◌, Bool, List, [], if◌then◌else◌}
 use Rattle.sample_model.specs.Limits.{max_branches}
 use Rattle.sample_model.specs.Samples.{branches_of_lines, ranges_of_lines, ranges_between}
 use Rattle.branch_stacks.specs.declared.pair.Pair.{Pair}
 use Rattle.branch_stacks.specs.Table.{AddsPairs, IsTable, Tallies, total_in}
 
--- The distinct branches and the distinct sampled ranges, each with how often it stands.
+-- The distinct branches and the distinct sampled ranges, each with how often it stands, and whether ranges are
+-- counted.
 pub record Tally : Type 0 where
   pub branches : List Pair
   pub ranges : List Pair
+  pub with_ranges : Bool
 
 -- How many branches were counted, all in all.
 abbrev pub total_of : Tally → ℕ
 total_of tally = total_in tally.branches
 
--- The branches of one sample were counted, newest first, and the ranges between them.
+-- That of which ranges are counted: all, or nothing where ranges are left out.
+abbrev pub counted : {A : Type 0} → Bool → List A → List A
+counted with_ranges all = if with_ranges then all else []
+
+-- The branches of one sample were counted, newest first, and the ranges between them, unless ranges are left out.
 pub record AddsStack (old new : Tally) (stack : List (ℕ × ℕ)) : Type 0 where
   pub branches : AddsPairs old.branches new.branches stack
-  pub ranges : AddsPairs old.ranges new.ranges (ranges_between stack)
+  pub ranges : AddsPairs old.ranges new.ranges (ranges_between (counted old.with_ranges stack))
+  pub with_ranges : new.with_ranges ≡ old.with_ranges
 
--- These lines were counted, and nothing else.
+-- These lines were counted, and nothing else: their branches, and their ranges, unless ranges are left out.
 pub record TellsOf (lines : List (List ℕ)) (tally : Tally) : Type 0 where
   pub branches : Tallies (branches_of_lines lines) tally.branches
-  pub ranges : Tallies (ranges_of_lines lines) tally.ranges
+  pub ranges : Tallies (ranges_of_lines (counted tally.with_ranges lines)) tally.ranges
 
 -- What is kept: both are tables, the total is that of the branches and within the limit, and there are no more ranges
 -- than branches.

@@ -1,11 +1,12 @@
-ghost use Rattle.std.specs.Prelude.{◌≡◌, ◌<◌, ◌≤◌, ◌+◌, ◌↔◌, [], length, IfOk, OnOk, OnErr, IsErrOf, replicate};
+ghost use Rattle.std.specs.Prelude.{◌≡◌, ◌≢◌, ◌<◌, ◌≤◌, ◌+◌, ◌↔◌, true, false, [], length, IfOk, OnOk, OnErr, IsErrOf, IsPermutation, IsSorted, replicate};
 ghost use Rattle.sample_model.specs.Limits.{max_branches};
+ghost use Rattle.branch_stacks.specs.Pair.{pair_cmp};
 ghost use Rattle.branch_stacks.specs.Table.{AddsPairs, IsTable, total_in};
-ghost use Rattle.branch_stacks.specs.Tally.{AddsStack, IsCounted, total_of};
+ghost use Rattle.branch_stacks.specs.Tally.{AddsStack, IsCounted, counted, total_of};
 ghost use Rattle.branch_stacks.specs.declared.counts.CountsStop.TheVariants.{NoMemory as no_memory};
 
-use crate::pair::Pair;
-use crate::table;
+use crate::pair::{Pair, sort_pairs};
+use crate::table::Table;
 use refusal::NoMemory;
 use std::alloc::{AllocError, Global};
 use std::marker::Model;
@@ -31,36 +32,63 @@ impl From<AllocError> for CountsStop {
 }
 
 /// How often each distinct branch, and each distinct range between two branches of a sample, was
-/// counted.
+/// counted. Ranges are counted or left out, as the counts were made.
 #[derive(Debug, Drop)]
 pub struct Counts {
-    branches: Vec<Pair>,
-    ranges: Vec<Pair>,
+    branches: Table,
+    ranges: Table,
+    with_ranges: bool,
     total: u64,
 }
 
+// The counts of nothing have room for a first branch.
 impl Model for Counts {
+    ghost use Rattle.std.specs.Prelude.{◌≡◌, ◌<◌};
     ghost use Rattle.branch_stacks.specs.Tally.{Tally, IsCounted};
 
     ghost Value = { Tally };
 
-    ghost view = { λ c. record { branches = c.branches.items; ranges = c.ranges.items } };
+    ghost view = { λ c. record {
+      branches = c.branches.rows;
+      ranges = c.ranges.rows;
+      with_ranges = c.with_ranges;
+    } };
 
     ghost invariant = { λ c. IsCounted
-        (record { branches = c.branches.items; ranges = c.ranges.items }) c.total };
+        (record { branches = c.branches.rows; ranges = c.ranges.rows; with_ranges = c.with_ranges })
+        c.total
+        × (c.total ≡ 0 → 0 < c.branches.room) };
 }
 
 impl Counts {
-    /// Counts of nothing. Room for a first branch and a first range is taken.
+    /// Counts of nothing yet, with room for a first branch.
     ///
     /// # Errors
     /// `NoMemory`.
     pub fn new(alloc: Global) -> Result<Counts, NoMemory>
-        ensures { IfOk result (λ counts. (counts.branches ≡ []) × (counts.ranges ≡ [])) }
+        ensures { IfOk result (λ counts. (counts.branches ≡ []) × (counts.ranges ≡ [])
+            × (counts.with_ranges ≡ true)) }
     {
         Ok(Counts {
-            branches: Vec::with_capacity(alloc, 1)?,
-            ranges: Vec::with_capacity(alloc, 1)?,
+            branches: Table::with_room(alloc, 1)?,
+            ranges: Table::new(alloc),
+            with_ranges: true,
+            total: 0,
+        })
+    }
+
+    /// Counts of no branch yet, which leave ranges out, with room for a first branch.
+    ///
+    /// # Errors
+    /// `NoMemory`.
+    pub fn of_branches(alloc: Global) -> Result<Counts, NoMemory>
+        ensures { IfOk result (λ counts. (counts.branches ≡ []) × (counts.ranges ≡ [])
+            × (counts.with_ranges ≡ false)) }
+    {
+        Ok(Counts {
+            branches: Table::with_room(alloc, 1)?,
+            ranges: Table::new(alloc),
+            with_ranges: false,
             total: 0,
         })
     }
@@ -70,18 +98,33 @@ impl Counts {
         ensures rows { result.now ≡ self.now.branches }
         ensures table { IsTable result.now }
     {
-        &self.branches
+        self.branches.rows()
     }
 
-    /// The distinct sampled ranges, each with how often it was counted. `from` is the target of the
-    /// older branch, where the range begins, and `to` the source of the newer one, where it ends;
-    /// both are held.
+    /// The distinct branches in the order of pairs, each with how often it was counted. The memory
+    /// of all else is given back.
+    ///
+    /// # Errors
+    /// `NoMemory`.
+    pub fn into_sorted_branches(self) -> Result<Vec<Pair>, NoMemory>
+        ensures same { IfOk result (λ rows. IsPermutation self.branches rows.items) }
+        ensures sorted { IfOk result (λ rows. IsSorted pair_cmp rows.items) }
+    {
+        let Counts { branches, .. } = self;
+        let mut rows = branches.into_rows();
+        sort_pairs(&mut rows)?;
+        Ok(rows)
+    }
+
+    /// The distinct sampled ranges, each with how often it was counted, and none where ranges are
+    /// left out. `from` is the target of the older branch, where the range begins, and `to` the
+    /// source of the newer one, where it ends; both are held.
     pub fn ranges(&self) -> &[Pair]
         ensures rows { result.now ≡ self.now.ranges }
         ensures table { IsTable result.now }
         ensures fewer { total_in result.now ≤ total_of self.now }
     {
-        &self.ranges
+        self.ranges.rows()
     }
 
     /// How many branches were counted, all in all: at most 2^32 - 1.
@@ -94,7 +137,7 @@ impl Counts {
 
     /// The allocator of the rows.
     pub(crate) fn allocator(&self) -> Global {
-        *self.branches.allocator()
+        self.branches.allocator()
     }
 
     /// What is kept of all counts, for a proof that rests on it. Nothing is done.
@@ -104,8 +147,15 @@ impl Counts {
         let _total = self.total;
     }
 
+    /// The branches of a sample whose ranges are counted: all, or none where ranges are left out.
+    fn ranged<'a>(&self, entries: &'a [(u64, u64)]) -> &'a [(u64, u64)]
+        ensures { result.now ≡ counted self.now.with_ranges entries.now }
+    {
+        if self.with_ranges { entries } else { &[] }
+    }
+
     /// Counts one branch from the address `from` to the address `to` `times` times more, and no
-    /// range. `times` is above 0.
+    /// range. `times` is above 0. A first branch takes no memory.
     ///
     /// # Errors
     /// `TooMany` where the total would pass 2^32 - 1, and else `NoMemory`. The counts are then as
@@ -114,16 +164,18 @@ impl Counts {
         requires { 0 < times }
         ensures added { OnOk result
             (AddsPairs self.old.branches self.new.branches (replicate times (from, to))) }
-        ensures ranges { self.new.ranges ≡ self.old.ranges }
+        ensures ranges { (self.new.ranges ≡ self.old.ranges)
+            × (self.new.with_ranges ≡ self.old.with_ranges) }
         ensures too_many { IsErrOf result CountsStop.TooMany
             ↔ (max_branches < total_of self.old + times) }
+        ensures first { total_of self.old ≡ 0 → result ≢ Err CountsStop.NoMemory }
         ensures err { OnErr result (self.new ≡ self.old) }
     {
         if times > MAX_BRANCHES - self.total {
             return Err(CountsStop::TooMany);
         }
-        self.branches.try_reserve(1)?;
-        table::add_times(&mut self.branches, from, to, times);
+        self.branches.reserve(1)?;
+        self.branches.add_times(from, to, times);
         self.total += times;
         Ok(())
     }
@@ -147,10 +199,11 @@ impl Counts {
         if count as u64 > MAX_BRANCHES - self.total {
             return Err(CountsStop::TooMany);
         }
-        self.branches.try_reserve(count)?;
-        self.ranges.try_reserve(count)?;
-        table::add_branches(&mut self.branches, entries);
-        table::add_ranges(&mut self.ranges, entries);
+        let ranged = self.ranged(entries);
+        self.branches.reserve(count)?;
+        self.ranges.reserve(ranged.len())?;
+        self.branches.add_branches(entries);
+        self.ranges.add_ranges(ranged);
         self.total += count as u64;
         Ok(())
     }

@@ -1,55 +1,45 @@
 // One line of a branch text, read apart from the others.
-ghost use Rattle.std.specs.Prelude.{◌≡◌, []};
+ghost use Rattle.std.specs.Prelude.{◌≡◌, ◌≤◌, [], vec_capacity};
 ghost use Rattle.std.specs.List.{before_first, after_first};
 ghost use Rattle.text_model.specs.Fields.{fields_of};
 ghost use Rattle.text_model.specs.LineTests.{is_blank_line as blank_line, is_comment as comment};
 ghost use Rattle.sample_model.specs.Line as model;
 ghost use Rattle.branch_stacks.specs.Line.{ReadsEntry, ReadsSample, ReadsLine};
-ghost use Rattle.branch_stacks.specs.declared.line.LineStop.TheVariants.{NoMemory as no_memory};
 
 use memchr::{memchr, memmem};
 use refusal::Kind;
-use std::alloc::AllocFailed;
 use text_scan::{Fields, hex, prefixed};
 
 /// The most bytes of a line, its line feed not counted.
-const MAX_LINE_BYTES: usize = 65_536;
+pub(crate) const MAX_LINE_BYTES: usize = 65_536;
 
 /// The most branches of one sample.
 const MAX_ENTRIES: usize = 1024;
 
-/// Why a line was not read.
-#[derive(Clone, Copy, Debug, PartialEq, Eq)]
-pub(crate) enum LineStop {
-    /// The line breaks its format, for this cause.
-    Refused(Kind),
-    /// Memory was refused.
-    NoMemory,
-}
-
-impl<T: Drop> From<AllocFailed<T>> for LineStop {
-    ghost from_gives = { λ _ stop. stop ≡ no_memory };
-
-    fn from(_: AllocFailed<T>) -> Self {
-        LineStop::NoMemory
-    }
-}
+/// How many branches of a sample are kept: one more than it may have, so that it is known to have
+/// too many.
+pub(crate) const MAX_KEPT: usize = MAX_ENTRIES + 1;
 
 /// Reads the branches of a line, newest first, into `branches`, in place of what was there. A line
 /// that is no sample has none. How many branches there are in all is for the caller to judge.
-pub(crate) fn read_line(line: &[u8], branches: &mut Vec<(u64, u64)>) -> Result<(), LineStop>
-    ensures { ReadsLine line.now result branches.new.items }
+///
+/// # Errors
+/// The cause for which the line is refused, whatever stands before it.
+pub(crate) fn read_line(line: &[u8], branches: &mut Vec<(u64, u64)>) -> Result<(), Kind>
+    requires { MAX_KEPT ≤ vec_capacity branches.old }
+    ensures read { ReadsLine line.now result branches.new.items }
+    ensures capacity { vec_capacity branches.new ≡ vec_capacity branches.old }
 {
     branches.clear();
     if line.len() > MAX_LINE_BYTES {
-        return Err(LineStop::Refused(Kind::LineTooLong));
+        return Err(Kind::LineTooLong);
     }
     if !is_sample(line) {
         return Ok(());
     }
     read_sample(line, branches)?;
     if branches.len() > MAX_ENTRIES {
-        return Err(LineStop::Refused(Kind::TooManyEntries));
+        return Err(Kind::TooManyEntries);
     }
     Ok(())
 }
@@ -85,9 +75,11 @@ fn is_other_record(line: &[u8]) -> bool
 
 /// Appends the branches of a sample: each field has to be an entry but an instruction pointer in
 /// front.
-fn read_sample(line: &[u8], branches: &mut Vec<(u64, u64)>) -> Result<(), LineStop>
-    requires { branches.old.items ≡ [] }
-    ensures { ReadsSample line.now result branches.new.items }
+fn read_sample(line: &[u8], branches: &mut Vec<(u64, u64)>) -> Result<(), Kind>
+    requires empty { branches.old.items ≡ [] }
+    requires room { MAX_KEPT ≤ vec_capacity branches.old }
+    ensures read { ReadsSample line.now result branches.new.items }
+    ensures capacity { vec_capacity branches.new ≡ vec_capacity branches.old }
 {
     for field in entry_fields(line) {
         push_entry(field, branches)?;
@@ -106,12 +98,16 @@ fn entry_fields(line: &[u8]) -> Fields<'_>
     }
 }
 
-/// Appends the branch of a field, which has to be an entry.
-fn push_entry(field: &[u8], branches: &mut Vec<(u64, u64)>) -> Result<(), LineStop>
-    ensures { ReadsEntry field.now result branches.old.items branches.new.items }
+/// Appends the branch of a field, which has to be an entry, unless too many are kept already.
+fn push_entry(field: &[u8], branches: &mut Vec<(u64, u64)>) -> Result<(), Kind>
+    requires { MAX_KEPT ≤ vec_capacity branches.old }
+    ensures read { ReadsEntry field.now result branches.old.items branches.new.items }
+    ensures capacity { vec_capacity branches.new ≡ vec_capacity branches.old }
 {
-    let branch = entry(field).ok_or(LineStop::Refused(Kind::BadLine))?;
-    branches.push(branch)?;
+    let branch = entry(field).ok_or(Kind::BadLine)?;
+    if branches.len() < MAX_KEPT {
+        branches.push_reserved(branch);
+    }
     Ok(())
 }
 

@@ -1,4 +1,6 @@
-use crate::{Counts, CountsStop, Pair, read_text};
+ghost use Rattle.std.specs.Prelude.{◌<◌};
+
+use crate::{Counts, CountsStop, Pair, Reader, read_text};
 use refusal::{Kind, NoMemory, Place, Stop};
 use std::alloc::Global;
 use std::test::Fail;
@@ -9,6 +11,28 @@ fn pair(from: u64, to: u64, times: u64) -> Pair {
 
 fn refused(at: u64, kind: Kind) -> Result<(), Stop> {
     Err(Stop::Refused(Place { file: 2, at, kind }))
+}
+
+// How many calls of a reader answer `Ok`, what all calls behind them answer, and how many branches
+// and distinct ranges are then counted. A `|` ends each piece of the text.
+fn feed(
+    alloc: Global,
+    text: &[u8],
+    ends: usize,
+) -> Result<(usize, Result<(), Stop>, u64, usize), NoMemory> {
+    let mut counts = Counts::new(alloc)?;
+    let mut reader = Reader::new(alloc, 2)?;
+    let mut good = 0_usize;
+    let mut last = Ok(());
+    for piece in text.split(|byte| *byte == b'|') {
+        last = reader.feed(piece, &mut counts);
+        good = good.wrapping_add(usize::from(last.is_ok()));
+    }
+    for _ in 0..ends {
+        last = reader.finish(&mut counts);
+        good = good.wrapping_add(usize::from(last.is_ok()));
+    }
+    Ok((good, last, counts.total(), counts.ranges().len()))
 }
 
 // The answer to a text, and how many branches and how many distinct ranges are then counted.
@@ -155,5 +179,120 @@ fn a_stack_is_read_as_perf_prints_it(rt: HostRuntime) -> Result<(), Fail> {
     ];
     assert_eq!(rt; counts.branches(), branches.as_slice());
     assert_eq!(rt; counts.ranges(), ranges.as_slice());
+    Ok(())
+}
+
+#[test]
+fn a_reader_answers_at_each_call(rt: HostRuntime) -> Result<(), Fail> {
+    let bad_line = |at| refused(at, Kind::BadLine);
+    // Pieces, how often the text is ended, and what is answered and counted.
+    let cases: [(&[u8], usize, usize, Result<(), Stop>, u64, usize); 6] = [
+        (b"0x1/0x2 0x3/||0x4\n", 1, 4, Ok(()), 2, 1),
+        (b"zz", 2, 1, bad_line(1), 0, 0),
+        (b"0x1/0x2\nzz\n0x5/0x6|", 0, 0, bad_line(2), 1, 0),
+        (b"0x1/0x2\nz|z\n0x5/0x6|\n", 1, 1, bad_line(2), 1, 0),
+        (b"0x1/0x2|\n|\n", 1, 4, Ok(()), 1, 0),
+        (b"0x1/0x2", 2, 3, Ok(()), 1, 0),
+    ];
+    for (text, ends, good, answer, total, ranges) in cases {
+        assert_eq!(rt;
+            feed(rt.alloc(), text, ends)?,
+            (good, answer, total, ranges),
+            "{text:?}"
+        );
+    }
+    Ok(())
+}
+
+#[test]
+fn a_line_behind_a_text_that_ended_is_the_next(rt: HostRuntime) -> Result<(), Fail> {
+    let mut counts = Counts::new(rt.alloc())?;
+    let mut reader = Reader::new(rt.alloc(), 2)?;
+    assert_eq!(rt; reader.feed(b"0x1/0x2\n0x3/0x4", &mut counts), Ok(()));
+    assert_eq!(rt; reader.finish(&mut counts), Ok(()));
+    assert_eq!(rt;
+        reader.feed(b" zz\n", &mut counts),
+        refused(3, Kind::BadLine)
+    );
+    assert_eq!(rt; counts.total(), 2);
+    Ok(())
+}
+
+// Two good lines, a comment, and a bad line.
+const TEXT: &[u8] = b"401036 0x401038/0x401036/P/-/-/1 0x40100c/0x401020/P\n#\n\n\
+    0x401034/0x401000/P/-/-/1  0x401004/0x401010\n0x401034/ 0x1\n0x3/0x4";
+
+#[test]
+fn a_text_is_read_alike_however_it_is_cut(rt: HostRuntime) -> Result<(), Fail> {
+    for cut in 0..TEXT.len() {
+        let mut counts = Counts::new(rt.alloc())?;
+        let mut reader = Reader::new(rt.alloc(), 2)?;
+        let (front, back) = TEXT.split_at(cut);
+        let _ = reader.feed(front, &mut counts);
+        let _ = reader.feed(back, &mut counts);
+        let bad = refused(5, Kind::BadLine);
+        assert_eq!(rt; reader.finish(&mut counts), bad, "at {cut}");
+        assert_eq!(rt; counts.total(), 4, "at {cut}");
+        assert_eq!(rt; counts.ranges().len(), 2, "at {cut}");
+    }
+    Ok(())
+}
+
+// What is counted of a text that is read in pieces of so many bytes.
+fn in_pieces(alloc: Global, text: &[u8], size: usize) -> Result<(Result<(), Stop>, u64), NoMemory>
+    requires { 0 < size }
+{
+    let mut counts = Counts::of_branches(alloc)?;
+    let mut reader = Reader::new(alloc, 2)?;
+    let mut answer = Ok(());
+    for piece in text.chunks(size) {
+        answer = reader.feed(piece, &mut counts);
+    }
+    if answer.is_ok() {
+        answer = reader.finish(&mut counts);
+    }
+    Ok((answer, counts.total()))
+}
+
+#[test]
+fn long_lines_go_over_many_pieces(rt: HostRuntime) -> Result<(), Fail> {
+    let too_long = refused(2, Kind::LineTooLong);
+    for size in [1, 7, 1 << 16] {
+        for (blanks, answer, total) in [(65_529, Ok(()), 2), (65_530, too_long, 1)] {
+            let mut text = b"0x1/0x2\n".to_vec(rt.alloc())?;
+            text.extend_from_slice(&b" ".repeat(rt.alloc(), blanks)?)?;
+            text.extend_from_slice(b"0x3/0x4")?;
+            assert_eq!(rt;
+                in_pieces(rt.alloc(), &text, size)?,
+                (answer, total),
+                "{blanks} blanks in pieces of {size}"
+            );
+        }
+    }
+    // An open line of 8 MB is not refused before it has ended.
+    let open = b"0".repeat(rt.alloc(), 1 << 16)?;
+    let mut counts = Counts::of_branches(rt.alloc())?;
+    let mut reader = Reader::new(rt.alloc(), 2)?;
+    for _ in 0..128 {
+        assert_eq!(rt; reader.feed(&open, &mut counts), Ok(()));
+    }
+    let ended = refused(1, Kind::LineTooLong);
+    assert_eq!(rt; reader.feed(b"\n0x1/0x2", &mut counts), ended);
+    assert_eq!(rt; reader.finish(&mut counts), ended);
+    Ok(())
+}
+
+#[test]
+fn counts_of_branches_leave_ranges_out(rt: HostRuntime) -> Result<(), Fail> {
+    let mut counts = Counts::of_branches(rt.alloc())?;
+    let stack = [(3, 4), (1, 2), (3, 4), (1, 1), (1, 2), (3, 3)];
+    assert_eq!(rt; counts.add_stack(&stack), Ok(()));
+    assert_eq!(rt; counts.ranges(), [].as_slice());
+    assert_eq!(rt; counts.total(), 6);
+    let sorted = [pair(1, 1, 1), pair(1, 2, 2), pair(3, 3, 1), pair(3, 4, 2)];
+    assert_eq!(rt;
+        counts.into_sorted_branches()?.as_slice(),
+        sorted.as_slice()
+    );
     Ok(())
 }

@@ -1,10 +1,8 @@
 -- What a command comes to over a store of files, where no call fails and memory suffices.
-use Rattle.std.specs.Prelude.{ℕ, ◌^◌, List, ◌∷◌, Option, None, Some}
-use Rattle.std.specs.Option.{option_map_or}
+use Rattle.std.specs.Prelude.{ℕ, List, Option, None, Some}
 use Rattle.refusal.specs.declared.place.Place.{Place}
 use Rattle.io_edge.specs.Inputs.{Store}
-use Rattle.refusal.specs.Place.{first_bad, size_item}
-use Rattle.sample_model.specs.Judging.{items_of_text}
+use Rattle.sample_model.specs.Judging.{first_bad_of_text}
 use Rattle.sample_model.specs.Samples.{branches_of}
 use Rattle.command_model.specs.Command.{Command, counts, command_of}
 use Rattle.command_model.specs.Counts.{counts_text}
@@ -20,23 +18,24 @@ pub data Answer : Type 0 where
   -- All files are there and good, and this is to be written.
   writes : List ℕ → Answer
 
--- The k-th file is looked up, then judged. Only a good one leads on.
+-- A file that was judged: its first bad place is told, and only a good file leads on.
+abbrev pub unless_bad : Option Place → Answer → Answer
+unless_bad None next = next
+unless_bad (Some place) next = refused place
+
+-- The k-th file: it is missing, or there and judged.
+abbrev pub with_looked_up : Option (List ℕ) → ℕ → (List ℕ → Option Place) → (List ℕ → Answer) → Answer
+with_looked_up None k judge next = no_such_file k
+with_looked_up (Some bytes) k judge next = unless_bad (judge bytes) (next bytes)
+
+-- The k-th file, by its name.
 abbrev pub with_file : Store → ℕ → List ℕ → (List ℕ → Option Place) → (List ℕ → Answer) → Answer
-with_file files k name judge next =
-    option_map_or (λ bytes. option_map_or refused (judge bytes) (next bytes)) (files name) (no_such_file k)
-
--- The most bytes of a branch text that is read whole.
-abbrev pub max_whole_text : ℕ
-max_whole_text = 2 ^ 30
-
--- A file that is read whole is judged by its size before its content.
-abbrev pub first_bad_of_whole_text : ℕ → List ℕ → Option Place
-first_bad_of_whole_text file text = first_bad (size_item file max_whole_text text ∷ items_of_text file text)
+with_file files k name judge next = with_looked_up (files name) k judge next
 
 -- What a command comes to over these files.
 abbrev pub answer_of_command : Store → Command → Answer
 answer_of_command files (counts perf) =
-    with_file files 1 perf (first_bad_of_whole_text 1) (λ text. writes (counts_text (branches_of text)))
+    with_file files 1 perf (first_bad_of_text 1) (λ text. writes (counts_text (branches_of text)))
 
 -- The same where the words may spell no command.
 abbrev pub answer_of_words : Store → Option Command → Answer

@@ -1,6 +1,6 @@
 -- The sorted rows of a table are the distinct pairs that it tells of, ascending, each with how often it stands.
-use Rattle.std.proofs.Common.{◌≡◌, ℕ, suc, ◌+◌, ◌<◌, ◌≤◌, nat_lt, nat_cmp, true, false, cond, ◌||◌, List, [], ◌∷◌, ◌++◌, map, get_or, IsPermutation, Ordering, refl, sym, ap, subst, ◌∙◌, arith}
-use Rattle.std.specs.Ordering.{is_lt, ordering_then}
+use Rattle.std.proofs.Common.{◌≡◌, ℕ, suc, ◌+◌, ◌<◌, ◌≤◌, nat_lt, true, false, cond, ◌||◌, List, [], ◌∷◌, ◌++◌, map, get_or, IsPermutation, refl, sym, ap, subst, ◌∙◌, arith}
+use Rattle.std.specs.Ordering.{is_lt}
 use Rattle.std.specs.List.{AllByRecursion, flat_map}
 use Rattle.std.specs.List.Sorted.{IsSorted}
 use Rattle.std.proofs.lemmas.Bool.{lt-ltb}
@@ -11,6 +11,7 @@ use Rattle.sample_model.specs.Laws.{IsAscending, has_pair, IsDistinctPairs}
 use Rattle.sample_model.specs.Pairs.{same_pair, pair_lt, times_of, distinct_pairs}
 use Rattle.sample_model.proofs.PairLemmas.{same_pair-refl, same_pair-equal, above-trans, distinct_pairs_are_unique}
 use Rattle.branch_stacks.specs.declared.pair.Pair.{Pair}
+use Rattle.branch_stacks.specs.Pair.{pair_cmp}
 use Rattle.branch_stacks.specs.Table.{pair_of, times_of_row, times_in, total_in, AllDistinct, Tallies}
 use Rattle.command_model.specs.Counts.{counts_line, counts_text, total_line}
 
@@ -87,20 +88,16 @@ lines_of_rows times [] own = refl
 lines_of_rows times (row ∷ rows) own =
     ap (λ (n : ℕ). counts_line (pair_of row) n ++ flat_map row_line rows) own.0 ∙ ap (λ (t : List ℕ). counts_line (pair_of row) (times (pair_of row)) ++ t) (lines_of_rows times rows own.1)
 
--- how rows are sorted
-abbrev row_cmp : Pair → Pair → Ordering
-row_cmp x y = ordering_then (nat_cmp x.from y.from) (ordering_then (nat_cmp x.to y.to) (nat_cmp x.times y.times))
-
 -- two rows in order, of different pairs
-rising : (x y : Pair) → is_lt (row_cmp y x) ≡ false → same_pair (pair_of x) (pair_of y) ≡ false → pair_lt (pair_of x) (pair_of y) ≡ true
+rising : (x y : Pair) → is_lt (pair_cmp y x) ≡ false → same_pair (pair_of x) (pair_of y) ≡ false → pair_lt (pair_of x) (pair_of y) ≡ true
 rising x y order other = grind (arith, nat_tests)
 
-sorted-rest : (row : Pair) (rows : List Pair) → IsSorted row_cmp (row ∷ rows) → IsSorted row_cmp rows
+sorted-rest : (row : Pair) (rows : List Pair) → IsSorted pair_cmp (row ∷ rows) → IsSorted pair_cmp rows
 sorted-rest row rows sorted k d low high =
     let next : suc k + 1 ≡ suc (k + 1) = omega arith in
-    subst (λ (n : ℕ). is_lt (row_cmp (get_or (row ∷ rows) n d) (get_or (row ∷ rows) (suc k) d)) ≡ false) next (sorted (suc k) d (omega arith) (omega arith))
+    subst (λ (n : ℕ). is_lt (pair_cmp (get_or (row ∷ rows) n d) (get_or (row ∷ rows) (suc k) d)) ≡ false) next (sorted (suc k) d (omega arith) (omega arith))
 
-ascending_rows : (rows : List Pair) → IsSorted row_cmp rows → AllDistinct (map pair_of rows) → IsAscending (map pair_of rows)
+ascending_rows : (rows : List Pair) → IsSorted pair_cmp rows → AllDistinct (map pair_of rows) → IsAscending (map pair_of rows)
 ascending_rows [] sorted distinct = tt
 ascending_rows (row ∷ []) sorted distinct = (tt, tt)
 ascending_rows (row ∷ next ∷ rows) sorted distinct =
@@ -130,7 +127,7 @@ has_row p (row ∷ rows) positive =
       | false ↦ λ pairs times. ap (nat_lt 0) (omega (arith, pairs)) ∙ has_row p rows positive.1 ∙ ap (nat_lt 0) (sym (omega (arith, times)))
     ] (sum_by-cons (same p) (pair_of row) (map pair_of rows)) (sum_by-cons (times_of_row p) row rows)
 
-is_distinct_pairs : (pairs : List (ℕ × ℕ)) (rows sorted : List Pair) → Tallies pairs rows → IsPermutation rows sorted → IsSorted row_cmp sorted → IsDistinctPairs pairs (map pair_of sorted)
+is_distinct_pairs : (pairs : List (ℕ × ℕ)) (rows sorted : List Pair) → Tallies pairs rows → IsPermutation rows sorted → IsSorted pair_cmp sorted → IsDistinctPairs pairs (map pair_of sorted)
 is_distinct_pairs pairs rows sorted tallies moves order = record {
   ascending = ascending_rows sorted order (distinct-permutation rows sorted moves tallies.table.distinct);
   same = λ p.
@@ -140,7 +137,7 @@ is_distinct_pairs pairs rows sorted tallies moves order = record {
 }
 
 -- what sorted rows and their total print is the text of what the rows tell of
-pub rows_text : (pairs : List (ℕ × ℕ)) (rows sorted : List Pair) (total : ℕ) → Tallies pairs rows → IsPermutation rows sorted → IsSorted row_cmp sorted → total ≡ total_in rows
+pub rows_text : (pairs : List (ℕ × ℕ)) (rows sorted : List Pair) (total : ℕ) → Tallies pairs rows → IsPermutation rows sorted → IsSorted pair_cmp sorted → total ≡ total_in rows
     → flat_map row_line sorted ++ total_line total ≡ counts_text pairs
 unfolding counts_text
 rows_text pairs rows sorted total tallies moves order total_is =

@@ -1,2 +1,3 @@
-mod Examples
+pub mod BranchTextLemmas
 pub mod CountsLemmas
+mod Examples

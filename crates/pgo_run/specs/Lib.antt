@@ -1,3 +1,4 @@
+pub mod BranchText
 pub mod Halt
 pub mod Output
 pub mod Run

@@ -1,21 +1,18 @@
 -- What is made before the first write: the output, or what ends the command without it.
-use Rattle.std.specs.Prelude.{◌≡◌, ℕ, ◌≤◌, ◌<◌, ⊤, List, length, Option, None, Some, Result, Ok, Err}
+use Rattle.std.specs.Prelude.{◌≡◌, ℕ, ⊤, Bool, true, false, List, Option, None, Some, Result, Ok, Err}
 use Rattle.std.specs.Global.{Vec}
-use Rattle.io_edge.specs.Faults.{Rises}
-use Rattle.refusal.specs.declared.kind.Kind.TheVariants.{FileTooLarge}
+use Rattle.io_edge.specs.Faults.{HasCauseWhere}
 use Rattle.command_model.specs.Answer.{Answer, no_such_file, refused, writes}
 use Rattle.pgo_run.specs.declared.halt.Halt.{Halt}
 use Rattle.pgo_run.specs.declared.halt.Halt.TheVariants.{NoSuchFile, Refused, ReadFault, NoMemory}
 
--- The k-th file, if the store has it, was read whole and is within its limit; or why not.
-abbrev pub ReadsFile : Option (List ℕ) → ℕ → ℕ → Result (Vec ℕ) Halt → Type 0
-ReadsFile file k limit (Ok bytes) = (file ≡ Some bytes.items) × (length bytes.items ≤ limit)
-ReadsFile file k limit (Err (NoSuchFile j)) = (j ≡ k) × (file ≡ None)
-ReadsFile file k limit (Err (Refused place)) =
-    (place ≡ record { file = k; at = limit; kind = FileTooLarge })
-    × ((bytes : List ℕ) × (file ≡ Some bytes) × (limit < length bytes))
-ReadsFile file k limit (Err (ReadFault j)) = ⊤
-ReadsFile file k limit (Err NoMemory) = ⊤
+-- The k-th file, if the store has it, was opened, and all its bytes are left; or why not.
+abbrev pub OpensFile : Option (List ℕ) → ℕ → Result (Unit {0}) Halt → Option (List ℕ) → Type 0
+OpensFile file k (Ok done) left = (bytes : List ℕ) × (file ≡ Some bytes) × (left ≡ Some bytes)
+OpensFile file k (Err (NoSuchFile j)) left = (j ≡ k) × (file ≡ None)
+OpensFile file k (Err (Refused place)) left = ⊥
+OpensFile file k (Err (ReadFault j)) left = ⊤
+OpensFile file k (Err NoMemory) left = ⊥
 
 -- The output is the answer's, or the answer says why there is none; a fault or want of memory may come in its place.
 abbrev pub Makes : Answer → Result (Vec ℕ) Halt → Type 0
@@ -25,10 +22,22 @@ Makes answer (Err (Refused place)) = answer ≡ refused place
 Makes answer (Err (ReadFault k)) = ⊤
 Makes answer (Err NoMemory) = ⊤
 
+-- Of what ends a command early, `ReadFault` tells of a failed call.
+abbrev pub tells_read_fault : {A : Type 0} → Result A Halt → Bool
+tells_read_fault (Ok x) = false
+tells_read_fault (Err (NoSuchFile j)) = false
+tells_read_fault (Err (Refused place)) = false
+tells_read_fault (Err (ReadFault j)) = true
+tells_read_fault (Err NoMemory) = false
+
+-- It tells it of the k-th file alone.
+abbrev pub IsFaultOf : {A : Type 0} → ℕ → Result A Halt → Type 0
+IsFaultOf k (Ok x) = ⊤
+IsFaultOf k (Err (NoSuchFile j)) = ⊤
+IsFaultOf k (Err (Refused place)) = ⊤
+IsFaultOf k (Err (ReadFault j)) = j ≡ k
+IsFaultOf k (Err NoMemory) = ⊤
+
 -- Where the k-th file could not be read, the inputs' count of faults rose. It is as it was under each other answer.
 abbrev pub HasFileCause : {A : Type 0} → ℕ → ℕ → ℕ → Result A Halt → Type 0
-HasFileCause k before after (Err (ReadFault j)) = (j ≡ k) × Rises before after
-HasFileCause k before after (Err (NoSuchFile j)) = after ≡ before
-HasFileCause k before after (Err (Refused place)) = after ≡ before
-HasFileCause k before after (Err NoMemory) = after ≡ before
-HasFileCause k before after (Ok x) = after ≡ before
+HasFileCause k before after answer = HasCauseWhere tells_read_fault before after answer × IsFaultOf k answer

@@ -1,9 +1,6 @@
 // `counts`: the branches of a branch text, each with how often it was taken.
 ghost use Rattle.std.specs.Prelude.{◌≡◌, ◌++◌, List, ℕ, IfOk, IfSome, OnOk};
 ghost use Rattle.io_edge.specs.Faults.{raised};
-ghost use Rattle.refusal.specs.Place.{JudgesUnlessNoMemory};
-ghost use Rattle.text_model.specs.Lines.{lines_of};
-ghost use Rattle.sample_model.specs.Judging.{first_bad_of_text};
 ghost use Rattle.sample_model.specs.Samples.{branches_of_lines};
 ghost use Rattle.branch_stacks.specs.Table.{pair_of};
 ghost use Rattle.branch_stacks.specs.Tally.{TellsOf};
@@ -12,16 +9,14 @@ ghost use Rattle.command_model.specs.Command.{counts as counts_command};
 ghost use Rattle.command_model.specs.Counts.{counts_line, counts_text, total_line};
 ghost use Rattle.pgo_run.specs.Output.{HasFileCause, Makes};
 
+use crate::branch_text::count_text;
 use crate::halt::Halt;
-use crate::order::read_file;
-use branch_stacks::{Counts, Pair, read_text};
+use crate::order::open_file;
+use branch_stacks::{Counts, Pair};
 use io_edge::Inputs;
-use refusal::{NoMemory, Stop};
+use refusal::NoMemory;
 use std::alloc::Global;
 use text_scan::{push_hex, push_number};
-
-/// The most bytes of a branch text, which is read whole.
-const MAX_WHOLE_TEXT: u64 = 1 << 30;
 
 /// What `counts` writes for the branch text in this file.
 ///
@@ -34,32 +29,24 @@ pub(crate) fn output<I: Inputs>(alloc: Global, perf: &[u8], inputs: &mut I) -> R
     ensures opens { I.opens inputs.new ≡ raised (I.opens inputs.old) }
     ensures cause { HasFileCause 1 (I.faults inputs.old) (I.faults inputs.new) result }
 {
-    let text = read_file(alloc, inputs, 1, perf, MAX_WHOLE_TEXT)?;
-    Ok(print(alloc, &count(alloc, &text)?)?)
-}
-
-/// The counts of a branch text, which is file 1.
-fn count(alloc: Global, text: &[u8]) -> Result<Counts, Stop>
-    ensures { JudgesUnlessNoMemory (first_bad_of_text 1 text.now) result
-        (TellsOf (lines_of text.now)) }
-{
-    let mut counts = Counts::new(alloc)?;
-    read_text(text, 1, &mut counts)?;
-    Ok(counts)
+    open_file(inputs, 1, perf)?;
+    let mut counts = Counts::of_branches(alloc)?;
+    count_text(alloc, inputs, 1, &mut counts)?;
+    Ok(print(alloc, counts)?)
 }
 
 /// The lines of the branches, by source and then by target, and the line of their number.
-fn print(alloc: Global, counts: &Counts) -> Result<Vec<u8>, NoMemory>
-    ensures { IfOk result (λ out. (lines : List (List ℕ)) → TellsOf lines counts.now →
+fn print(alloc: Global, counts: Counts) -> Result<Vec<u8>, NoMemory>
+    ensures { IfOk result (λ out. (lines : List (List ℕ)) → TellsOf lines counts →
         out.items ≡ counts_text (branches_of_lines lines)) }
 {
-    let mut rows = Vec::from_slice(alloc, counts.branches())?;
-    rows.sort()?;
+    let total = counts.total();
+    let rows = counts.into_sorted_branches()?;
     let mut out = Vec::new(alloc);
     for row in &rows {
         push_row(&mut out, row)?;
     }
-    push_total(&mut out, counts.total())?;
+    push_total(&mut out, total)?;
     Ok(out)
 }
 

@@ -4,6 +4,7 @@
 //! and ends with `Status::code`.
 #![tactic(auto)]
 
+mod branch_text;
 mod command;
 mod counts;
 mod halt;

@@ -1,4 +1,4 @@
-ghost use Rattle.std.specs.Prelude.{◌≡◌, ◌≢◌, ◌⊎◌, ◌↔◌, ℕ, List, true, None, IfSome};
+ghost use Rattle.std.specs.Prelude.{◌≡◌, ◌≢◌, ◌⊎◌, ◌↔◌, ℕ, List, true, false, None, IfSome};
 ghost use Rattle.std.specs.Io.KnownBytes.{Appends};
 ghost use Rattle.io_edge.specs.Faults.{Rises, raised};
 ghost use Rattle.io_edge.specs.Sink.{AppendsPrefix};
@@ -17,8 +17,9 @@ use io_edge::{Inputs, Sink, write_all};
 use std::alloc::Global;
 
 /// Carries out the command that the words spell: reads its files from `inputs` in the order of
-/// their words, each judged whole before the next is opened, makes all output, and then writes it
-/// to `out`.
+/// their words, each judged before the next is opened, makes all output, and then writes it to
+/// `out`. A branch text is judged line by line as it is read, and its first bad line ends the
+/// reading.
 ///
 /// `words` are those behind the program's name. The clauses on content hold where `inputs` tells
 /// its files and `out` its bytes; `answer_of` says what the words come to over those files.
@@ -56,7 +57,7 @@ pub fn run<I: Inputs, O: Sink>(
         (I.faults inputs.old) (I.faults inputs.new) (I.opens inputs.old) (I.opens inputs.new) }
     ensures write_fault { result ≡ Status.WriteFault →
         Rises (O.faults out.old) (O.faults out.new)
-        × (I.faults inputs.new ≡ I.faults inputs.old) }
+        × (I.faults inputs.new ≡ I.faults inputs.old) × (O.finished out.new ≡ false) }
     ensures cut_off { result ≡ Status.WriteFault → IfSome (I.store inputs.old) (λ files.
         HasWritten (answer_of files (texts_of words.now))
         (AppendsPrefix (O.written out.old) (O.written out.new))) }

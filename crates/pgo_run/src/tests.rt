@@ -168,6 +168,32 @@ fn each_failing_read_is_told(rt: HostRuntime) -> Result<(), test::Fail> {
 }
 
 #[test]
+fn a_bad_line_before_a_failing_read_is_refused(rt: HostRuntime) -> Result<(), test::Fail> {
+    let alloc = rt.alloc();
+    let refused = |at| Status::Refused(Place {
+        file: 1,
+        at,
+        kind: Kind::BadLine,
+    });
+    // What stands before the lines `0x1/0x2`, the read that fails, and the answer.
+    let cases: [(&[u8], u64, Status); 4] = [
+        (b"zz\n", 3, refused(1)),
+        (b"0x3/0x4\nzz\n", 3, refused(2)),
+        (b"0x3/0x4\nzz\n", 2, Status::ReadFault(1)),
+        (b"", 3, Status::ReadFault(1)),
+    ];
+    for (front, call, want) in cases {
+        let mut text = front.to_vec(alloc)?;
+        text.extend_from_slice(&b"0x1/0x2\n".repeat(alloc, 100)?)?;
+        let mut inputs = perf(alloc, &text, 8, &[Fail { file: 1, call }])?;
+        let mut out = sink(alloc, 1000, 16, &[])?;
+        assert_eq!(rt; counts(alloc, b"perf", &mut inputs, &mut out)?, want);
+        assert_eq!(rt; out.written().len(), 0);
+    }
+    Ok(())
+}
+
+#[test]
 fn each_failing_write_is_told(rt: HostRuntime) -> Result<(), test::Fail> {
     let alloc = rt.alloc();
     let cases: [(usize, usize, u64, usize); 11] = [

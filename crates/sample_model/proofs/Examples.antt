@@ -2,13 +2,14 @@
 use Rattle.std.proofs.Common.{◌≡◌, ℕ, true, false, List, [], ◌∷◌, ◌++◌, refl, Some, None}
 use Rattle.std.specs.Prelude.{codes, replicate}
 use Rattle.std.specs.List.{flat_map}
-use Rattle.refusal.specs.declared.kind.Kind.TheVariants.{BadLine, LineTooLong, TooManyEntries, TooManyBranches}
+use Rattle.refusal.specs.declared.kind.Kind.TheVariants.{BadLine, LineTooLong, TooManyEntries, TooManyBranches, FileTooLarge}
 use Rattle.text_model.specs.Lines.{lines_of, ended_lines_of}
 use Rattle.text_model.specs.Fields.{fields_of}
 use Rattle.text_model.specs.Numbers.{number_of, prefixed_of}
 use Rattle.sample_model.specs.Line.{address_of, is_ip, entry_of, is_sample, is_well_formed, branches_of_line}
-use Rattle.sample_model.specs.Samples.{ranges_between, branches_of, ranges_of_lines}
-use Rattle.sample_model.specs.Judging.{cause_of_line, items_of_lines, judged_lines_of, first_bad_of_text}
+use Rattle.sample_model.specs.Samples.{ranges_between, branches_of, ranges_of}
+use Rattle.sample_model.specs.Judging.{cause_of_line, items_of_lines, judged_lines_of, first_bad_of_text, first_bad_of_piece, lines_before_bad}
+use Rattle.sample_model.specs.Limits.{max_text_bytes}
 
 -- two samples, and their branches and ranges
 sampled : List ℕ
@@ -21,7 +22,7 @@ five_branches : branches_of sampled
 unfolding sampled lines_of fields_of number_of prefixed_of address_of is_ip entry_of is_sample branches_of_line
 five_branches = refl
 
-three_ranges : ranges_of_lines (lines_of sampled) ≡ (0x401020, 0x401038) ∷ (0x401000, 0x40100c) ∷ (0x401010, 0x401038) ∷ []
+three_ranges : ranges_of sampled ≡ (0x401020, 0x401038) ∷ (0x401000, 0x40100c) ∷ (0x401010, 0x401038) ∷ []
 unfolding sampled lines_of fields_of number_of prefixed_of address_of is_ip entry_of is_sample branches_of_line ranges_between
 three_ranges = refl
 
@@ -51,7 +52,7 @@ perf_line : List ℕ
 perf_line = codes "          401036  0x401038/0xffffffff81e00010/P/-/-/0//-  0xffffffff81e01020/0x401036/M/-/-/12//-"
 
 as_perf_prints : (branches_of perf_line ≡ (0x401038, 0xffffffff81e00010) ∷ (0xffffffff81e01020, 0x401036) ∷ [])
-    × (ranges_of_lines (lines_of perf_line) ≡ (0x401036, 0x401038) ∷ []) × (first_bad_of_text 1 perf_line ≡ None)
+    × (ranges_of perf_line ≡ (0x401036, 0x401038) ∷ []) × (first_bad_of_text 1 perf_line ≡ None)
 unfolding perf_line lines_of ended_lines_of fields_of number_of prefixed_of address_of is_ip entry_of is_sample is_well_formed branches_of_line ranges_between cause_of_line items_of_lines judged_lines_of
 as_perf_prints = (refl, refl, refl)
 
@@ -91,3 +92,15 @@ most_branches : (cause_of_line 4294967294 (codes "0x1/0x2") ≡ None) × (cause_
     × (cause_of_line 4294967294 (codes "0x1/0x2 0x1/0x2") ≡ Some TooManyBranches) × (cause_of_line 4294967295 (codes "401036") ≡ None)
 unfolding fields_of number_of prefixed_of address_of is_ip entry_of is_sample is_well_formed branches_of_line cause_of_line
 most_branches = (refl, refl, refl, refl)
+
+-- A text in pieces: an open rest is not judged, the line that a piece ends is, and the size only behind it.
+pieces : (first_bad_of_piece 1 (codes "0x1/0x2\nz") 9 (codes "z") ≡ None)
+    × (first_bad_of_piece 1 (codes "0x1/0x2\nz") 9 (codes "z\n0x3") ≡ Some (record { file = 1; at = 2; kind = BadLine }))
+    × (first_bad_of_piece 1 (codes "0x1/0x2\nz") 2 (codes "z\nzz") ≡ Some (record { file = 1; at = 2; kind = BadLine }))
+    × (first_bad_of_piece 1 (codes "0x1/0x2\nz") 1 (codes "z\nzz") ≡ Some (record { file = 1; at = max_text_bytes; kind = FileTooLarge }))
+unfolding lines_of ended_lines_of fields_of number_of prefixed_of address_of is_ip entry_of is_sample is_well_formed branches_of_line cause_of_line items_of_lines
+pieces = (refl, refl, refl, refl)
+
+lines_before : (lines_before_bad 1 (codes "#" ∷ codes "zz" ∷ codes "1" ∷ []) ≡ codes "#" ∷ []) × (lines_before_bad 1 (codes "#" ∷ codes "1" ∷ []) ≡ codes "#" ∷ codes "1" ∷ [])
+unfolding fields_of number_of prefixed_of address_of is_ip entry_of is_sample is_well_formed branches_of_line cause_of_line items_of_lines
+lines_before = (refl, refl)

@@ -1,3 +1,4 @@
 pub mod EntryLemmas
 mod Examples
+pub mod JudgingLemmas
 pub mod PairLemmas

@@ -3,9 +3,9 @@ use Rattle.std.specs.Prelude.{ℕ, ◌+◌, ◌-◌, nat_lt, nat_le, not, ◌&&�
 use Rattle.std.specs.List.{enumerate_from, prefix_len}
 use Rattle.std.specs.Option.{option_map}
 use Rattle.refusal.specs.declared.kind.Kind.{Kind}
-use Rattle.refusal.specs.declared.kind.Kind.TheVariants.{LineTooLong, BadLine, TooManyEntries, TooManyBranches}
+use Rattle.refusal.specs.declared.kind.Kind.TheVariants.{LineTooLong, BadLine, TooManyEntries, TooManyBranches, FileTooLarge}
 use Rattle.refusal.specs.declared.place.Place.{Place}
-use Rattle.refusal.specs.Place.{first_bad, first_cause, size_item}
+use Rattle.refusal.specs.Place.{first_bad, first_cause, fails_at, size_item}
 use Rattle.text_model.specs.Lines.{lines_of, ended_lines_of}
 use Rattle.sample_model.specs.Limits.{max_line_bytes, max_entries, max_branches, max_text_bytes}
 use Rattle.sample_model.specs.Line.{is_sample, is_well_formed, branches_of_line}
@@ -43,7 +43,25 @@ items_of_text file text = items_of_lines file (judged_lines_of text) ++ size_ite
 abbrev pub first_bad_of_text : ℕ → List ℕ → Option Place
 first_bad_of_text file text = first_bad (items_of_text file text)
 
--- The lines before the first bad one: all that are judged, where none is bad.
-abbrev pub lines_before_bad : ℕ → List ℕ → List (List ℕ)
-lines_before_bad file text =
-    take (prefix_len is_none (items_of_lines file (judged_lines_of text))) (judged_lines_of text)
+-- The first bad place of lines.
+abbrev pub first_bad_of_lines : ℕ → List (List ℕ) → Option Place
+first_bad_of_lines file lines = first_bad (items_of_lines file lines)
+
+-- The lines before the first bad one: all, where none is bad.
+abbrev pub lines_before_bad : ℕ → List (List ℕ) → List (List ℕ)
+lines_before_bad file lines = take (prefix_len is_none (items_of_lines file lines)) lines
+
+-- A text may come in pieces. These lines have ended where a piece came behind the text so far, of which `room` bytes
+-- are still within the limit of the text's size.
+abbrev pub lines_ended_by : List ℕ → ℕ → List ℕ → List (List ℕ)
+lines_ended_by text room piece = ended_lines_of (text ++ take room piece)
+
+-- The items that can be judged by then, whatever comes behind: the lines that have ended, and last the size.
+abbrev pub items_of_piece : ℕ → List ℕ → ℕ → List ℕ → List (Option Place)
+items_of_piece file text room piece =
+    items_of_lines file (lines_ended_by text room piece)
+    ++ fails_at (nat_lt room (length piece)) (record { file = file; at = max_text_bytes; kind = FileTooLarge }) ∷ []
+
+-- The first bad place by then.
+abbrev pub first_bad_of_piece : ℕ → List ℕ → ℕ → List ℕ → Option Place
+first_bad_of_piece file text room piece = first_bad (items_of_piece file text room piece)

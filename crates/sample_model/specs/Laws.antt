@@ -1,6 +1,9 @@
 -- Laws that tie the definitions to a second way of saying them.
-use Rattle.std.specs.Prelude.{◌≡◌, ◌⊎◌, ◌↔◌, ℕ, Bool, true, List, [], ◌∷◌, ◌++◌, codes, Some}
+use Rattle.std.specs.Prelude.{◌≡◌, ◌≤◌, ◌⊎◌, ◌↔◌, ℕ, ◌-◌, Bool, true, List, [], ◌∷◌, ◌++◌, length, codes, Some}
 use Rattle.std.specs.List.{AllByRecursion, list_any}
+use Rattle.refusal.specs.declared.place.Place.{Place}
+use Rattle.sample_model.specs.Judging.{first_bad_of_piece, first_bad_of_text}
+use Rattle.sample_model.specs.Limits.{max_text_bytes}
 use Rattle.sample_model.specs.Line.{address_of, entry_of}
 use Rattle.sample_model.specs.Pairs.{same_pair, pair_lt, distinct_pairs}
 
@@ -45,3 +48,10 @@ pub record SpellsEntry (field : List ℕ) (branch : ℕ × ℕ) : Type 0 where
 abbrev pub EntriesAreSpelled : Type 0
 EntriesAreSpelled =
     (field : List ℕ) (branch : ℕ × ℕ) → (entry_of field ≡ Some branch) ↔ SpellsEntry field branch
+
+-- What is bad in a text that comes in pieces is its first bad place, however the text goes on.
+abbrev pub BadPlacesStay : Type 0
+BadPlacesStay =
+    (file : ℕ) (text piece rest : List ℕ) (place : Place) → length text ≤ max_text_bytes
+    → first_bad_of_piece file text (max_text_bytes - length text) piece ≡ Some place
+    → first_bad_of_text file (text ++ (piece ++ rest)) ≡ Some place

@@ -1,5 +1,5 @@
 // The definitions seen from the other side.
-ghost use Rattle.sample_model.specs.Laws.{DistinctPairsAscend, DistinctPairsAreUnique, EntriesAreSpelled};
+ghost use Rattle.sample_model.specs.Laws.{BadPlacesStay, DistinctPairsAscend, DistinctPairsAreUnique, EntriesAreSpelled};
 
 /// The distinct pairs of a list ascend, and they are the pairs that stand in the list.
 pub fn distinct_pairs_ascend()
@@ -15,4 +15,9 @@ pub fn distinct_pairs_are_unique()
 /// nothing, or a slash and any bytes.
 pub fn entries_are_spelled()
     ensures { EntriesAreSpelled }
+{}
+
+/// What is bad in a text that comes in pieces is its first bad place, however the text goes on.
+pub fn bad_places_stay()
+    ensures { BadPlacesStay }
 {}

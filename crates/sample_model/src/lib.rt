@@ -7,4 +7,6 @@
 
 mod laws;
 
-pub use laws::{distinct_pairs_are_unique, distinct_pairs_ascend, entries_are_spelled};
+pub use laws::{
+    bad_places_stay, distinct_pairs_are_unique, distinct_pairs_ascend, entries_are_spelled,
+};

@@ -1,4 +1,4 @@
-use Rattle.std.proofs.Common.{◌≡◌, ◌++◌, List, ℕ, IsPermutation, ap, subst, ◌∙◌, take, arith}
+use Rattle.std.proofs.Common.{◌≡◌, ◌++◌, List, ℕ, ap, ◌∙◌, take, arith}
 use Rattle.std.proofs.lemmas.List.{take_all}
 use Rattle.std.specs.List.{flat_map}
 use Rattle.branch_stacks.specs.declared.pair.Pair.{Pair}
@@ -9,9 +9,7 @@ use Rattle.pgo_run.proofs.counts.print.Goals as goal
 pub returns : goal.returns
 returns c = λ lines tells.
     let rows : List Pair = c.deref-row-items.result.now in
-    let all : take c.loop-row.row-index rows ≡ c.sort.new.self.items = take_all _ _ (omega arith) ∙ c.deref-row-items.ensures.value in
-    let moves : IsPermutation c.args.counts.now.branches c.sort.new.self.items =
-    subst (λ (from : List Pair). IsPermutation from c.sort.new.self.items) (c.in_ok-rows.ensures.items ∙ c.branches.ensures.rows) c.in_ok-sort.ensures.permutation in
+    let all : take c.loop-row.row-index rows ≡ c.in_ok-rows.rows.items = take_all _ _ (omega arith) ∙ c.deref-row-items.ensures.value in
     c.in_ok-push_total.ensures
-    ∙ ap (λ (front : List ℕ). front ++ total_line c.total.result) (c.loop-row.invariant ∙ ap (flat_map row_line) all)
-    ∙ rows_text _ _ _ _ tells.branches moves c.in_ok-sort.ensures.sorted c.total.ensures.value
+    ∙ ap (λ (front : List ℕ). front ++ total_line c.total-total.result) (c.loop-row.invariant ∙ ap (flat_map row_line) all)
+    ∙ rows_text _ _ _ _ tells.branches c.in_ok-rows.ensures.same c.in_ok-rows.ensures.sorted c.total-total.ensures.value

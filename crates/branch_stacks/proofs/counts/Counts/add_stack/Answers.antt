@@ -1,8 +1,11 @@
-use Rattle.std.proofs.Common.{arith}
+use Rattle.std.proofs.Common.{◌≡◌, ap, sym, ◌∙◌, arith}
+use Rattle.branch_stacks.specs.Tally.{Tally, counted}
 use Rattle.branch_stacks.proofs.TableLemmas.{IsCounted-stack}
 use Rattle.branch_stacks.proofs.counts.Counts.add_stack.Goals as goal
 
 pub invariant_of-self-2 : goal.invariant_of-self-2
-invariant_of-self-2 c =
-    IsCounted-stack _ _ _ _ _ _ _ c.self.invariant c.try_reserve.ensures.items c.add_branches.ensures.added
-    c.try_reserve-2.ensures.items c.add_ranges.ensures.added (omega arith)
+invariant_of-self-2 c = (
+  IsCounted-stack _ _ _ _ _ _ _ _ c.self.invariant.0 c.reserve.ensures.rows c.add_branches.ensures.added
+      c.reserve-2.ensures.rows (c.ranged-ranged.ensures ∙ ap (λ (t : Tally). counted t.with_ranges c.args.entries.now) (sym c.self.view_is)) c.add_ranges.ensures (omega arith),
+  λ none. let none_before : c.self.inside.total ≡ 0 = omega arith in omega (arith, c.self.invariant.1 none_before, c.reserve.ensures.kept, c.add_branches.ensures.room),
+)

@@ -1,0 +1,272 @@
+-- What a piece comes to, and the end of a text, and a text as one piece.
+use Rattle.std.proofs.Common.{◌≡◌, ℕ, ◌+◌, ◌<◌, ◌≤◌, nat_lt, Bool, true, false, List, [], ◌∷◌, ◌++◌, length, take, min, Option, None, Some, Result, Ok, Err, refl, sym, ap, subst, ◌∙◌, arith}
+use Rattle.std.specs.Prelude.{filter, OnErr}
+use Rattle.std.specs.List.{flat_map}
+use Rattle.std.specs.Option.{option_or}
+use Rattle.std.specs.Result.{result_err}
+use Rattle.std.proofs.lemmas.Bool.{lt-ltb}
+use Rattle.std.proofs.lemmas.Bool.Decides.{nat_tests}
+use Rattle.std.proofs.lemmas.List.{append-nil, length-append, length-take, take_all, take_min}
+use Rattle.refusal.specs.declared.kind.Kind.TheVariants.{FileTooLarge}
+use Rattle.refusal.specs.declared.place.Place.{Place}
+use Rattle.refusal.specs.declared.place.Stop.{Stop}
+use Rattle.refusal.specs.declared.place.Stop.TheVariants.{Refused, NoMemory}
+use Rattle.refusal.specs.Place.{first_bad, fails_at, JudgesUnlessNoMemory}
+use Rattle.refusal.proofs.PlaceLemmas.{first_bad-append}
+use Rattle.text_model.specs.Fields.{is_filled}
+use Rattle.text_model.specs.Laws.{ended}
+use Rattle.text_model.specs.Lines.{lines_of, ended_lines_of}
+use Rattle.sample_model.specs.Judging.{items_of_lines, first_bad_of_lines, first_bad_of_piece, first_bad_of_text, judged_lines_of, lines_before_bad, lines_ended_by}
+use Rattle.sample_model.specs.Limits.{max_line_bytes, max_text_bytes}
+use Rattle.sample_model.specs.Line.{branches_of_line}
+use Rattle.sample_model.proofs.JudgingLemmas.{next_item, bad_places_stay, first_bad_of_lines-good, first_bad_of_piece-within, first_bad_of_text-within, judged_lines_of-cut, judged_lines_of-whole, lines_before_bad-all, lines_before_bad-more, lines_before_bad-some, lines_of-ended_first}
+use Rattle.branch_stacks.specs.Reader.{Reading, HasRead, new_reading, held_of, room_of, ended_text, Feeds, Finishes, ReadsMore}
+use Rattle.branch_stacks.specs.Tally.{Tally, AddsStack, TellsOf}
+use Rattle.branch_stacks.specs.Text.{item_of_counted, TellsLinesBefore}
+use Rattle.branch_stacks.proofs.ReaderLemmas.{HasRead-like, held_whole, item_is, line_stop, text_ended}
+use Rattle.branch_stacks.proofs.TextLemmas.{TellsOf-more}
+
+-- ---- a piece
+
+-- the part of a piece within the limit
+pub part_within : (piece : List ℕ) (n room limit : ℕ) → n ≡ min (length piece) room → room ≡ limit → take n piece ≡ take limit piece
+part_within piece n room limit is same =
+    let least : n ≡ min limit (length piece) = omega arith in
+    ap (λ (k : ℕ). take k piece) least ∙ take_min limit piece
+
+-- a size that was judged
+pub judged_large : (size limit other file name : ℕ) (place : Place) → limit ≡ other → file ≡ name → fails_at (nat_lt limit size) (record { file = file; at = max_text_bytes; kind = FileTooLarge }) ≡ Some place
+    → fails_at (nat_lt other size) (record { file = name; at = max_text_bytes; kind = FileTooLarge }) ≡ Some place
+judged_large size limit other file name place same named large =
+    ap (λ (n : ℕ). fails_at (nat_lt other size) (record { file = n; at = max_text_bytes; kind = FileTooLarge })) (sym named)
+    ∙ ap (λ (n : ℕ). fails_at (nat_lt n size) (record { file = file; at = max_text_bytes; kind = FileTooLarge })) (sym same) ∙ large
+
+pub judged_small : (size limit other : ℕ) (place : Place) → limit ≡ other → fails_at (nat_lt limit size) place ≡ None → size ≤ other
+judged_small size limit other place same small = let is = holds_not (nat_lt limit size) place small in let low : size ≤ limit = grind (arith, nat_tests) in omega arith
+  where
+    holds_not : (cause : Bool) (place : Place) → fails_at cause place ≡ None → cause ≡ false
+    holds_not true place good = absurd cc
+    holds_not false place good = refl
+
+-- the lines of the part within the limit stop the reading,
+pub Feeds-stop : (old mid new : Reading) (before after : Tally) (piece part : List ℕ) (stop : Stop) → mid.file ≡ old.file → mid.ended_lines ≡ old.ended_lines → mid.held ≡ old.held → mid.stop ≡ old.stop → part ≡ take (room_of old) piece
+    → ReadsMore mid before part (Err stop) new after → Feeds old before piece (Err stop) new after
+Feeds-stop old mid new before after piece part (Refused place) file ended_lines held goes_on is reads text has =
+    let read = reads text (HasRead-like text old mid before has file ended_lines held (goes_on ∙ has.goes_on)) in
+    let size = fails_at (nat_lt (room_of old) (length piece)) (record { file = old.file; at = max_text_bytes; kind = FileTooLarge }) ∷ [] in
+    let lines : ended_lines_of (text ++ part) ≡ lines_ended_by text (room_of old) piece = ap (λ (t : List ℕ). ended_lines_of (text ++ t)) is in
+    let bad : first_bad_of_lines old.file (lines_ended_by text (room_of old) piece) ≡ Some place =
+    ap (first_bad_of_lines old.file) (sym lines) ∙ ap (λ (n : ℕ). first_bad_of_lines n (ended_lines_of (text ++ part))) (sym file) ∙ read.0 in (
+      first_bad-append (items_of_lines old.file (lines_ended_by text (room_of old) piece)) size ∙ ap (λ (o : Option Place). option_or o (first_bad size)) bad,
+      subst (λ (n : ℕ). TellsLinesBefore {T = Unit {0}} n (lines_ended_by text (room_of old) piece) (Err (Refused place)) after) file
+          (subst (λ (ls : List (List ℕ)). TellsLinesBefore {T = Unit {0}} mid.file ls (Err (Refused place)) after) lines read.1),
+    )
+Feeds-stop old mid new before after piece part NoMemory file ended_lines held goes_on is reads text has =
+    let read = reads text (HasRead-like text old mid before has file ended_lines held (goes_on ∙ has.goes_on)) in
+    let lines : ended_lines_of (text ++ part) ≡ lines_ended_by text (room_of old) piece = ap (λ (t : List ℕ). ended_lines_of (text ++ t)) is in (
+      tt,
+      subst (λ (n : ℕ). TellsLinesBefore {T = Unit {0}} n (lines_ended_by text (room_of old) piece) (Err NoMemory) after) file
+          (subst (λ (ls : List (List ℕ)). TellsLinesBefore {T = Unit {0}} mid.file ls (Err NoMemory) after) lines read.1),
+    )
+
+-- or its size does,
+pub Feeds-large : (old mid new : Reading) (before after : Tally) (piece part : List ℕ) (place : Place) → mid.file ≡ old.file → mid.ended_lines ≡ old.ended_lines → mid.held ≡ old.held → mid.stop ≡ old.stop → part ≡ take (room_of old) piece
+    → ReadsMore mid before part (Ok tt) new after
+    → fails_at (nat_lt (room_of old) (length piece)) (record { file = old.file; at = max_text_bytes; kind = FileTooLarge }) ≡ Some place → Feeds old before piece (Err (Refused place)) new after
+Feeds-large old mid new before after piece part place file ended_lines held goes_on is reads large text has =
+    let read = reads text (HasRead-like text old mid before has file ended_lines held (goes_on ∙ has.goes_on)) in
+    let size = fails_at (nat_lt (room_of old) (length piece)) (record { file = old.file; at = max_text_bytes; kind = FileTooLarge }) ∷ [] in
+    let lines : ended_lines_of (text ++ part) ≡ lines_ended_by text (room_of old) piece = ap (λ (t : List ℕ). ended_lines_of (text ++ t)) is in
+    let good : first_bad_of_lines old.file (lines_ended_by text (room_of old) piece) ≡ None =
+    ap (first_bad_of_lines old.file) (sym lines) ∙ ap (λ (n : ℕ). first_bad_of_lines n (ended_lines_of (text ++ part))) (sym file) ∙ read.0.0 in (
+      first_bad-append (items_of_lines old.file (lines_ended_by text (room_of old) piece)) size ∙ ap (λ (o : Option Place). option_or o (first_bad size)) good ∙ ap (λ (o : Option Place). first_bad (o ∷ [])) large,
+      subst (λ (ls : List (List ℕ)). TellsOf ls after) (lines ∙ sym (lines_before_bad-all old.file (lines_ended_by text (room_of old) piece) good)) read.0.1.tells,
+    )
+
+-- or all of it was read.
+pub Feeds-whole : (old mid new : Reading) (before after : Tally) (piece part : List ℕ) → mid.file ≡ old.file → mid.ended_lines ≡ old.ended_lines → mid.held ≡ old.held → mid.stop ≡ old.stop → part ≡ take (room_of old) piece
+    → ReadsMore mid before part (Ok tt) new after → length piece ≤ room_of old → Feeds old before piece (Ok tt) new after
+Feeds-whole old mid new before after piece part file ended_lines held goes_on is reads within text has =
+    let read = reads text (HasRead-like text old mid before has file ended_lines held (goes_on ∙ has.goes_on)) in
+    let whole : part ≡ piece = is ∙ take_all (room_of old) piece within in
+    let good : first_bad_of_lines old.file (ended_lines_of (text ++ piece)) ≡ None =
+    ap (λ (t : List ℕ). first_bad_of_lines old.file (ended_lines_of (text ++ t))) (sym whole) ∙ ap (λ (n : ℕ). first_bad_of_lines n (ended_lines_of (text ++ part))) (sym file) ∙ read.0.0 in (
+      (first_bad_of_piece-within old.file text (room_of old) piece within ∙ good, subst (λ (t : List ℕ). HasRead (text ++ t) new after) whole read.0.1),
+      tt,
+    )
+
+-- the answer is kept where it stops the reading
+pub Feeds-kept : (old new kept : Reading) (before after : Tally) (piece : List ℕ) (result : Result (Unit {0}) Stop) → kept.file ≡ new.file → kept.ended_lines ≡ new.ended_lines → kept.held ≡ new.held → kept.stop ≡ result_err result
+    → Feeds old before piece result new after → Feeds old before piece result kept after
+Feeds-kept old new kept before after piece (Ok done) file ended_lines held stop feeds text has =
+    let read = feeds text has in ((read.0.0, HasRead-like (text ++ piece) new kept after read.0.1 file ended_lines held stop), tt)
+Feeds-kept old new kept before after piece (Err (Refused place)) file ended_lines held stop feeds text has = feeds text has
+Feeds-kept old new kept before after piece (Err NoMemory) file ended_lines held stop feeds text has = feeds text has
+
+pub Finishes-kept : (old new kept : Reading) (before after : Tally) (result : Result (Unit {0}) Stop) → kept.file ≡ new.file → kept.ended_lines ≡ new.ended_lines → kept.held ≡ new.held → kept.stop ≡ result_err result
+    → Finishes old before result new after → Finishes old before result kept after
+Finishes-kept old new kept before after (Ok done) file ended_lines held stop finishes text has =
+    let read = finishes text has in ((read.0.0, (read.0.1.0, HasRead-like (ended_text text) new kept after read.0.1.1 file ended_lines held stop)), tt)
+Finishes-kept old new kept before after (Err (Refused place)) file ended_lines held stop finishes text has = finishes text has
+Finishes-kept old new kept before after (Err NoMemory) file ended_lines held stop finishes text has = finishes text has
+
+-- ---- the end of a text
+
+nothing : (rest : List ℕ) → held_of rest ≡ [] → rest ≡ []
+nothing rest none = no_bytes rest (omega (arith, length-take (max_line_bytes + 1) rest, ap (λ (t : List ℕ). length t) none))
+  where
+    no_bytes : (xs : List ℕ) → length xs ≤ 0 → xs ≡ []
+    no_bytes [] none = refl
+    no_bytes (x ∷ xs) none = absurd (omega (arith, none))
+
+-- no line is open,
+pub Finishes-closed : (reader : Reading) (tally : Tally) → reader.held ≡ [] → Finishes reader tally (Ok tt) reader tally
+Finishes-closed reader tally none text has =
+    let empty : has.rest ≡ [] = nothing has.rest (sym has.held ∙ none) in
+    let lines : lines_of text ≡ ended_lines_of text = has.split.all ∙ ap (λ (t : List ℕ). ended_lines_of text ++ filter is_filled (t ∷ [])) empty ∙ append-nil (ended_lines_of text) in
+    let same : text ≡ ended_text text =
+    has.split.joined ∙ ap (λ (t : List ℕ). flat_map ended (ended_lines_of text) ++ t) empty ∙ append-nil (flat_map ended (ended_lines_of text)) ∙ ap (flat_map ended) (sym lines) in (
+      (
+        ap (first_bad_of_lines reader.file) lines ∙ has.good,
+        (subst (λ (ls : List (List ℕ)). TellsOf ls tally) (sym lines) has.tells, subst (λ (t : List ℕ). HasRead t reader tally) same has),
+      ),
+      tt,
+    )
+
+last_line : (text : List ℕ) (reader : Reading) (tally : Tally) (has : HasRead text reader tally) → 0 < length reader.held → lines_of text ≡ ended_lines_of text ++ has.rest ∷ []
+last_line text reader tally has some =
+    let filled : is_filled has.rest ≡ true = lt-ltb 0 (length has.rest) (omega (arith, some, ap (λ (t : List ℕ). length t) has.held, length-take (max_line_bytes + 1) has.rest)) in
+    has.split.all ∙ ap (λ (ls : List (List ℕ)). ended_lines_of text ++ ls) (kept_one has.rest filled)
+  where
+    kept_one : (rest : List ℕ) → is_filled rest ≡ true → filter is_filled (rest ∷ []) ≡ rest ∷ []
+    kept_one rest is = rw is refl
+
+held_item : (text : List ℕ) (reader : Reading) (tally : Tally) (has : HasRead text reader tally) → item_of_counted reader.file tally (reader.ended_lines + 1) reader.held ≡ next_item reader.file (ended_lines_of text) has.rest
+held_item text reader tally has =
+    ap (item_of_counted reader.file tally (reader.ended_lines + 1)) (sym (append-nil reader.held)) ∙ item_is text [] reader tally has
+    ∙ ap (next_item reader.file (ended_lines_of text)) (append-nil has.rest)
+
+-- or the open line is judged and counted.
+pub Finishes-line : (old new : Reading) (before after : Tally) (result : Result (Unit {0}) Stop) → 0 < length old.held
+    → JudgesUnlessNoMemory (item_of_counted old.file before (old.ended_lines + 1) old.held) result
+    (λ _. AddsStack before after (branches_of_line old.held) × (new ≡ record old { ended_lines = old.ended_lines + 1; held = [] }))
+    → OnErr result (after ≡ before) → Finishes old before result new after
+Finishes-line old new before after (Ok done) some judged same text has =
+    let lines = last_line text old before has some in
+    let item : next_item old.file (ended_lines_of text) has.rest ≡ None = sym (held_item text old before has) ∙ judged.0 in
+    let whole : old.held ≡ has.rest = held_whole text [] old before has (ap (next_item old.file (ended_lines_of text)) (append-nil has.rest) ∙ item) in
+    let good : first_bad_of_lines old.file (lines_of text) ≡ None = ap (first_bad_of_lines old.file) lines ∙ first_bad_of_lines-good old.file (ended_lines_of text) has.rest has.good item in
+    let tells : TellsOf (lines_of text) after =
+    subst (λ (ls : List (List ℕ)). TellsOf ls after) (sym lines) (TellsOf-more (ended_lines_of text) has.rest before after has.tells (subst (λ (l : List ℕ). AddsStack before after (branches_of_line l)) whole judged.1.0)) in
+    let parts = text_ended text has.rest has.split in
+    let read : HasRead (ended_text text) (record old { ended_lines = old.ended_lines + 1; held = [] }) after = record {
+      rest = [];
+      split = parts.1;
+      goes_on = has.goes_on;
+      numbered = ap (λ (n : ℕ). n + 1) has.numbered ∙ sym (length-append (ended_lines_of text) (has.rest ∷ [])) ∙ ap (λ (ls : List (List ℕ)). length ls) (sym lines ∙ sym parts.0);
+      held = refl;
+      good = ap (first_bad_of_lines old.file) parts.0 ∙ good;
+      tells = subst (λ (ls : List (List ℕ)). TellsOf ls after) (sym parts.0) tells;
+    } in
+    ((good, (tells, subst (λ (r : Reading). HasRead (ended_text text) r after) (sym judged.1.1) read)), tt)
+Finishes-line old new before after (Err stop) some judged same text has =
+    let lines = last_line text old before has some in
+    let P : Unit {0} → Type 0 = λ _. AddsStack before after (branches_of_line old.held) × (new ≡ record old { ended_lines = old.ended_lines + 1; held = [] }) in
+    let item : JudgesUnlessNoMemory {T = Unit {0}} (next_item old.file (ended_lines_of text) has.rest) (Err stop) P =
+    subst (λ (o : Option Place). JudgesUnlessNoMemory {T = Unit {0}} o (Err stop) P) (held_item text old before has) judged in
+    line_stop old.file (ended_lines_of text) [] (lines_of text) has.rest before after stop P (λ _. TellsOf (lines_of text) after × HasRead (ended_text text) new after) has.good has.tells lines same item
+
+-- ---- a text as one piece
+
+pub HasRead-nothing : (file : ℕ) (tally : Tally) → TellsOf [] tally → HasRead [] (new_reading file) tally
+unfolding lines_of ended_lines_of items_of_lines
+HasRead-nothing file tally tells = record {
+  rest = [];
+  split = record { clean = tt; open_end = refl; joined = refl; all = refl };
+  goes_on = refl;
+  numbered = refl;
+  held = refl;
+  good = refl;
+  tells = tells;
+}
+
+-- a text that was fed whole stops where it stops
+judged_first : (text : List ℕ) → (later : List (List ℕ)) × (judged_lines_of text ≡ lines_ended_by [] max_text_bytes text ++ later) × (max_text_bytes < length text → later ≡ [])
+judged_first text =
+    elim (nat_lt max_text_bytes (length text)) as (λ b. nat_lt max_text_bytes (length text) ≡ b → (later : List (List ℕ)) × (judged_lines_of text ≡ lines_ended_by [] max_text_bytes text ++ later) × (max_text_bytes < length text → later ≡ [])) [
+      | true ↦ λ is.
+          let over : max_text_bytes < length text = grind (arith, nat_tests) in
+          ([], judged_lines_of-cut text over ∙ sym (append-nil (lines_ended_by [] max_text_bytes text)), λ _. refl)
+      | false ↦ λ is.
+          let within : length text ≤ max_text_bytes = grind (arith, nat_tests) in
+          let (later, lines) = lines_of-ended_first text in (
+            later,
+            judged_lines_of-whole text within ∙ lines ∙ ap (λ (t : List ℕ). ended_lines_of t ++ later) (sym (take_all max_text_bytes text within)),
+            λ over. absurd (omega (arith, over)),
+          )
+    ] refl
+
+fed_first : (file : ℕ) (text : List ℕ) (new : Reading) (before after : Tally) (stop : Stop) (P : Unit {0} → Type 0) → TellsOf [] before → Feeds (new_reading file) before text (Err stop) new after
+    → JudgesUnlessNoMemory {T = Unit {0}} (first_bad_of_text file text) (Err stop) P × TellsLinesBefore {T = Unit {0}} file (judged_lines_of text) (Err stop) after
+fed_first file text new before after (Refused place) P tells feeds =
+    let read = feeds [] (HasRead-nothing file before tells) in
+    let stays = bad_places_stay file [] text [] place (omega arith) read.0 in
+    (ap (first_bad_of_text file) (sym (append-nil text)) ∙ stays, subst (λ (ls : List (List ℕ)). TellsOf ls after) (sym (same_before file text place read.0)) read.1)
+  where
+    same_before : (file : ℕ) (text : List ℕ) (place : Place) → first_bad_of_piece file [] max_text_bytes text ≡ Some place → lines_before_bad file (judged_lines_of text) ≡ lines_before_bad file (lines_ended_by [] max_text_bytes text)
+    same_before file text place bad =
+        let (later, lines, none) = judged_first text in
+        elim (nat_lt max_text_bytes (length text)) as (λ b. nat_lt max_text_bytes (length text) ≡ b → lines_before_bad file (judged_lines_of text) ≡ lines_before_bad file (lines_ended_by [] max_text_bytes text)) [
+          | true ↦ λ is.
+              let over : max_text_bytes < length text = grind (arith, nat_tests) in
+              ap (lines_before_bad file) (lines ∙ ap (λ (ls : List (List ℕ)). lines_ended_by [] max_text_bytes text ++ ls) (none over) ∙ append-nil (lines_ended_by [] max_text_bytes text))
+          | false ↦ λ is.
+              let within : length text ≤ max_text_bytes = grind (arith, nat_tests) in
+              let whole : take max_text_bytes text ≡ text = take_all max_text_bytes text within in
+              let first : first_bad_of_lines file (lines_ended_by [] max_text_bytes text) ≡ Some place =
+              ap (λ (t : List ℕ). first_bad_of_lines file (ended_lines_of t)) whole ∙ sym (first_bad_of_piece-within file [] max_text_bytes text within) ∙ bad in
+              ap (lines_before_bad file) lines ∙ lines_before_bad-more file (lines_ended_by [] max_text_bytes text) later place first
+        ] refl
+fed_first file text new before after NoMemory P tells feeds =
+    let read = feeds [] (HasRead-nothing file before tells) in
+    let (later, lines, none) = judged_first text in
+    let some = lines_before_bad-some file (lines_ended_by [] max_text_bytes text) later read.1.0 in
+    (tt, (some.0, subst (λ (ls : List (List ℕ)). TellsOf ls after) (sym (ap (λ (ls : List (List ℕ)). take some.0 (lines_before_bad file ls)) lines ∙ some.1)) read.1.1))
+
+-- or where its end does,
+finished_last : (file : ℕ) (text : List ℕ) (fed new : Reading) (before between after : Tally) (result : Result (Unit {0}) Stop) → TellsOf [] before → Feeds (new_reading file) before text (Ok tt) fed between → fed.file ≡ file → length text ≤ max_text_bytes
+    → Finishes fed between result new after
+    → JudgesUnlessNoMemory (first_bad_of_text file text) result (λ _. TellsOf (lines_of text) after) × TellsLinesBefore file (judged_lines_of text) result after
+finished_last file text fed new before between after (Ok done) tells feeds same within finishes =
+    let read = feeds [] (HasRead-nothing file before tells) in
+    let end = finishes text read.0.1 in
+    ((first_bad_of_text-within file text within ∙ ap (λ (n : ℕ). first_bad_of_lines n (lines_of text)) (sym same) ∙ end.0.0, end.0.1.0), tt)
+finished_last file text fed new before between after (Err (Refused place)) tells feeds same within finishes =
+    let read = feeds [] (HasRead-nothing file before tells) in
+    let end = finishes text read.0.1 in (
+      first_bad_of_text-within file text within ∙ ap (λ (n : ℕ). first_bad_of_lines n (lines_of text)) (sym same) ∙ end.0,
+      subst (λ (ls : List (List ℕ)). TellsOf (lines_before_bad file ls) after) (sym (judged_lines_of-whole text within))
+          (subst (λ (n : ℕ). TellsOf (lines_before_bad n (lines_of text)) after) same end.1),
+    )
+finished_last file text fed new before between after (Err NoMemory) tells feeds same within finishes =
+    let read = feeds [] (HasRead-nothing file before tells) in
+    let end = finishes text read.0.1 in (
+      tt,
+      (
+        end.1.0,
+        subst (λ (ls : List (List ℕ)). TellsOf (take end.1.0 (lines_before_bad file ls)) after) (sym (judged_lines_of-whole text within))
+            (subst (λ (n : ℕ). TellsOf (take end.1.0 (lines_before_bad n (lines_of text))) after) same end.1.1),
+      ),
+    )
+
+-- by a reader that is new
+pub text_fed : (file : ℕ) (text : List ℕ) (start new : Reading) (before after : Tally) (stop : Stop) (P : Unit {0} → Type 0) → TellsOf [] before → start ≡ new_reading file → Feeds start before text (Err stop) new after
+    → JudgesUnlessNoMemory {T = Unit {0}} (first_bad_of_text file text) (Err stop) P × TellsLinesBefore {T = Unit {0}} file (judged_lines_of text) (Err stop) after
+text_fed file text start new before after stop P tells is feeds = fed_first file text new before after stop P tells (subst (λ (r : Reading). Feeds r before text (Err stop) new after) is feeds)
+
+pub text_finished : (file : ℕ) (text : List ℕ) (start fed new : Reading) (before between after : Tally) (result : Result (Unit {0}) Stop) → TellsOf [] before → start ≡ new_reading file → Feeds start before text (Ok tt) fed between
+    → (fed.file ≡ start.file) × (fed.size ≡ start.size + length text) × (fed.size ≤ max_text_bytes) → Finishes fed between result new after
+    → JudgesUnlessNoMemory (first_bad_of_text file text) result (λ _. TellsOf (lines_of text) after) × TellsLinesBefore file (judged_lines_of text) result after
+text_finished file text start fed new before between after result tells is feeds goes_on finishes =
+    finished_last file text fed new before between after result tells (subst (λ (r : Reading). Feeds r before text (Ok tt) fed between) is feeds)
+    (goes_on.0 ∙ ap (λ (r : Reading). r.file) is) (omega (arith, goes_on.1, goes_on.2, ap (λ (r : Reading). r.size) is)) finishes

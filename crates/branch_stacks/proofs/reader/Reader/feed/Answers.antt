@@ -1,0 +1,9 @@
+use Rattle.std.proofs.Common.{ap}
+use Rattle.branch_stacks.specs.Reader.{Reading}
+use Rattle.branch_stacks.proofs.FeedLemmas.{Feeds-kept}
+use Rattle.branch_stacks.proofs.reader.Reader.feed.Goals as goal
+
+pub returns-clause-judged : goal.returns-clause-judged
+returns-clause-judged c =
+    Feeds-kept _ _ _ _ _ _ _ (ap (λ (r : Reading). r.file) c.self-2.view_is) (ap (λ (r : Reading). r.ended_lines) c.self-2.view_is) (ap (λ (r : Reading). r.held) c.self-2.view_is)
+    c.err-self-inside.ensures.value c.read-result.ensures.judged

@@ -1,0 +1,106 @@
+-- A branch text that is read piece by piece.
+use Rattle.std.proofs.Common.{◌≡◌, ℕ, ◌+◌, ◌-◌, ◌≤◌, List, [], ◌++◌, length, Option, None, Some, Ok, Err, IfSome, refl, sym, ap, subst, ◌∙◌, arith}
+use Rattle.std.proofs.lemmas.List.{append-nil, append_assoc, length-append}
+use Rattle.std.specs.Io.KnownBytes.{Consumes, IsAtEnd}
+use Rattle.refusal.specs.declared.place.Stop.{Stop}
+use Rattle.refusal.specs.declared.place.Stop.TheVariants.{Refused, NoMemory}
+use Rattle.text_model.specs.Lines.{lines_of}
+use Rattle.sample_model.specs.Judging.{first_bad_of_lines, first_bad_of_piece, first_bad_of_text}
+use Rattle.sample_model.specs.Limits.{max_text_bytes}
+use Rattle.sample_model.proofs.JudgingLemmas.{bad_places_stay, first_bad_of_text-within}
+use Rattle.branch_stacks.specs.Reader.{Reading, HasRead, new_reading, Feeds, Finishes}
+use Rattle.branch_stacks.specs.Tally.{Tally, TellsOf}
+use Rattle.branch_stacks.proofs.FeedLemmas.{HasRead-nothing}
+use Rattle.pgo_run.specs.BranchText.{FeedsText, JudgesText}
+use Rattle.pgo_run.specs.Halt.{halt_of_stop}
+use Rattle.pgo_run.specs.declared.halt.Halt.{Halt}
+use Rattle.pgo_run.specs.declared.halt.Halt.TheVariants as halt
+use Rattle.pgo_run.specs.declared.halt.Halt.TheVariants.{NoSuchFile, ReadFault}
+
+Consumes-nil : (a : Option (List ℕ)) → Consumes a a []
+Consumes-nil None = tt
+Consumes-nil (Some x) = refl
+
+Consumes-trans : (a b c : Option (List ℕ)) (bs cs : List ℕ) → Consumes a b bs → Consumes b c cs → Consumes a c (bs ++ cs)
+Consumes-trans None b c bs cs p q = tt
+Consumes-trans (Some x) None c bs cs p q = absurd p
+Consumes-trans (Some x) (Some y) None bs cs p q = absurd q
+Consumes-trans (Some x) (Some y) (Some z) bs cs p q = p ∙ ap (λ l. bs ++ l) q ∙ sym (append_assoc bs cs z)
+
+-- This was read of what was left, and the reader goes on.
+pub record ReadSoFar (k : ℕ) (before left : Option (List ℕ)) (reader : Reading) (tally : Tally) : Type 0 where
+  pub read : List ℕ
+  pub consumed : Consumes before left read
+  pub file : reader.file ≡ k
+  pub size : reader.size ≡ length read
+  pub within : reader.size ≤ max_text_bytes
+  pub has : HasRead read reader tally
+
+pub ReadSoFar-none : (k : ℕ) (left : Option (List ℕ)) (reader : Reading) (tally : Tally) → reader ≡ new_reading k → TellsOf [] tally → ReadSoFar k left left reader tally
+ReadSoFar-none k left reader tally is tells = subst (λ (r : Reading). ReadSoFar k left left r tally) (sym is) (record {
+  read = [];
+  consumed = Consumes-nil left;
+  file = refl;
+  size = refl;
+  within = omega arith;
+  has = HasRead-nothing k tally tells;
+})
+
+pub ReadSoFar-more : (k : ℕ) (before left next : Option (List ℕ)) (piece : List ℕ) (old new : Reading) (tally after : Tally) → ReadSoFar k before left old tally → Consumes left next piece
+    → Feeds old tally piece (Ok tt) new after → (new.file ≡ old.file) × (new.size ≡ old.size + length piece) × (new.size ≤ max_text_bytes) → ReadSoFar k before next new after
+ReadSoFar-more k before left next piece old new tally after so_far consumed feeds goes_on = record {
+  read = so_far.read ++ piece;
+  consumed = Consumes-trans before left next so_far.read piece so_far.consumed consumed;
+  file = goes_on.0 ∙ so_far.file;
+  size = omega (arith, goes_on.1, so_far.size, length-append so_far.read piece);
+  within = goes_on.2;
+  has = (feeds so_far.read so_far.has).0.1;
+}
+
+pub ReadSoFar-stop : (k : ℕ) (before left next : Option (List ℕ)) (piece : List ℕ) (old new : Reading) (tally after : Tally) (stop : Stop) → ReadSoFar k before left old tally → Consumes left next piece
+    → Feeds old tally piece (Err stop) new after → IfSome before (λ text. FeedsText k text (Err (halt_of_stop stop)) new after)
+ReadSoFar-stop k None left next piece old new tally after stop so_far consumed feeds = tt
+ReadSoFar-stop k (Some text) None next piece old new tally after stop so_far consumed feeds = absurd so_far.consumed
+ReadSoFar-stop k (Some text) (Some left) None piece old new tally after stop so_far consumed feeds = absurd consumed
+ReadSoFar-stop k (Some text) (Some left) (Some rest) piece old new tally after NoMemory so_far consumed feeds = tt
+ReadSoFar-stop k (Some text) (Some left) (Some rest) piece old new tally after (Refused place) so_far consumed feeds =
+    let bad = (feeds so_far.read so_far.has).0 in
+    let room : max_text_bytes - old.size ≡ max_text_bytes - length so_far.read = ap (λ (n : ℕ). max_text_bytes - n) so_far.size in
+    let here : first_bad_of_piece k so_far.read (max_text_bytes - length so_far.read) piece ≡ Some place =
+    ap (λ (n : ℕ). first_bad_of_piece k so_far.read n piece) (sym room) ∙ ap (λ (n : ℕ). first_bad_of_piece n so_far.read (max_text_bytes - old.size) piece) (sym so_far.file) ∙ bad in
+    let whole : text ≡ so_far.read ++ (piece ++ rest) = so_far.consumed ∙ ap (λ (t : List ℕ). so_far.read ++ t) consumed in
+    ap (first_bad_of_text k) whole ∙ bad_places_stay k so_far.read piece rest place (omega (arith, so_far.size, so_far.within)) here
+
+pub ReadSoFar-all : (k : ℕ) (before left next : Option (List ℕ)) (piece : List ℕ) (reader : Reading) (tally : Tally) → ReadSoFar k before left reader tally → Consumes left next piece → piece ≡ [] → IsAtEnd next
+    → IfSome before (λ text. FeedsText k text (Ok tt) reader tally)
+ReadSoFar-all k None left next piece reader tally so_far consumed nothing end = tt
+ReadSoFar-all k (Some text) None next piece reader tally so_far consumed nothing end = absurd so_far.consumed
+ReadSoFar-all k (Some text) (Some left) None piece reader tally so_far consumed nothing end = absurd consumed
+ReadSoFar-all k (Some text) (Some left) (Some rest) piece reader tally so_far consumed nothing end =
+    let none : left ≡ [] = consumed ∙ ap (λ (t : List ℕ). t ++ rest) nothing ∙ end in
+    let whole : text ≡ so_far.read = so_far.consumed ∙ ap (λ (t : List ℕ). so_far.read ++ t) none ∙ append-nil so_far.read in
+    (subst (λ (t : List ℕ). HasRead t reader tally) (sym whole) so_far.has, so_far.file, omega (arith, so_far.size, so_far.within, ap (λ (t : List ℕ). length t) whole))
+
+-- what was fed stops the reading of a text,
+pub JudgesText-stop : (k : ℕ) (left : Option (List ℕ)) (stopped : Halt) (reader : Reading) (tally : Tally) → IfSome left (λ text. FeedsText k text (Err stopped) reader tally) → IfSome left (λ text. JudgesText k text (Err stopped) tally)
+JudgesText-stop k None stopped reader tally fed = tt
+JudgesText-stop k (Some text) (NoSuchFile j) reader tally fed = fed
+JudgesText-stop k (Some text) (halt.Refused place) reader tally fed = fed
+JudgesText-stop k (Some text) (ReadFault j) reader tally fed = tt
+JudgesText-stop k (Some text) halt.NoMemory reader tally fed = tt
+
+-- or its end does,
+pub JudgesText-end : (k : ℕ) (left : Option (List ℕ)) (old new : Reading) (before after : Tally) (stop : Stop) → IfSome left (λ text. FeedsText k text (Ok tt) old before) → Finishes old before (Err stop) new after
+    → IfSome left (λ text. JudgesText k text (Err (halt_of_stop stop)) after)
+JudgesText-end k None old new before after stop fed finishes = tt
+JudgesText-end k (Some text) old new before after NoMemory fed finishes = tt
+JudgesText-end k (Some text) old new before after (Refused place) fed finishes =
+    first_bad_of_text-within k text fed.2 ∙ ap (λ (n : ℕ). first_bad_of_lines n (lines_of text)) (sym fed.1) ∙ (finishes text fed.0).0
+
+-- or all of it is good.
+pub JudgesText-all : (k : ℕ) (left : Option (List ℕ)) (old new : Reading) (before after : Tally) → IfSome left (λ text. FeedsText k text (Ok tt) old before) → Finishes old before (Ok tt) new after
+    → IfSome left (λ text. JudgesText k text (Ok tt) after)
+JudgesText-all k None old new before after fed finishes = tt
+JudgesText-all k (Some text) old new before after fed finishes =
+    let end = (finishes text fed.0).0 in
+    (first_bad_of_text-within k text fed.2 ∙ ap (λ (n : ℕ). first_bad_of_lines n (lines_of text)) (sym fed.1) ∙ end.0, end.1.0)

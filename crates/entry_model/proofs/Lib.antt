@@ -1,0 +1,5 @@
+pub mod CursorLemmas
+pub mod EntryLemmas
+pub mod OrderLemmas
+pub mod TableLemmas
+pub mod ValueLemmas

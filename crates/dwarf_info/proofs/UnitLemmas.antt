@@ -22,7 +22,10 @@ use Rattle.dwarf_info.specs.declared.rows.SoFar.{SoFar}
 use Rattle.dwarf_info.specs.declared.units.Extent.{Extent}
 use Rattle.dwarf_info.specs.Entries.{all_of, IsWhole}
 use Rattle.dwarf_info.specs.Units.{units_of, extent_of, IsRead, IsReadTo, ReadsUnit, ReadsNext, SkipsUnit}
+use Rattle.entry_model.proofs.OrderLemmas.{entries-in_order}
+use Rattle.dwarf_info.specs.Rows.{Ascend}
 use Rattle.dwarf_info.proofs.EntryLemmas.{stopped}
+use Rattle.dwarf_info.proofs.FoundLemmas.{rows-ascend}
 
 skipped-is : (old new : SoFar) (extent : Extent) → SkipsUnit old new extent → units_of new ≡ model.with_skipped (extent_of extent) (units_of old)
 skipped-is old new extent skips =
@@ -133,6 +136,13 @@ unfolding model.units
 UnitsSoFar-end section start so_far cur on none =
     let is = GoesOn-end (step_if_left (model.next_unit section)) _ _ cur cur on.on (step_if_left-none (model.next_unit section) _ cur none) in
     (ap refused_at is, (cur, is))
+
+-- the entries of all units stand in order
+pub UnitsSoFar-order : (section : Option Cursor) (start : Cursor) (so_far : SoFar) (cur : Cursor) → UnitsSoFar section start so_far cur → length cur.left ≡ 0 → Ascend so_far.entries.rows.items
+UnitsSoFar-order section start so_far cur on none =
+    let end = UnitsSoFar-end section start so_far cur on none in
+    let order = entries-in_order section start end.1.0 (units_of so_far) end.1.1 in
+    rows-ascend so_far.entries.found.items so_far.entries.rows.items order.ascending
 
 bad : (section : Option Cursor) (start : Cursor) (old new : SoFar) (cur next : Cursor) (why : Stop) → UnitsSoFar section start old cur → 0 < length cur.left
     → ReadsNext (Err why) old new next (model.next_unit section (units_of old) cur)

@@ -1,5 +1,5 @@
 -- Entries in memory: a row for each, and the attributes of all in one list.
-use Rattle.std.specs.Prelude.{◌≤◌, List, map, length, slice_range}
+use Rattle.std.specs.Prelude.{◌≤◌, ◌<◌, List, map, length, slice_range, AllPairs}
 use Rattle.std.specs.List.{AllByRecursion}
 use Rattle.unit_model.specs.Values.{Found}
 use Rattle.unit_model.specs.Entries.{Entry}
@@ -27,3 +27,7 @@ entries_of found rows = map (entry_of_row found) rows
 -- The attributes of each row are some of the list.
 abbrev pub AreWithin : List Found → List Row → Type 0
 AreWithin found rows = AllByRecursion (IsWithin found) rows
+
+-- The rows stand in the order of the file.
+abbrev pub Ascend : List Row → Type 0
+Ascend rows = AllPairs (λ before after. before.at < after.at) rows

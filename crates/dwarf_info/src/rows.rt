@@ -136,13 +136,14 @@ pub struct Units<'a> {
 impl<'a> Model for Units<'a> {
     ghost use Rattle.unit_model.specs.Units.{Units};
     ghost use Rattle.dwarf_info.specs.Entries.{IsWhole};
+    ghost use Rattle.dwarf_info.specs.Rows.{Ascend};
     ghost use Rattle.dwarf_info.specs.Units.{units_of};
 
     ghost Value = { Units };
 
     ghost view = { λ u. units_of u.so_far };
 
-    ghost invariant = { λ u. IsWhole u.so_far.entries };
+    ghost invariant = { λ u. IsWhole u.so_far.entries × Ascend u.so_far.entries.rows.items };
 }
 
 impl<'a> Units<'a> {
@@ -188,21 +189,14 @@ impl<'a> Units<'a> {
     }
 
     /// The place of the entry that begins at an offset in the file, where one does.
-    #[tactic(auto, using(crate::proofs::FoundLemmas::found_lemmas))]
     pub fn entry_at(&self, at: u64) -> Option<usize>
         ensures { FindsEntry self.now.entries at result }
     {
         let rows = &self.so_far.entries.rows;
-        match rows.binary_search_by_key(&at, |row| row.at) {
-            Ok(place) if rows[place].at == at => Some(place),
-            _ => place_of(rows, at),
+        let place = rows.partition_point(|row| row.at < at);
+        match rows.get(place) {
+            Some(row) if row.at == at => Some(place),
+            _ => None,
         }
     }
-}
-
-/// The place of the first row of an offset, one by one.
-fn place_of(rows: &[Row], at: u64) -> Option<usize>
-    ensures { result ≡ position (λ row. row.at == at) rows.now }
-{
-    rows.iter().position(|row| row.at == at)
 }

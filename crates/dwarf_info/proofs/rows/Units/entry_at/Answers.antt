@@ -1,18 +1,42 @@
-use Rattle.std.proofs.Common.{List, length, Some, ap, subst, arith}
-use Rattle.dwarf_info.specs.declared.rows.Row.{Row}
+use Rattle.std.proofs.Common.{rules, ◌≡◌, ◌<◌, ◌≤◌, ℕ, List, length, get_or, Some, None, Option, sym, ap, ◌∙◌, subst, arith, ltb}
+use Rattle.std.proofs.lemmas.List.Sorted.{IsPartitionPoint-from_clause, IsPartitionedBy-ltb}
 use Rattle.unit_model.specs.Units as model
+use Rattle.dwarf_info.specs.declared.rows.Row.{Row}
 use Rattle.dwarf_info.specs.Found.{FindsEntry}
-use Rattle.dwarf_info.proofs.FoundLemmas.{FindsEntry-at, FindsEntry-position}
+use Rattle.dwarf_info.specs.Rows.{Ascend}
+use Rattle.dwarf_info.proofs.FoundLemmas.{FindsEntry-at, FindsEntry-miss, FindsEntry-none, IsFirstFrom, first_from, rows-rise}
 use Rattle.dwarf_info.proofs.rows.Units.entry_at.Goals as goal
 
-pub returns-in-Ok : goal.returns-in-Ok
-returns-in-Ok c =
+pub returns-in-Some : goal.returns-in-Some
+returns-in-Some c =
     let entries = c.self.inside.so_far.entries in
-    subst (λ (u : model.Units). FindsEntry u.entries c.args.at (Some c.in-Ok.place)) c.self.view_is
-    (FindsEntry-at entries.found.items entries.rows.items c.args.at c.in-Ok.place c.index.result.now (omega (arith, c.in-Ok.ensures.bound, ap (λ (rs : List Row). length rs) c.deref.ensures.value)) c.index.ensures c.if-index-at.true)
+    let found = c.in-Some.ensures.lookup in
+    let long = ap (λ (rs : List Row). length rs) c.deref-2.ensures.value in
+    subst (λ (u : model.Units). FindsEntry u.entries c.args.at (Some c.partition_point-place.result)) c.self.view_is
+    (FindsEntry-at entries.found.items entries.rows.items c.args.at _ _ _ (omega (arith, found.3.0, long))
+    (found.1 ∙ ap (λ (rs : List Row). get_or rs c.partition_point-place.result c.in-Some.row.now) c.deref-2.ensures.value) c.if-row-at.true)
 
 pub returns-in_default : goal.returns-in_default
 returns-in_default c =
     let entries = c.self.inside.so_far.entries in
-    subst (λ (u : model.Units). FindsEntry u.entries c.args.at c.place_of.result) c.self.view_is
-    (FindsEntry-position entries.found.items entries.rows.items _ c.args.at c.place_of.result c.deref-in_default.ensures.value c.place_of.ensures)
+    let found = c.in-Some.ensures.lookup in
+    let long = ap (λ (rs : List Row). length rs) c.deref-2.ensures.value in
+    let ascend : Ascend c.deref.result.now = subst (λ (rs : List Row). Ascend rs) (sym c.deref.ensures.value) c.self.invariant.1 in
+    let parted = IsPartitionedBy-ltb (λ row. row.at) c.deref.result.now c.args.at (rows-rise _ ascend) in
+    let point = first_from _ _ _ (IsPartitionPoint-from_clause (λ row. ltb row.at c.args.at) _ _ c.partition_point-place.ensures.partitioned parted (λ a r q k. search rules)) in
+    let first = subst (λ (rs : List Row). IsFirstFrom rs c.partition_point-place.result c.args.at) c.deref.ensures.value point in
+    subst (λ (u : model.Units). FindsEntry u.entries c.args.at None) c.self.view_is
+    (FindsEntry-miss entries.found.items entries.rows.items c.args.at _ _ _ c.self.invariant.1 (omega (arith, found.3.0, long))
+    (found.1 ∙ ap (λ (rs : List Row). get_or rs c.partition_point-place.result c.in-Some.row.now) c.deref-2.ensures.value) first c.if-row-at.false)
+
+pub returns-in_default-2 : goal.returns-in_default-2
+returns-in_default-2 c =
+    let entries = c.self.inside.so_far.entries in
+    let ascend : Ascend c.deref.result.now = subst (λ (rs : List Row). Ascend rs) (sym c.deref.ensures.value) c.self.invariant.1 in
+    let parted = IsPartitionedBy-ltb (λ row. row.at) c.deref.result.now c.args.at (rows-rise _ ascend) in
+    let point = first_from _ _ _ (IsPartitionPoint-from_clause (λ row. ltb row.at c.args.at) _ _ c.partition_point-place.ensures.partitioned parted (λ a r q k. search rules)) in
+    let first = subst (λ (rs : List Row). IsFirstFrom rs c.partition_point-place.result c.args.at) c.deref.ensures.value point in
+    let none = rw c.in_default.is at c.get.ensures.lookup in
+    let long = ap (λ (rs : List Row). length rs) c.deref-2.ensures.value in
+    subst (λ (u : model.Units). FindsEntry u.entries c.args.at None) c.self.view_is
+    (FindsEntry-none entries.found.items entries.rows.items c.args.at _ (omega (arith, none.3, long)) first)

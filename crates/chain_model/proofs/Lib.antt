@@ -1,0 +1,4 @@
+pub mod ChainLemmas
+mod DownLemmas
+mod Examples
+mod KeyLemmas

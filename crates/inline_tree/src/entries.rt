@@ -1,0 +1,165 @@
+// The entries of a unit, one behind the other.
+ghost use Rattle.std.specs.Prelude.{◌≡◌, ◌+◌, ◌-◌, ◌<◌, ◌≤◌, ◌^◌, length, OnOk};
+ghost use Rattle.way_model.specs.Order.{AreInOrder};
+ghost use Rattle.entry_names.specs.Meaning.{Extends};
+ghost use Rattle.piece_model.specs.Pieces.{pieces as pieces_told};
+ghost use Rattle.entry_pieces.specs.Told.{Tells, in_unit};
+ghost use Rattle.tree_model.specs.Frames.{SoFar as so_far_told, frame_above};
+ghost use Rattle.tree_model.specs.Members.{Told};
+ghost use Rattle.tree_model.specs.Tree.{next_call as next_call_told, next_entry as next_entry_told, next_function as next_function_told};
+ghost use Rattle.inline_tree.specs.Told.{Advances, CountsCalls, IsSoFar, Knows, source_of};
+
+use crate::member::{call_of, function_of};
+use crate::source::Source;
+use dwarf_info::Entry;
+use entry_names::Origins;
+use entry_pieces::{InUnit, pieces};
+use key_types::Names;
+use member_lists::{Frame, SoFar};
+use refusal::{Kind, Place, Stop};
+use std::alloc::Global;
+
+/// The tags of functions and inlined calls: `DW_TAG_subprogram`, `DW_TAG_inlined_subroutine`.
+const SUBPROGRAM: u64 = 0x2e;
+
+const INLINED_SUBROUTINE: u64 = 0x1d;
+
+/// The deepest that inlined calls can stand.
+const MAX_CALLS: u8 = 255;
+
+/// The pieces of an entry behind those that were read so far.
+fn pieces_behind<'a>(
+    alloc: Global,
+    source: &Source<'a, '_>,
+    of: &InUnit<'a>,
+    entry: &Entry<'a, '_>,
+    so_far: &SoFar,
+) -> Result<Vec<(u64, u64)>, Stop>
+    requires { so_far.now.pieces ≤ 2 ^ 26 }
+    ensures { Tells (λ pieces. pieces.items) result
+        (pieces_told source.now.elf.now (in_unit of.now) so_far.now.pieces entry.now) }
+{
+    pieces(alloc, source.elf, of, so_far.pieces(), entry)
+}
+
+/// Reads a subprogram: a function, where it has pieces.
+fn next_function<'a>(
+    alloc: Global,
+    source: &Source<'a, '_>,
+    of: &InUnit<'a>,
+    entry: &Entry<'a, '_>,
+    names: &mut Names<'a>,
+    origins: &mut Origins,
+    so_far: &mut SoFar,
+) -> Result<(), Stop>
+    requires order { AreInOrder source.now.units.now.entries }
+    requires room { length names.old < 2 ^ 32 - 1 }
+    requires few { so_far.old.pieces ≤ 2 ^ 26 }
+    requires known { Knows (source_of source.now) names.old origins.old }
+    ensures read { (told : so_far_told Told) → IsSoFar names.old told so_far.old
+        → Advances names.new result so_far.new
+        (next_function_told (source_of source.now) (in_unit of.now) entry.now told) }
+    ensures names { Extends names.old names.new }
+    ensures few { OnOk result (so_far.new.pieces ≤ 2 ^ 26) }
+    ensures known { OnOk result (Knows (source_of source.now) names.new origins.new) }
+{
+    let pieces = pieces_behind(alloc, source, of, entry, so_far)?;
+    if pieces.is_empty() {
+        so_far.pass(entry.depth, Frame::outside())?;
+        return Ok(());
+    }
+    let count = pieces.len() as u64;
+    let origin = source.origin(entry, names, origins)?;
+    let function = function_of(entry, origin, pieces);
+    so_far.add_function(alloc, entry.depth, function, count)?;
+    Ok(())
+}
+
+/// How many calls lead up to one below a frame, itself included.
+///
+/// # Errors
+/// `InlineTooDeep` at the entry, where they are more than 255.
+fn calls_below(above: &Frame, entry: &Entry<'_, '_>) -> Result<u8, Place>
+    ensures { CountsCalls entry.now.at above.now.calls result }
+{
+    if above.calls == MAX_CALLS {
+        return Err(Place {
+            file: 1,
+            at: entry.at,
+            kind: Kind::InlineTooDeep,
+        });
+    }
+    Ok(above.calls + 1)
+}
+
+/// Reads an inlined subroutine: a call, where it has pieces.
+fn next_call<'a>(
+    alloc: Global,
+    source: &Source<'a, '_>,
+    of: &InUnit<'a>,
+    entry: &Entry<'a, '_>,
+    names: &mut Names<'a>,
+    origins: &mut Origins,
+    so_far: &mut SoFar,
+) -> Result<(), Stop>
+    requires order { AreInOrder source.now.units.now.entries }
+    requires room { length names.old < 2 ^ 32 - 1 }
+    requires few { so_far.old.pieces ≤ 2 ^ 26 }
+    requires known { Knows (source_of source.now) names.old origins.old }
+    ensures read { (told : so_far_told Told) → IsSoFar names.old told so_far.old
+        → Advances names.new result so_far.new
+        (next_call_told (source_of source.now) (in_unit of.now) entry.now
+        (frame_above entry.now.depth told.frames) told) }
+    ensures names { Extends names.old names.new }
+    ensures few { OnOk result (so_far.new.pieces ≤ 2 ^ 26) }
+    ensures known { OnOk result (Knows (source_of source.now) names.new origins.new) }
+{
+    let above = so_far.frame_above(entry.depth);
+    let calls = calls_below(&above, entry)?;
+    let pieces = pieces_behind(alloc, source, of, entry, so_far)?;
+    if pieces.is_empty() {
+        let function = None;
+        so_far.pass(entry.depth, Frame { calls, function })?;
+        return Ok(());
+    }
+    let count = pieces.len() as u64;
+    let origin = source.origin(entry, names, origins)?;
+    let call = call_of(calls, entry, origin, pieces);
+    let function = above.function;
+    so_far.add_call(entry.depth, Frame { calls, function }, call, count)?;
+    Ok(())
+}
+
+/// Reads the next entry. One that is neither a subprogram nor an inlined subroutine is passed
+/// through.
+#[tactic(auto, unfolding(tree_model::specs::Tree::next_entry))]
+pub(crate) fn next_entry<'a>(
+    alloc: Global,
+    source: &Source<'a, '_>,
+    of: &InUnit<'a>,
+    entry: &Entry<'a, '_>,
+    names: &mut Names<'a>,
+    origins: &mut Origins,
+    so_far: &mut SoFar,
+) -> Result<(), Stop>
+    requires order { AreInOrder source.now.units.now.entries }
+    requires room { length names.old < 2 ^ 32 - 1 }
+    requires few { so_far.old.pieces ≤ 2 ^ 26 }
+    requires known { Knows (source_of source.now) names.old origins.old }
+    ensures read { (told : so_far_told Told) → IsSoFar names.old told so_far.old
+        → Advances names.new result so_far.new
+        (next_entry_told (source_of source.now) (in_unit of.now) entry.now told) }
+    ensures names { Extends names.old names.new }
+    ensures few { OnOk result (so_far.new.pieces ≤ 2 ^ 26) }
+    ensures known { OnOk result (Knows (source_of source.now) names.new origins.new) }
+{
+    if entry.tag == SUBPROGRAM {
+        return next_function(alloc, source, of, entry, names, origins, so_far);
+    }
+    if entry.tag == INLINED_SUBROUTINE {
+        return next_call(alloc, source, of, entry, names, origins, so_far);
+    }
+    let above = so_far.frame_above(entry.depth);
+    so_far.pass(entry.depth, above)?;
+    Ok(())
+}

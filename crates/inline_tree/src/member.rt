@@ -1,0 +1,72 @@
+// An entry as a member.
+ghost use Rattle.std.specs.Prelude.{◌≡◌};
+ghost use Rattle.dwarf_forms.specs.Meaning.{meaning_of};
+ghost use Rattle.way_model.specs.Origin.{number_of as number_told};
+ghost use Rattle.tree_model.specs.Members.{number_in as number_in_told};
+ghost use Rattle.inline_tree.specs.Told.{call_made, function_made};
+
+use chain_model::Member;
+use dwarf_forms::Value;
+use dwarf_info::Entry;
+use entry_names::Origin;
+use key_types::Chain;
+use unit_bases::attribute;
+
+const CALL_LINE: u64 = 0x59;
+
+const GNU_DISCRIMINATOR: u64 = 0x2136;
+
+/// The number that a value is.
+fn number_of(value: Value<'_>) -> u64
+    ensures { result ≡ number_told (meaning_of value.entry) }
+{
+    match value {
+        Value::Const(number) => number,
+        _ => 0,
+    }
+}
+
+/// The number that an attribute of an entry is, and 0 without the attribute.
+fn number_in(name: u64, entry: &Entry<'_, '_>) -> u64
+    ensures { result ≡ number_in_told name entry.now }
+{
+    match attribute(entry.found, name) {
+        Some(found) => number_of(found.value),
+        None => 0,
+    }
+}
+
+/// A function with pieces.
+pub(crate) fn function_of(entry: &Entry<'_, '_>, origin: Origin, pieces: Vec<(u64, u64)>) -> Member
+    ensures { result ≡ function_made entry.now origin pieces.items }
+{
+    Member {
+        depth: 0,
+        unit: entry.unit,
+        name: origin.name,
+        start: origin.line,
+        line: 0,
+        disc: 0,
+        pieces: Chain::new(pieces),
+    }
+}
+
+/// A call with pieces, so many calls deep.
+pub(crate) fn call_of(
+    depth: u8,
+    entry: &Entry<'_, '_>,
+    origin: Origin,
+    pieces: Vec<(u64, u64)>,
+) -> Member
+    ensures { result ≡ call_made depth entry.now origin pieces.items }
+{
+    Member {
+        depth,
+        unit: entry.unit,
+        name: origin.name,
+        start: origin.line,
+        line: number_in(CALL_LINE, entry),
+        disc: (number_in(GNU_DISCRIMINATOR, entry) % (1 << 32)) as u32,
+        pieces: Chain::new(pieces),
+    }
+}

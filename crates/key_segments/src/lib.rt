@@ -1,0 +1,10 @@
+//! Segments: parts of a program, each of addresses that have one key and one factor.
+//!
+//! `specs/` says what disjoint segments tell of an address, and `key_at` finds it by binary search.
+#![tactic(auto)]
+
+mod search;
+#[cfg(test)]
+mod tests;
+
+pub use search::key_at;

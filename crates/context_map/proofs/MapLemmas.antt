@@ -1,0 +1,149 @@
+-- What a map tells.
+use Rattle.std.proofs.Common.{◌≡◌, ℕ, zero, suc, ◌+◌, arith, Bool, true, false, List, [], ◌∷◌, Option, None, Some, refl, sym, ap, ◌∙◌, subst, map}
+use Rattle.std.specs.Prelude.{slice_get, find, option_and_then, ◌==◌, if◌then◌else◌}
+use Rattle.std.specs.Option.{option_map, is_some}
+use Rattle.std.specs.List.{enumerate_from}
+use Rattle.address_spans.specs.declared.span.Span.{Span}
+use Rattle.address_spans.specs.Spans.{owner_at}
+use Rattle.key_types.specs.declared.ids.KeyId.{KeyId}
+use Rattle.key_types.specs.declared.ids.NameId.{NameId}
+use Rattle.key_types.specs.declared.key.Frame.{Frame}
+use Rattle.key_types.specs.declared.key.Key.{Key}
+use Rattle.key_types.specs.declared.places.Seg.{Seg}
+use Rattle.chain_model.specs.declared.member.Member.{Member}
+use Rattle.chain_model.specs.Chains.{chain, holds_at, function_of, function_at}
+use Rattle.chain_model.specs.Places.{Place, outside, nameless, no_line, has_key, LineAndDisc, place_of, row_of, place_at, factor_at, key, frames, last_start, place_by as place_by_names, is_entered_at, entry_name, Tells}
+use Rattle.chain_model.proofs.ChainLemmas.{begin_with_the_function}
+use Rattle.key_segments.specs.Segments as segments
+use Rattle.key_segments.proofs.ToldLemmas.{told-some, told-none}
+use Rattle.part_segments.specs.Parts.{with_factor}
+use Rattle.context_map.specs.declared.entrance.Entrance.{Entrance}
+use Rattle.context_map.specs.Maps.{is_nameless, ArePartsOf, entrance_of, place_by, name_if}
+use Rattle.context_map.proofs.PartsLemmas.{chainless}
+
+inner : {X : Type 0} (x y : X) → Some x ≡ Some y → x ≡ y
+inner x y is = cc
+
+-- which place has a key, a factor and a function
+keyed : (p : Place) (f g : ℕ) (k : Key) → with_factor p f ≡ Some (k, g) → p ≡ has_key k
+keyed outside f g k is = absurd (cc)
+keyed nameless f g k is = absurd (cc)
+keyed no_line f g k is = absurd (cc)
+keyed (has_key key) f g k is = ap has_key (ap (λ (q : Key × ℕ). q.0) (inner (key, f) (k, g) is))
+
+-- a chain is empty exactly where there is no function
+no_first : (xs : List (ℕ × Member)) → option_map (λ (m : ℕ × Member). m.0) (slice_get xs 0) ≡ None → xs ≡ []
+no_first [] is = refl
+no_first (x ∷ xs) is = absurd (cc)
+
+pub out-function : (rows : ℕ → ℕ → Option LineAndDisc) (base : Bool) (members : List Member) (a : ℕ) → function_at members a ≡ None → place_at rows base members a ≡ outside
+out-function rows base members a none =
+    chainless rows base members a (no_first (chain members a) (ap (option_map (λ (m : ℕ × Member). m.0)) (begin_with_the_function members a) ∙ none))
+
+first-some : (xs : List (ℕ × Member)) (f : ℕ) → option_map (λ (m : ℕ × Member). m.0) (slice_get xs 0) ≡ Some f → (x : ℕ × Member) × (rest : List (ℕ × Member)) × (xs ≡ x ∷ rest)
+first-some [] f is = absurd (cc)
+first-some (x ∷ xs) f is = (x, xs, refl)
+
+-- a place that has a function is not outside
+abbrev Held : Place → Type 0
+Held outside = ⊥
+Held _ = Unit {0}
+
+held-by : (base : Bool) (start : ℕ) (name : Option NameId) (calls : Option (List Frame)) (row : Option LineAndDisc) → Held (place_by_names base start name calls row)
+held-by base start None calls row = tt
+held-by base start (Some root) None row = tt
+held-by base start (Some root) (Some calls) None = tt
+held-by base start (Some root) (Some calls) (Some row) = lined (row.0 == 0)
+  where
+    lined : (t : Bool) → Held (if t then no_line else has_key (key base root calls start row))
+    lined true = tt
+    lined false = tt
+
+pub in-function : (rows : ℕ → ℕ → Option LineAndDisc) (base : Bool) (members : List Member) (a f : ℕ) → function_at members a ≡ Some f → Held (place_at rows base members a)
+in-function rows base members a f some =
+    let first = first-some (chain members a) f (ap (option_map (λ (m : ℕ × Member). m.0)) (begin_with_the_function members a) ∙ some) in
+    subst (λ (ms : List (ℕ × Member)). Held (place_of base (map (λ m. m.1) ms) (row_of rows (map (λ m. m.1) ms) a))) (sym first.2)
+    (held-by base (last_start first.0.1.start (map (λ m. m.1) first.1)) first.0.1.name (frames base first.0.1.start (map (λ m. m.1) first.1)) (rows first.0.1.unit a))
+
+-- the place by what holds an address
+unkeyed : (keys : List Key) (p : Place) (f : ℕ) (span : Option ℕ) → with_factor p f ≡ None → Held p → is_some span ≡ is_nameless p → (function : ℕ) → Tells keys p (place_by None (Some function) span)
+unkeyed keys outside f span none held same function = absurd held
+unkeyed keys nameless f None none held same function = absurd (cc)
+unkeyed keys nameless f (Some s) none held same function = refl
+unkeyed keys no_line f None none held same function = refl
+unkeyed keys no_line f (Some s) none held same function = absurd (cc)
+unkeyed keys (has_key key) f span none held same function = absurd (cc)
+
+pub tells : (rows : ℕ → ℕ → Option LineAndDisc) (base : Bool) (members : List Member) (keys : List Key) (parts : List Seg) (spans : List Span) (a : ℕ) (id : Option KeyId) (function : Option ℕ) → ArePartsOf rows base members keys parts spans
+    → segments.key_told parts a ≡ id → function_at members a ≡ function → Tells keys (place_at rows base members a) (place_by id function (owner_at spans a))
+tells rows base members keys parts spans a (Some id) function are is at =
+    let told = told-some keys parts a id are.given is in
+    let place = keyed (place_at rows base members a) (factor_at rows base members a) told.factor told.key (sym (are.tell a) ∙ told.both) in
+    subst (λ p. Tells keys p (place_by (Some id) function (owner_at spans a))) (sym place) (id, refl, told.number)
+tells rows base members keys parts spans a None None are is at =
+    subst (λ p. Tells keys p (place_by None None (owner_at spans a))) (sym (out-function rows base members a at)) refl
+tells rows base members keys parts spans a None (Some f) are is at =
+    unkeyed keys (place_at rows base members a) (factor_at rows base members a) (owner_at spans a) (sym (are.tell a) ∙ told-none keys parts a is) (in-function rows base members a f at) (are.unnamed a) f
+
+-- entrances
+entered : (a : ℕ) (member : Member) → name_if a (entrance_of member) ≡ (if is_entered_at a member.pieces then member.name else None)
+entered a member = by member.pieces member.name
+  where
+    same : (t : Bool) (x : Option NameId) → (if t then x else x) ≡ x
+    same true x = refl
+    same false x = refl
+
+    by : (pieces : List (ℕ × ℕ)) (name : Option NameId) → name_if a (elim pieces [ [] ↦ record { address = 0; name = None } | piece ∷ pieces ↦ record { address = piece.0; name = name } ]) ≡ (if is_entered_at a pieces then name else None)
+    by [] name = same (0 == a) None
+    by (piece ∷ pieces) name = refl
+
+-- a member that is found with its number stands there
+by_test : {P : Type 0} (t : Bool) → (t ≡ true → P) → (t ≡ false → P) → P
+by_test true when unless = when refl
+by_test false when unless = unless refl
+
+pub record IsAt (k : ℕ) (members : List Member) (q : ℕ × Member) : Type 0 where
+  pub place : ℕ
+  pub number : q.0 ≡ k + place
+  pub member : slice_get members place ≡ Some q.1
+
+found-at : (p : ℕ × Member → Bool) (k : ℕ) (members : List Member) (q : ℕ × Member) → find p (enumerate_from k members) ≡ Some q → IsAt k members q
+found-at p k [] q is = absurd (cc)
+found-at p k (m ∷ members) q is = by_test (p (k, m))
+    (λ hit.
+    let one : find p (enumerate_from k (m ∷ members)) ≡ Some (k, m) = rw hit refl in
+    let same = inner (k, m) q (sym one ∙ is) in record {
+      place = 0;
+      number = ap (λ (x : ℕ × Member). x.0) (sym same) ∙ let e : k ≡ k + 0 = omega arith in e;
+      member = ap (λ (x : ℕ × Member). Some x.1) same;
+    })
+    (λ miss.
+    let later : find p (enumerate_from k (m ∷ members)) ≡ find p (enumerate_from (k + 1) members) = rw miss refl in
+    let rest = found-at p (k + 1) members q (sym later ∙ is) in record {
+      place = suc rest.place;
+      number = omega (arith, rest.number);
+      member = rest.member;
+    })
+
+get-map : {X Y : Type 0} (f : X → Y) (xs : List X) (i : ℕ) → slice_get (map f xs) i ≡ option_map f (slice_get xs i)
+get-map f [] i = refl
+get-map f (x ∷ xs) zero = refl
+get-map f (x ∷ xs) (suc i) = get-map f xs i
+
+abbrev named_at : ℕ → List Entrance → Option ℕ → Option NameId
+named_at a entrances function = option_and_then (λ f. option_and_then (name_if a) (slice_get entrances f)) function
+
+entry-by : (members : List Member) (a : ℕ) (function : Option (ℕ × Member)) → function_of members a ≡ function
+    → named_at a (map entrance_of members) (option_map (λ f. f.0) function) ≡ option_and_then (λ f. if is_entered_at a f.1.pieces then f.1.name else None) function
+entry-by members a None is = refl
+entry-by members a (Some f) is =
+    let there = found-at (λ m. holds_at 0 a m.1) 0 members f is in
+    let number : f.0 ≡ there.place = omega (arith, there.number) in
+    ap (λ n. option_and_then (name_if a) (slice_get (map entrance_of members) n)) number
+    ∙ ap (option_and_then (name_if a)) (get-map entrance_of members there.place ∙ ap (option_map entrance_of) there.member)
+    ∙ entered a f.1
+
+pub entry : (members : List Member) (a : ℕ) (entrances : List Entrance) (function : Option ℕ) → entrances ≡ map entrance_of members → function ≡ function_at members a
+    → named_at a entrances function ≡ entry_name members a
+entry members a entrances function are is =
+    ap (λ es. named_at a es function) are ∙ ap (named_at a (map entrance_of members)) is ∙ entry-by members a (function_of members a) refl

@@ -1,0 +1,7 @@
+pub mod ChangeLemmas
+pub mod LargestLemmas
+pub mod PartLemmas
+pub mod StepLemmas
+pub mod SweepLemmas
+pub mod TestLemmas
+pub mod WalkLemmas

@@ -1,0 +1,14 @@
+//! What each branch and each sampled range is, told by any map of places.
+//!
+//! `classify` says of a branch whether it enters a function, stays inside the program or cannot be
+//! told of places, and why. `classify_range` says of a sampled range whether it ran.
+#![tactic(auto)]
+
+mod branch;
+mod range;
+#[cfg(test)]
+mod tests;
+
+pub use branch::classify;
+pub use class_model::{Class, RangeClass, Reason};
+pub use range::classify_range;

@@ -1,0 +1,3 @@
+pub mod AddLemmas
+mod Examples
+pub mod RangeLemmas

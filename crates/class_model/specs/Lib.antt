@@ -1,0 +1,3 @@
+pub mod Branches
+pub mod Laws
+pub mod Ranges

@@ -1,0 +1,3 @@
+mod Examples
+pub mod OrderLemmas
+pub mod OrderedLemmas

@@ -1,0 +1,26 @@
+// The whole profile.
+ghost use Rattle.std.specs.Prelude.{◌≡◌, ◌∷◌, unwrap_or};
+ghost use Rattle.std.specs.List.{slice_get};
+
+use crate::line::Line;
+use key_types::{Chain, KeyId};
+
+/// A profile: its lines in the order in which they are written, and the count of each key.
+#[derive(Debug, Drop)]
+pub struct Tree {
+    pub lines: Chain<Line>,
+    /// The count of each key, in the order of the keys' numbers.
+    pub counts: Chain<u64>,
+}
+
+impl Tree {
+    /// The count of a key: 0 for a key whose number is not below the number of counts.
+    pub fn count(&self, key: KeyId) -> u64
+        ensures { result ≡ unwrap_or (slice_get self.now.counts key.0) 0 }
+    {
+        match self.counts.as_slice().get(key.0 as usize) {
+            Some(count) => *count,
+            None => 0,
+        }
+    }
+}

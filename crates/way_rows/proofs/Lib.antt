@@ -1,0 +1,5 @@
+pub mod CmpLemmas
+pub mod FrontLemmas
+pub mod LoopLemmas
+pub mod OrderLemmas
+pub mod RowLemmas

@@ -1,0 +1,5 @@
+mod Examples
+pub mod ArcLemmas
+pub mod NetLemmas
+pub mod BalanceLemmas
+pub mod LimitLemmas

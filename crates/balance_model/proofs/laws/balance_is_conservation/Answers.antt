@@ -1,0 +1,5 @@
+use Rattle.balance_model.proofs.BalanceLemmas.{balance_is_conservation}
+use Rattle.balance_model.proofs.laws.balance_is_conservation.Goals as goal
+
+pub returns : goal.returns
+returns c = balance_is_conservation

@@ -1,0 +1,11 @@
+//! What it means, block by block, that counts of a function conserve within bounds.
+//!
+//! The network of a function puts its calls and returns on arcs of their own, so that all is one
+//! circulation. Here stands what a reader of counts sees instead: each block runs as often as it
+//! is entered and left. A law shows that both are the same. Another says within which limits each
+//! network of a function is.
+#![tactic(auto)]
+
+mod laws;
+
+pub use laws::{balance_is_conservation, nets_are_limited};

@@ -1,0 +1,4 @@
+pub mod PlaceLemmas
+pub mod FirstLemmas
+pub mod FitLemmas
+pub mod AcceptLemmas

@@ -1,0 +1,6 @@
+mod Examples
+pub mod RowLemmas
+pub mod PushLemmas
+pub mod NetLemmas
+pub mod CutLemmas
+pub mod CostLemmas

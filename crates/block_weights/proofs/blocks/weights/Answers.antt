@@ -1,0 +1,24 @@
+use Rattle.std.proofs.Common.{List, false, None, subst, ◌∙◌}
+use Rattle.std.specs.List.{AllZip}
+use Rattle.std.proofs.lemmas.List.{take_all, take_more}
+use Rattle.block_model.specs.declared.parts.Block.{Block}
+use Rattle.key_segments.specs.Segments.{key_told}
+use Rattle.weight_model.specs.Blocks.{IsWeightOf}
+use Rattle.block_weights.specs.Counts.{count_in}
+use Rattle.block_weights.proofs.WeightLemmas.{all_zip_push}
+use Rattle.block_weights.proofs.blocks.weights.Goals as goal
+
+-- what a place past the end of a slice reads as
+none : Block
+none = record { lo = 0; hi = 0; exit = false; bound = record { lower = 0; upper = None } }
+
+pub loop-block-preserved : goal.loop-block-preserved
+unfolding none
+loop-block-preserved c =
+    rw (c.in_ok-push.ensures.items, take_more c.as_slice-block-items.result.now c.loop-block.block-index none c.loop-block-test.true)
+    (all_zip_push (IsWeightOf (key_told c.args.segments.now) (count_in c.args.counts.now)) _ _ _ _ c.loop-block.invariant c.weight_of.ensures)
+
+pub returns : goal.returns
+returns c =
+    let all = take_all c.loop-block.block-index c.as_slice-block-items.result.now c.loop-block-test.false ∙ c.as_slice-block-items.ensures in
+    subst (λ (blocks : List Block). AllZip (IsWeightOf (key_told c.args.segments.now) (count_in c.args.counts.now)) blocks c.loop-block.made.items) all c.loop-block.invariant

@@ -1,0 +1,11 @@
+//! How often the blocks of a function were sampled, by the counts of the places in them.
+//!
+//! `weights` finds the segments that lie in each block by binary search.
+#![tactic(auto)]
+
+mod blocks;
+#[cfg(test)]
+mod tests;
+
+pub use block_model::Weight;
+pub use blocks::weights;

@@ -1,0 +1,3 @@
+pub mod PassingLemmas
+pub mod SumLemmas
+pub mod TakenLemmas

@@ -1,0 +1,9 @@
+use Rattle.std.proofs.Common.{◌≡◌, map, take}
+use Rattle.hit_model.specs.Steps.{hits_by}
+use Rattle.weight_model.specs.Edges.{taken, weight_by}
+use Rattle.edge_weights.proofs.edges.edge_weights.Given as goal
+
+abbrev pub invariant-loop-edge : goal.invariant-loop-edge
+invariant-loop-edge l =
+    l.made.items
+    ≡ map (weight_by (taken l.samples.branches) (hits_by l.samples.passing) l.fun.blocks l.weights) (take l.edge-index l.edge-items)

@@ -1,5 +1,5 @@
 // Names and their numbers.
-ghost use Rattle.std.specs.Prelude.{◌≡◌, ◌<◌, ◌≤◌, ◌^◌, ◌+◌, ◌-◌, [], length, slice_get, take, IfOk, OnErr, OnOk, IsOk, Some};
+ghost use Rattle.std.specs.Prelude.{◌≡◌, ◌<◌, ◌≤◌, ◌^◌, ◌+◌, ◌-◌, [], length, slice_get, take, IfOk, OnErr, OnOk, IsOk, Some, IsTrue, ◌↔◌};
 ghost use Rattle.key_types.specs.Numbers.{Adds, IsNumbered};
 
 use crate::ids::NameId;
@@ -19,14 +19,15 @@ pub struct Names<'a> {
 // Clauses see the list of the names, each at its number. Without names there is
 // room for a first one.
 impl<'a> Model for Names<'a> {
-    ghost use Rattle.std.specs.Prelude.{◌≡◌, ◌<◌, ℕ, List, length, map};
+    ghost use Rattle.std.specs.Prelude.{◌≡◌, ◌<◌, ◌^◌, ℕ, List, length, map};
     ghost use Rattle.indexmap.specs.IndexSet.{spare};
 
     ghost Value = { List (List ℕ) };
 
     ghost view = { λ a. map (λ name. name.now) a.names.keys };
 
-    ghost invariant = { λ a. length a.names.keys ≡ 0 → 0 < spare a.names };
+    ghost invariant = { λ a. (length a.names.keys < 2 ^ 32)
+        × (length a.names.keys ≡ 0 → 0 < spare a.names) };
 }
 
 impl<'a> Names<'a> {
@@ -63,5 +64,19 @@ impl<'a> Names<'a> {
         ensures { slice_get self.now id.0 ≡ Some result.now }
     {
         self.names.as_slice()[id.0 as usize]
+    }
+
+    /// How many names have a number.
+    pub fn len(&self) -> u32
+        ensures { result ≡ length self.now }
+    {
+        self.names.len() as u32
+    }
+
+    /// Whether no name has a number.
+    pub fn is_empty(&self) -> bool
+        ensures { IsTrue result ↔ (self.now ≡ []) }
+    {
+        self.names.is_empty()
     }
 }

@@ -1,6 +1,7 @@
 -- The ranges of addresses that hold code.
-use Rattle.std.specs.Prelude.{ℕ, ◌+◌, Bool, ◌&&◌, ◌==◌, nat_lt, nat_le, List, IsTrue}
+use Rattle.std.specs.Prelude.{ℕ, ◌+◌, Bool, ◌&&◌, ◌==◌, nat_lt, nat_le, List, filter, map, IsTrue}
 use Rattle.std.specs.List.{list_any}
+use Rattle.load_model.specs.declared.load_segment.LoadSegment.{LoadSegment}
 use Rattle.elf_model.specs.Fields.{has_flag}
 use Rattle.elf_model.specs.Tables.{ProgramHeader, program_headers}
 
@@ -20,3 +21,11 @@ is_live file lo hi =
 -- The same as a fact.
 abbrev pub IsLive : List ℕ → ℕ → ℕ → Type 0
 IsLive file lo hi = IsTrue (is_live file lo hi)
+
+-- How a segment is loaded.
+abbrev pub load_of : ProgramHeader → LoadSegment
+load_of segment = record { offset = segment.p_offset; vaddr = segment.p_vaddr; size = segment.p_memsz }
+
+-- The segments of code as they are loaded, in the order of their headers.
+unfoldable pub code_loads : List ℕ → List LoadSegment
+code_loads file = map load_of (filter is_code (program_headers file))

@@ -16,6 +16,7 @@ pub record SectionHeader : Type 0 where
 pub record ProgramHeader : Type 0 where
   pub p_type : ℕ
   pub p_flags : ℕ
+  pub p_offset : ℕ
   pub p_vaddr : ℕ
   pub p_memsz : ℕ
 
@@ -36,6 +37,7 @@ abbrev pub program_header_at : List ℕ → ℕ → ProgramHeader
 program_header_at file at = record {
   p_type = number_at file at 4;
   p_flags = number_at file (at + 4) 4;
+  p_offset = number_at file (at + 8) 8;
   p_vaddr = number_at file (at + 16) 8;
   p_memsz = number_at file (at + 40) 8;
 }

@@ -10,6 +10,7 @@ use crate::program_header::{ProgramHeader, judge_program_headers};
 use crate::section_header::SectionHeader;
 use crate::section_table::SectionTable;
 use byte_view::Part;
+use load_model::LoadSegment;
 use refusal::{Kind, Place, refuse_if};
 use std::marker::Model;
 
@@ -62,12 +63,12 @@ pub fn read(file: &[u8]) -> Result<Elf<'_>, Place>
 }
 
 impl<'a> Elf<'a> {
-    ghost use Rattle.std.specs.Prelude.{◌≡◌, ◌&&◌, None, IfSome};
+    ghost use Rattle.std.specs.Prelude.{◌≡◌, ◌&&◌, None, IfSome, slice_get};
     ghost use Rattle.std.specs.List.{list_any};
     ghost use Rattle.refusal.specs.Place.{Judges};
     ghost use Rattle.elf_model.specs.Tables.{program_headers};
     ghost use Rattle.elf_model.specs.Sections.{section};
-    ghost use Rattle.elf_model.specs.Segments.{is_code, holds, is_live};
+    ghost use Rattle.elf_model.specs.Segments.{is_code, holds, is_live, code_loads};
     ghost use Rattle.elf_model.specs.Items.{extent_item, lookup_item};
     ghost use Rattle.elf_sections.specs.Found.{Finds};
 
@@ -100,6 +101,26 @@ impl<'a> Elf<'a> {
         ensures { result ≡ is_live self.now lo hi }
     {
         0 < lo && lo < hi && self.has_code(lo, hi)
+    }
+
+    /// The loaded executable segment of a number, counted from 0 in the order of the headers, where
+    /// there is one.
+    ///
+    /// Source: System V gABI, "Program Header".
+    #[tactic(auto, unfolding(elf_model::specs::Segments::code_loads))]
+    pub fn load(&self, index: usize) -> Option<LoadSegment>
+        ensures { result ≡ slice_get (code_loads self.now) index }
+    {
+        let mut before = index;
+        for segment in self.segments.iter() {
+            if segment.is_code() {
+                if before == 0 {
+                    return Some(segment.load());
+                }
+                before -= 1;
+            }
+        }
+        None
     }
 
     /// Whether one loaded executable segment holds the addresses from `lo` up to `hi`.

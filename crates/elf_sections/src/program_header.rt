@@ -6,6 +6,7 @@ ghost use Rattle.elf_model.specs.Items.{program_table_items};
 use crate::entries::{Entries, Entry};
 use crate::fields::{passes_end, u32_at, u64_at};
 use crate::file_header::{E_PHENTSIZE, E_PHNUM, E_PHOFF, FileHeader};
+use load_model::LoadSegment;
 use refusal::{Kind, Place, refuse_if};
 use std::marker::Model;
 
@@ -21,6 +22,8 @@ const PF_X: u32 = 1;
 pub(crate) struct ProgramHeader {
     pub kind: u32,
     pub flags: u32,
+    /// Where the segment begins in the file.
+    pub offset: u64,
     /// The first address.
     pub address: u64,
     /// How many bytes the segment has in memory.
@@ -35,6 +38,7 @@ impl Model for ProgramHeader {
     ghost view = { λ h. record {
       p_type = h.kind;
       p_flags = h.flags;
+      p_offset = h.offset;
       p_vaddr = h.address;
       p_memsz = h.size;
     } };
@@ -53,6 +57,7 @@ impl Entry for ProgramHeader {
         ProgramHeader {
             kind: u32_at(file, at),
             flags: u32_at(file, at + 4),
+            offset: u64_at(file, at + 8),
             address: u64_at(file, at + 16),
             size: u64_at(file, at + 40),
         }
@@ -60,7 +65,7 @@ impl Entry for ProgramHeader {
 }
 
 impl ProgramHeader {
-    ghost use Rattle.elf_model.specs.Segments.{is_code, holds};
+    ghost use Rattle.elf_model.specs.Segments.{is_code, holds, load_of};
 
     /// Whether the segment is loaded and may be executed.
     pub fn is_code(&self) -> bool
@@ -74,6 +79,17 @@ impl ProgramHeader {
         ensures { result ≡ holds lo hi self.now }
     {
         self.address <= lo && u128::from(hi) <= u128::from(self.address) + u128::from(self.size)
+    }
+
+    /// How the segment is loaded.
+    pub fn load(&self) -> LoadSegment
+        ensures { result ≡ load_of self.now }
+    {
+        LoadSegment {
+            offset: self.offset,
+            vaddr: self.address,
+            size: self.size,
+        }
     }
 }
 

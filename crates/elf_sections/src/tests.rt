@@ -3,6 +3,7 @@ mod small_file;
 
 use crate::{Elf, read};
 use byte_view::Part;
+use load_model::LoadSegment;
 use refusal::{Kind, Place};
 use small_file::SMALL_FILE;
 use std::alloc::{AllocError, Global};
@@ -194,5 +195,49 @@ fn knows_the_ranges_of_code(rt: HostRuntime) -> Result<(), Fail> {
         let runs = read(&file).map(|elf| elf.runs(lo, hi));
         assert_eq!(rt; runs, Ok(expected), "{lo} up to {hi}, {changes:?}");
     }
+    Ok(())
+}
+
+#[test]
+fn numbers_the_segments_of_code(rt: HostRuntime) -> Result<(), Fail> {
+    let load = |offset, vaddr, size| {
+        Some(LoadSegment {
+            offset,
+            vaddr,
+            size,
+        })
+    };
+    // A second header of 56 bytes, at the first section's bytes; its fields stand at 120, 124, 128,
+    // 136 and 160, and its size in the file at 152.
+    let two: Changes = &[
+        (56, &[2]),
+        (120, &[1, 0, 0, 0, 5, 0, 0, 0, 0, 0x20, 0, 0, 0, 0, 0, 0]),
+        (136, &[0x40, 0x30, 0x40, 0, 0, 0, 0, 0]),
+        (152, &[9, 0, 0, 0, 0, 0, 0, 0, 0x80, 1, 0, 0, 0, 0, 0, 0]),
+    ];
+    let small = load(0x1000, 0x401000, 0x40);
+    let second = load(0x2000, 0x403040, 0x180);
+    let cases: [(Changes, usize, Option<LoadSegment>); 8] = [
+        (&[], 0, load(0, 0x401000, 0x40)),
+        (&[(73, &[0x10])], 0, small),
+        (&[], 1, None),
+        (&[], usize::MAX, None),
+        (two, 1, second),
+        (two, 2, None),
+        // Without the flag of execution; of another type.
+        (&[(68, &[6])], 0, None),
+        (&[(64, &[2])], 0, None),
+    ];
+    for (changes, index, expected) in cases {
+        let file = changed(rt.alloc(), 655, changes)?;
+        let found = read(&file).map(|elf| elf.load(index));
+        assert_eq!(rt; found, Ok(expected), "{index}, {changes:?}");
+    }
+    let mut not_first = changed(rt.alloc(), 655, two)?;
+    if let Some(flags) = not_first.get_mut(68) {
+        *flags = 4;
+    }
+    let found = read(&not_first).map(|elf| (elf.load(0), elf.load(1)));
+    assert_eq!(rt; found, Ok((second, None)));
     Ok(())
 }

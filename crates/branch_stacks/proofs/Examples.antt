@@ -1,7 +1,7 @@
 -- The definitions on worked values.
 use Rattle.std.proofs.Common.{◌≡◌, ℕ, true, List, [], ◌∷◌, Some, None, refl, arith}
 use Rattle.refusal.specs.declared.kind.Kind.TheVariants.{TooManyBranches}
-use Rattle.branch_stacks.specs.declared.pair.Pair.{Pair}
+use Rattle.sample_model.specs.declared.pair.Pair.{Pair}
 use Rattle.branch_stacks.specs.Line.{cause_of_total}
 use Rattle.branch_stacks.specs.Table.{times_in, total_in, IsTable}
 use Rattle.branch_stacks.specs.Tally.{total_of}

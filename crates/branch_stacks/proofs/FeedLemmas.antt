@@ -6,7 +6,7 @@ use Rattle.std.specs.Option.{option_or}
 use Rattle.std.specs.Result.{result_err}
 use Rattle.std.proofs.lemmas.Bool.{lt-ltb}
 use Rattle.std.proofs.lemmas.Bool.Decides.{nat_tests}
-use Rattle.std.proofs.lemmas.List.{append-nil, length-append, length-take, take_all, take_min}
+use Rattle.std.proofs.lemmas.List.{append-nil, length-take, take_all, take_min}
 use Rattle.refusal.specs.declared.kind.Kind.TheVariants.{FileTooLarge}
 use Rattle.refusal.specs.declared.place.Place.{Place}
 use Rattle.refusal.specs.declared.place.Stop.{Stop}
@@ -18,13 +18,14 @@ use Rattle.text_model.specs.Laws.{ended}
 use Rattle.text_model.specs.Lines.{lines_of, ended_lines_of}
 use Rattle.sample_model.specs.Judging.{items_of_lines, first_bad_of_lines, first_bad_of_piece, first_bad_of_text, judged_lines_of, lines_before_bad, lines_ended_by}
 use Rattle.sample_model.specs.Limits.{max_line_bytes, max_text_bytes}
-use Rattle.sample_model.specs.Line.{branches_of_line}
-use Rattle.sample_model.proofs.JudgingLemmas.{next_item, bad_places_stay, first_bad_of_lines-good, first_bad_of_piece-within, first_bad_of_text-within, judged_lines_of-cut, judged_lines_of-whole, lines_before_bad-all, lines_before_bad-more, lines_before_bad-some, lines_of-ended_first}
-use Rattle.branch_stacks.specs.Reader.{Reading, HasRead, new_reading, held_of, room_of, ended_text, Feeds, Finishes, ReadsMore}
-use Rattle.branch_stacks.specs.Tally.{Tally, AddsStack, TellsOf}
-use Rattle.branch_stacks.specs.Text.{item_of_counted, TellsLinesBefore}
-use Rattle.branch_stacks.proofs.ReaderLemmas.{HasRead-like, held_whole, item_is, line_stop, text_ended}
-use Rattle.branch_stacks.proofs.TextLemmas.{TellsOf-more}
+use Rattle.sample_model.specs.Moves.{LoadMap}
+use Rattle.sample_model.proofs.JudgingLemmas.{next_item, bad_places_stay, first_bad_of_piece-within, first_bad_of_text-within, judged_lines_of-cut, judged_lines_of-whole, lines_before_bad-all, lines_before_bad-more, lines_before_bad-some, lines_of-ended_first}
+use Rattle.branch_stacks.specs.Loads.{AddsLine}
+use Rattle.branch_stacks.specs.Reader.{Reading, HasRead, behind_line, new_reading, new_reading_by, held_of, room_of, ended_text, Feeds, Finishes, ReadsMore}
+use Rattle.branch_stacks.specs.Tally.{Tally, Tells, TellsOf}
+use Rattle.branch_stacks.specs.Text.{item_of_counted, TellsBefore, TellsLinesBefore}
+use Rattle.branch_stacks.proofs.ReaderLemmas.{HasRead-ended, HasRead-sized, item_is, line_stop, text_ended}
+use Rattle.branch_stacks.proofs.TextLemmas.{Tells-nothing}
 
 -- ---- a piece
 
@@ -48,67 +49,68 @@ judged_small size limit other place same small = let is = holds_not (nat_lt limi
     holds_not true place good = absurd cc
     holds_not false place good = refl
 
+-- how many bytes there were does not count
+ReadsMore-sized : (mid old new : Reading) (before after : Tally) (part : List ℕ) (result : Result (Unit {0}) Stop) → record mid { size = 0 } ≡ record old { size = 0 }
+    → ReadsMore mid before part result new after → ReadsMore (record old { size = 0 }) before part result new after
+ReadsMore-sized mid old new before after part result same reads =
+    subst (λ (r : Reading). ReadsMore r before part result new after) same
+    (λ text has. reads text (HasRead-sized text (record mid { size = 0 }) before mid.size mid.stop has has.goes_on))
+
 -- the lines of the part within the limit stop the reading,
-pub Feeds-stop : (old mid new : Reading) (before after : Tally) (piece part : List ℕ) (stop : Stop) → mid.file ≡ old.file → mid.ended_lines ≡ old.ended_lines → mid.held ≡ old.held → mid.stop ≡ old.stop → part ≡ take (room_of old) piece
+pub Feeds-stop : (mid old new : Reading) (before after : Tally) (piece part : List ℕ) (stop : Stop) → record mid { size = 0 } ≡ record old { size = 0 } → part ≡ take (room_of old) piece
     → ReadsMore mid before part (Err stop) new after → Feeds old before piece (Err stop) new after
-Feeds-stop old mid new before after piece part (Refused place) file ended_lines held goes_on is reads text has =
-    let read = reads text (HasRead-like text old mid before has file ended_lines held (goes_on ∙ has.goes_on)) in
-    let size = fails_at (nat_lt (room_of old) (length piece)) (record { file = old.file; at = max_text_bytes; kind = FileTooLarge }) ∷ [] in
+Feeds-stop mid old new before after piece part (Refused place) like is reads text has =
+    let read = ReadsMore-sized mid old new before after part (Err (Refused place)) like reads text (HasRead-sized text old before 0 old.stop has has.goes_on) in
+    let large = fails_at (nat_lt (room_of old) (length piece)) (record { file = old.file; at = max_text_bytes; kind = FileTooLarge }) ∷ [] in
     let lines : ended_lines_of (text ++ part) ≡ lines_ended_by text (room_of old) piece = ap (λ (t : List ℕ). ended_lines_of (text ++ t)) is in
-    let bad : first_bad_of_lines old.file (lines_ended_by text (room_of old) piece) ≡ Some place =
-    ap (first_bad_of_lines old.file) (sym lines) ∙ ap (λ (n : ℕ). first_bad_of_lines n (ended_lines_of (text ++ part))) (sym file) ∙ read.0 in (
-      first_bad-append (items_of_lines old.file (lines_ended_by text (room_of old) piece)) size ∙ ap (λ (o : Option Place). option_or o (first_bad size)) bad,
-      subst (λ (n : ℕ). TellsLinesBefore {T = Unit {0}} n (lines_ended_by text (room_of old) piece) (Err (Refused place)) after) file
-          (subst (λ (ls : List (List ℕ)). TellsLinesBefore {T = Unit {0}} mid.file ls (Err (Refused place)) after) lines read.1),
+    let bad : first_bad_of_lines old.file (lines_ended_by text (room_of old) piece) ≡ Some place = ap (first_bad_of_lines old.file) (sym lines) ∙ read.0 in (
+      first_bad-append (items_of_lines old.file (lines_ended_by text (room_of old) piece)) large ∙ ap (λ (o : Option Place). option_or o (first_bad large)) bad,
+      subst (λ (ls : List (List ℕ)). TellsBefore {T = Unit {0}} old.loading old.file ls (Err (Refused place)) after) lines read.1,
     )
-Feeds-stop old mid new before after piece part NoMemory file ended_lines held goes_on is reads text has =
-    let read = reads text (HasRead-like text old mid before has file ended_lines held (goes_on ∙ has.goes_on)) in
-    let lines : ended_lines_of (text ++ part) ≡ lines_ended_by text (room_of old) piece = ap (λ (t : List ℕ). ended_lines_of (text ++ t)) is in (
-      tt,
-      subst (λ (n : ℕ). TellsLinesBefore {T = Unit {0}} n (lines_ended_by text (room_of old) piece) (Err NoMemory) after) file
-          (subst (λ (ls : List (List ℕ)). TellsLinesBefore {T = Unit {0}} mid.file ls (Err NoMemory) after) lines read.1),
-    )
+Feeds-stop mid old new before after piece part NoMemory like is reads text has =
+    let read = ReadsMore-sized mid old new before after part (Err NoMemory) like reads text (HasRead-sized text old before 0 old.stop has has.goes_on) in
+    let lines : ended_lines_of (text ++ part) ≡ lines_ended_by text (room_of old) piece = ap (λ (t : List ℕ). ended_lines_of (text ++ t)) is in
+    (tt, subst (λ (ls : List (List ℕ)). TellsBefore {T = Unit {0}} old.loading old.file ls (Err NoMemory) after) lines read.1)
 
 -- or its size does,
-pub Feeds-large : (old mid new : Reading) (before after : Tally) (piece part : List ℕ) (place : Place) → mid.file ≡ old.file → mid.ended_lines ≡ old.ended_lines → mid.held ≡ old.held → mid.stop ≡ old.stop → part ≡ take (room_of old) piece
-    → ReadsMore mid before part (Ok tt) new after
+pub Feeds-large : (mid old new : Reading) (before after : Tally) (piece part : List ℕ) (place : Place) → record mid { size = 0 } ≡ record old { size = 0 } → part ≡ take (room_of old) piece
+    → ReadsMore mid before part (Ok tt) new after → new.loading ≡ old.loading
     → fails_at (nat_lt (room_of old) (length piece)) (record { file = old.file; at = max_text_bytes; kind = FileTooLarge }) ≡ Some place → Feeds old before piece (Err (Refused place)) new after
-Feeds-large old mid new before after piece part place file ended_lines held goes_on is reads large text has =
-    let read = reads text (HasRead-like text old mid before has file ended_lines held (goes_on ∙ has.goes_on)) in
-    let size = fails_at (nat_lt (room_of old) (length piece)) (record { file = old.file; at = max_text_bytes; kind = FileTooLarge }) ∷ [] in
+Feeds-large mid old new before after piece part place like is reads same too_large text has =
+    let read = ReadsMore-sized mid old new before after part (Ok tt) like reads text (HasRead-sized text old before 0 old.stop has has.goes_on) in
+    let large = fails_at (nat_lt (room_of old) (length piece)) (record { file = old.file; at = max_text_bytes; kind = FileTooLarge }) ∷ [] in
     let lines : ended_lines_of (text ++ part) ≡ lines_ended_by text (room_of old) piece = ap (λ (t : List ℕ). ended_lines_of (text ++ t)) is in
-    let good : first_bad_of_lines old.file (lines_ended_by text (room_of old) piece) ≡ None =
-    ap (first_bad_of_lines old.file) (sym lines) ∙ ap (λ (n : ℕ). first_bad_of_lines n (ended_lines_of (text ++ part))) (sym file) ∙ read.0.0 in (
-      first_bad-append (items_of_lines old.file (lines_ended_by text (room_of old) piece)) size ∙ ap (λ (o : Option Place). option_or o (first_bad size)) good ∙ ap (λ (o : Option Place). first_bad (o ∷ [])) large,
-      subst (λ (ls : List (List ℕ)). TellsOf ls after) (lines ∙ sym (lines_before_bad-all old.file (lines_ended_by text (room_of old) piece) good)) read.0.1.tells,
+    let good : first_bad_of_lines old.file (lines_ended_by text (room_of old) piece) ≡ None = ap (first_bad_of_lines old.file) (sym lines) ∙ read.0.0 in (
+      first_bad-append (items_of_lines old.file (lines_ended_by text (room_of old) piece)) large ∙ ap (λ (o : Option Place). option_or o (first_bad large)) good ∙ ap (λ (o : Option Place). first_bad (o ∷ [])) too_large,
+      subst (λ (ls : List (List ℕ)). Tells old.loading ls after) (lines ∙ sym (lines_before_bad-all old.file (lines_ended_by text (room_of old) piece) good))
+          (subst (λ (l : Option LoadMap). Tells l (ended_lines_of (text ++ part)) after) same read.0.1.tells),
     )
 
 -- or all of it was read.
-pub Feeds-whole : (old mid new : Reading) (before after : Tally) (piece part : List ℕ) → mid.file ≡ old.file → mid.ended_lines ≡ old.ended_lines → mid.held ≡ old.held → mid.stop ≡ old.stop → part ≡ take (room_of old) piece
+pub Feeds-whole : (mid old new : Reading) (before after : Tally) (piece part : List ℕ) → record mid { size = 0 } ≡ record old { size = 0 } → part ≡ take (room_of old) piece
     → ReadsMore mid before part (Ok tt) new after → length piece ≤ room_of old → Feeds old before piece (Ok tt) new after
-Feeds-whole old mid new before after piece part file ended_lines held goes_on is reads within text has =
-    let read = reads text (HasRead-like text old mid before has file ended_lines held (goes_on ∙ has.goes_on)) in
+Feeds-whole mid old new before after piece part like is reads within text has =
+    let read = ReadsMore-sized mid old new before after part (Ok tt) like reads text (HasRead-sized text old before 0 old.stop has has.goes_on) in
     let whole : part ≡ piece = is ∙ take_all (room_of old) piece within in
-    let good : first_bad_of_lines old.file (ended_lines_of (text ++ piece)) ≡ None =
-    ap (λ (t : List ℕ). first_bad_of_lines old.file (ended_lines_of (text ++ t))) (sym whole) ∙ ap (λ (n : ℕ). first_bad_of_lines n (ended_lines_of (text ++ part))) (sym file) ∙ read.0.0 in (
+    let good : first_bad_of_lines old.file (ended_lines_of (text ++ piece)) ≡ None = ap (λ (t : List ℕ). first_bad_of_lines old.file (ended_lines_of (text ++ t))) (sym whole) ∙ read.0.0 in (
       (first_bad_of_piece-within old.file text (room_of old) piece within ∙ good, subst (λ (t : List ℕ). HasRead (text ++ t) new after) whole read.0.1),
       tt,
     )
 
 -- the answer is kept where it stops the reading
-pub Feeds-kept : (old new kept : Reading) (before after : Tally) (piece : List ℕ) (result : Result (Unit {0}) Stop) → kept.file ≡ new.file → kept.ended_lines ≡ new.ended_lines → kept.held ≡ new.held → kept.stop ≡ result_err result
+pub Feeds-kept : (old new kept : Reading) (before after : Tally) (piece : List ℕ) (result : Result (Unit {0}) Stop) → kept ≡ record new { stop = result_err result }
     → Feeds old before piece result new after → Feeds old before piece result kept after
-Feeds-kept old new kept before after piece (Ok done) file ended_lines held stop feeds text has =
-    let read = feeds text has in ((read.0.0, HasRead-like (text ++ piece) new kept after read.0.1 file ended_lines held stop), tt)
-Feeds-kept old new kept before after piece (Err (Refused place)) file ended_lines held stop feeds text has = feeds text has
-Feeds-kept old new kept before after piece (Err NoMemory) file ended_lines held stop feeds text has = feeds text has
+Feeds-kept old new kept before after piece (Ok done) is feeds text has =
+    let read = feeds text has in ((read.0.0, rw is (HasRead-sized (text ++ piece) new after new.size None read.0.1 refl)), tt)
+Feeds-kept old new kept before after piece (Err (Refused place)) is feeds text has = feeds text has
+Feeds-kept old new kept before after piece (Err NoMemory) is feeds text has = feeds text has
 
-pub Finishes-kept : (old new kept : Reading) (before after : Tally) (result : Result (Unit {0}) Stop) → kept.file ≡ new.file → kept.ended_lines ≡ new.ended_lines → kept.held ≡ new.held → kept.stop ≡ result_err result
+pub Finishes-kept : (old new kept : Reading) (before after : Tally) (result : Result (Unit {0}) Stop) → kept ≡ record new { stop = result_err result }
     → Finishes old before result new after → Finishes old before result kept after
-Finishes-kept old new kept before after (Ok done) file ended_lines held stop finishes text has =
-    let read = finishes text has in ((read.0.0, (read.0.1.0, HasRead-like (ended_text text) new kept after read.0.1.1 file ended_lines held stop)), tt)
-Finishes-kept old new kept before after (Err (Refused place)) file ended_lines held stop finishes text has = finishes text has
-Finishes-kept old new kept before after (Err NoMemory) file ended_lines held stop finishes text has = finishes text has
+Finishes-kept old new kept before after (Ok done) is finishes text has =
+    let read = finishes text has in ((read.0.0, (read.0.1.0, rw is (HasRead-sized (ended_text text) new after new.size None read.0.1.1 refl))), tt)
+Finishes-kept old new kept before after (Err (Refused place)) is finishes text has = finishes text has
+Finishes-kept old new kept before after (Err NoMemory) is finishes text has = finishes text has
 
 -- ---- the end of a text
 
@@ -128,7 +130,7 @@ Finishes-closed reader tally none text has =
     has.split.joined ∙ ap (λ (t : List ℕ). flat_map ended (ended_lines_of text) ++ t) empty ∙ append-nil (flat_map ended (ended_lines_of text)) ∙ ap (flat_map ended) (sym lines) in (
       (
         ap (first_bad_of_lines reader.file) lines ∙ has.good,
-        (subst (λ (ls : List (List ℕ)). TellsOf ls tally) (sym lines) has.tells, subst (λ (t : List ℕ). HasRead t reader tally) same has),
+        (subst (λ (ls : List (List ℕ)). Tells reader.loading ls tally) (sym lines) has.tells, subst (λ (t : List ℕ). HasRead t reader tally) same has),
       ),
       tt,
     )
@@ -149,46 +151,56 @@ held_item text reader tally has =
 -- or the open line is judged and counted.
 pub Finishes-line : (old new : Reading) (before after : Tally) (result : Result (Unit {0}) Stop) → 0 < length old.held
     → JudgesUnlessNoMemory (item_of_counted old.file before (old.ended_lines + 1) old.held) result
-    (λ _. AddsStack before after (branches_of_line old.held) × (new ≡ record old { ended_lines = old.ended_lines + 1; held = [] }))
+    (λ _. AddsLine old.loading old.met before after old.held × (new ≡ behind_line old old.held))
     → OnErr result (after ≡ before) → Finishes old before result new after
 Finishes-line old new before after (Ok done) some judged same text has =
     let lines = last_line text old before has some in
-    let item : next_item old.file (ended_lines_of text) has.rest ≡ None = sym (held_item text old before has) ∙ judged.0 in
-    let whole : old.held ≡ has.rest = held_whole text [] old before has (ap (next_item old.file (ended_lines_of text)) (append-nil has.rest) ∙ item) in
-    let good : first_bad_of_lines old.file (lines_of text) ≡ None = ap (first_bad_of_lines old.file) lines ∙ first_bad_of_lines-good old.file (ended_lines_of text) has.rest has.good item in
-    let tells : TellsOf (lines_of text) after =
-    subst (λ (ls : List (List ℕ)). TellsOf ls after) (sym lines) (TellsOf-more (ended_lines_of text) has.rest before after has.tells (subst (λ (l : List ℕ). AddsStack before after (branches_of_line l)) whole judged.1.0)) in
     let parts = text_ended text has.rest has.split in
-    let read : HasRead (ended_text text) (record old { ended_lines = old.ended_lines + 1; held = [] }) after = record {
-      rest = [];
-      split = parts.1;
-      goes_on = has.goes_on;
-      numbered = ap (λ (n : ℕ). n + 1) has.numbered ∙ sym (length-append (ended_lines_of text) (has.rest ∷ [])) ∙ ap (λ (ls : List (List ℕ)). length ls) (sym lines ∙ sym parts.0);
-      held = refl;
-      good = ap (first_bad_of_lines old.file) parts.0 ∙ good;
-      tells = subst (λ (ls : List (List ℕ)). TellsOf ls after) (sym parts.0) tells;
-    } in
-    ((good, (tells, subst (λ (r : Reading). HasRead (ended_text text) r after) (sym judged.1.1) read)), tt)
+    let held : old.held ≡ old.held ++ [] = sym (append-nil old.held) in
+    let ended_is : ended_lines_of (ended_text text) ≡ ended_lines_of text ++ (has.rest ++ []) ∷ [] =
+    parts.0 ∙ lines ∙ ap (λ (l : List ℕ). ended_lines_of text ++ l ∷ []) (sym (append-nil has.rest)) in
+    let read : HasRead (ended_text text) new after = HasRead-ended text [] (ended_text text) old new before after has parts.1 ended_is
+    (ap (item_of_counted old.file before (old.ended_lines + 1)) (append-nil old.held) ∙ judged.0)
+    (subst (λ (l : List ℕ). AddsLine old.loading old.met before after l) held judged.1.0) (judged.1.1 ∙ ap (behind_line old) held) in
+    let good : first_bad_of_lines old.file (lines_of text) ≡ None =
+    ap (first_bad_of_lines old.file) (sym parts.0) ∙ ap (λ (r : Reading). first_bad_of_lines r.file (ended_lines_of (ended_text text))) (sym judged.1.1) ∙ read.good in
+    let tells : Tells old.loading (lines_of text) after =
+    subst (λ (r : Reading). Tells r.loading (lines_of text) after) judged.1.1 (subst (λ (ls : List (List ℕ)). Tells new.loading ls after) parts.0 read.tells) in
+    ((good, (tells, read)), tt)
 Finishes-line old new before after (Err stop) some judged same text has =
     let lines = last_line text old before has some in
-    let P : Unit {0} → Type 0 = λ _. AddsStack before after (branches_of_line old.held) × (new ≡ record old { ended_lines = old.ended_lines + 1; held = [] }) in
+    let P : Unit {0} → Type 0 = λ _. AddsLine old.loading old.met before after old.held × (new ≡ behind_line old old.held) in
     let item : JudgesUnlessNoMemory {T = Unit {0}} (next_item old.file (ended_lines_of text) has.rest) (Err stop) P =
     subst (λ (o : Option Place). JudgesUnlessNoMemory {T = Unit {0}} o (Err stop) P) (held_item text old before has) judged in
-    line_stop old.file (ended_lines_of text) [] (lines_of text) has.rest before after stop P (λ _. TellsOf (lines_of text) after × HasRead (ended_text text) new after) has.good has.tells lines same item
+    line_stop old.loading old.file (ended_lines_of text) [] (lines_of text) has.rest before after stop P (λ _. Tells old.loading (lines_of text) after × HasRead (ended_text text) new after) has.good has.tells lines same item
 
 -- ---- a text as one piece
 
-pub HasRead-nothing : (file : ℕ) (tally : Tally) → TellsOf [] tally → HasRead [] (new_reading file) tally
+pub HasRead-start : (loading : Option LoadMap) (file : ℕ) (tally : Tally) → TellsOf [] tally → HasRead [] (new_reading_by loading file) tally
 unfolding lines_of ended_lines_of items_of_lines
-HasRead-nothing file tally tells = record {
+HasRead-start None file tally tells = record {
   rest = [];
   split = record { clean = tt; open_end = refl; joined = refl; all = refl };
   goes_on = refl;
   numbered = refl;
+  met = refl;
   held = refl;
   good = refl;
   tells = tells;
 }
+HasRead-start (Some loading) file tally tells = record {
+  rest = [];
+  split = record { clean = tt; open_end = refl; joined = refl; all = refl };
+  goes_on = refl;
+  numbered = refl;
+  met = refl;
+  held = refl;
+  good = refl;
+  tells = Tells-nothing (Some loading) tally tells;
+}
+
+pub HasRead-nothing : (file : ℕ) (tally : Tally) → TellsOf [] tally → HasRead [] (new_reading file) tally
+HasRead-nothing file tally tells = HasRead-start None file tally tells
 
 -- a text that was fed whole stops where it stops
 judged_first : (text : List ℕ) → (later : List (List ℕ)) × (judged_lines_of text ≡ lines_ended_by [] max_text_bytes text ++ later) × (max_text_bytes < length text → later ≡ [])
@@ -234,28 +246,29 @@ fed_first file text new before after NoMemory P tells feeds =
     (tt, (some.0, subst (λ (ls : List (List ℕ)). TellsOf ls after) (sym (ap (λ (ls : List (List ℕ)). take some.0 (lines_before_bad file ls)) lines ∙ some.1)) read.1.1))
 
 -- or where its end does,
-finished_last : (file : ℕ) (text : List ℕ) (fed new : Reading) (before between after : Tally) (result : Result (Unit {0}) Stop) → TellsOf [] before → Feeds (new_reading file) before text (Ok tt) fed between → fed.file ≡ file → length text ≤ max_text_bytes
+finished_last : (file : ℕ) (text : List ℕ) (fed new : Reading) (before between after : Tally) (result : Result (Unit {0}) Stop) → TellsOf [] before → Feeds (new_reading file) before text (Ok tt) fed between → fed.file ≡ file → fed.loading ≡ None → length text ≤ max_text_bytes
     → Finishes fed between result new after
     → JudgesUnlessNoMemory (first_bad_of_text file text) result (λ _. TellsOf (lines_of text) after) × TellsLinesBefore file (judged_lines_of text) result after
-finished_last file text fed new before between after (Ok done) tells feeds same within finishes =
+finished_last file text fed new before between after (Ok done) tells feeds same stays within finishes =
     let read = feeds [] (HasRead-nothing file before tells) in
     let end = finishes text read.0.1 in
-    ((first_bad_of_text-within file text within ∙ ap (λ (n : ℕ). first_bad_of_lines n (lines_of text)) (sym same) ∙ end.0.0, end.0.1.0), tt)
-finished_last file text fed new before between after (Err (Refused place)) tells feeds same within finishes =
+    ((first_bad_of_text-within file text within ∙ ap (λ (n : ℕ). first_bad_of_lines n (lines_of text)) (sym same) ∙ end.0.0, subst (λ (l : Option LoadMap). Tells l (lines_of text) after) stays end.0.1.0), tt)
+finished_last file text fed new before between after (Err (Refused place)) tells feeds same stays within finishes =
     let read = feeds [] (HasRead-nothing file before tells) in
     let end = finishes text read.0.1 in (
       first_bad_of_text-within file text within ∙ ap (λ (n : ℕ). first_bad_of_lines n (lines_of text)) (sym same) ∙ end.0,
       subst (λ (ls : List (List ℕ)). TellsOf (lines_before_bad file ls) after) (sym (judged_lines_of-whole text within))
-          (subst (λ (n : ℕ). TellsOf (lines_before_bad n (lines_of text)) after) same end.1),
+          (subst (λ (n : ℕ). TellsOf (lines_before_bad n (lines_of text)) after) same (subst (λ (l : Option LoadMap). Tells l (lines_before_bad fed.file (lines_of text)) after) stays end.1)),
     )
-finished_last file text fed new before between after (Err NoMemory) tells feeds same within finishes =
+finished_last file text fed new before between after (Err NoMemory) tells feeds same stays within finishes =
     let read = feeds [] (HasRead-nothing file before tells) in
     let end = finishes text read.0.1 in (
       tt,
       (
         end.1.0,
         subst (λ (ls : List (List ℕ)). TellsOf (take end.1.0 (lines_before_bad file ls)) after) (sym (judged_lines_of-whole text within))
-            (subst (λ (n : ℕ). TellsOf (take end.1.0 (lines_before_bad n (lines_of text))) after) same end.1.1),
+            (subst (λ (n : ℕ). TellsOf (take end.1.0 (lines_before_bad n (lines_of text))) after) same
+            (subst (λ (l : Option LoadMap). Tells l (take end.1.0 (lines_before_bad fed.file (lines_of text))) after) stays end.1.1)),
       ),
     )
 
@@ -265,8 +278,8 @@ pub text_fed : (file : ℕ) (text : List ℕ) (start new : Reading) (before afte
 text_fed file text start new before after stop P tells is feeds = fed_first file text new before after stop P tells (subst (λ (r : Reading). Feeds r before text (Err stop) new after) is feeds)
 
 pub text_finished : (file : ℕ) (text : List ℕ) (start fed new : Reading) (before between after : Tally) (result : Result (Unit {0}) Stop) → TellsOf [] before → start ≡ new_reading file → Feeds start before text (Ok tt) fed between
-    → (fed.file ≡ start.file) × (fed.size ≡ start.size + length text) × (fed.size ≤ max_text_bytes) → Finishes fed between result new after
+    → (fed.file ≡ start.file) × (fed.loading ≡ start.loading) × (fed.size ≡ start.size + length text) × (fed.size ≤ max_text_bytes) → Finishes fed between result new after
     → JudgesUnlessNoMemory (first_bad_of_text file text) result (λ _. TellsOf (lines_of text) after) × TellsLinesBefore file (judged_lines_of text) result after
 text_finished file text start fed new before between after result tells is feeds goes_on finishes =
     finished_last file text fed new before between after result tells (subst (λ (r : Reading). Feeds r before text (Ok tt) fed between) is feeds)
-    (goes_on.0 ∙ ap (λ (r : Reading). r.file) is) (omega (arith, goes_on.1, goes_on.2, ap (λ (r : Reading). r.size) is)) finishes
+    (goes_on.0 ∙ ap (λ (r : Reading). r.file) is) (goes_on.1 ∙ ap (λ (r : Reading). r.loading) is) (omega (arith, goes_on.2, goes_on.3, ap (λ (r : Reading). r.size) is)) finishes

@@ -1,6 +1,7 @@
 mod Examples
 pub mod FeedLemmas
 pub mod LineLemmas
+pub mod LoadLemmas
 pub mod ReaderLemmas
 pub mod TableLemmas
 pub mod TextLemmas

@@ -20,14 +20,16 @@ use Rattle.text_model.proofs.LawLemmas.{lines_split}
 use Rattle.text_model.proofs.LineLemmas.{none_below, none_in}
 use Rattle.sample_model.specs.Judging.{cause_of_line, first_bad_of_lines, lines_before_bad}
 use Rattle.sample_model.specs.Limits.{max_line_bytes}
-use Rattle.sample_model.specs.Line.{branches_of_line}
+use Rattle.sample_model.specs.declared.load.Load.{Load}
+use Rattle.sample_model.specs.Moves.{LoadMap}
 use Rattle.sample_model.specs.Samples.{branches_of_lines}
 use Rattle.sample_model.proofs.JudgingLemmas.{next_item, ended_lines_of-append, first_bad_of_lines-good, first_bad_of_lines-bad, lines_before_bad-all, lines_before_bad-at, lines_before_bad-some}
-use Rattle.branch_stacks.specs.Reader.{Reading, HasRead, held_of, ended_text, ReadsMore}
-use Rattle.branch_stacks.specs.Tally.{Tally, total_of, AddsStack, TellsOf}
-use Rattle.branch_stacks.specs.Text.{item_of_counted, TellsLinesBefore}
+use Rattle.branch_stacks.specs.Loads.{met_in, AddsLine}
+use Rattle.branch_stacks.specs.Reader.{Reading, HasRead, behind_line, held_of, ended_text, ReadsMore}
+use Rattle.branch_stacks.specs.Tally.{Tally, total_of, Tells}
+use Rattle.branch_stacks.specs.Text.{item_of_counted, TellsBefore}
 use Rattle.branch_stacks.proofs.LineLemmas.{take-again, cause-held, cause-short}
-use Rattle.branch_stacks.proofs.TextLemmas.{TellsOf-more}
+use Rattle.branch_stacks.proofs.TextLemmas.{Tells-more, met_in-more, total_told}
 
 -- ---- the lines of a text that goes on
 
@@ -93,15 +95,16 @@ text_ended text rest parts =
 
 -- ---- what has been read
 
--- the file, the lines and what is held are all that counts
-pub HasRead-like : (text : List ℕ) (reader other : Reading) (tally : Tally) → HasRead text reader tally → other.file ≡ reader.file → other.ended_lines ≡ reader.ended_lines → other.held ≡ reader.held → other.stop ≡ None → HasRead text other tally
-HasRead-like text reader other tally has file ended_lines held stop = record {
+-- how many bytes there were does not count
+pub HasRead-sized : (text : List ℕ) (reader : Reading) (tally : Tally) (n : ℕ) (stop : Option Stop) → HasRead text reader tally → stop ≡ None → HasRead text (record reader { size = n; stop = stop }) tally
+HasRead-sized text reader tally n stop has none = record {
   rest = has.rest;
   split = has.split;
-  goes_on = stop;
-  numbered = ended_lines ∙ has.numbered;
-  held = held ∙ has.held;
-  good = ap (λ (n : ℕ). first_bad_of_lines n (ended_lines_of text)) file ∙ has.good;
+  goes_on = none;
+  numbered = has.numbered;
+  met = has.met;
+  held = has.held;
+  good = has.good;
   tells = has.tells;
 }
 
@@ -114,9 +117,10 @@ HasRead-bytes text more reader new tally has clean is =
       split = parts.1;
       goes_on = has.goes_on;
       numbered = has.numbered ∙ ap (λ (ls : List (List ℕ)). length ls) (sym parts.0);
+      met = has.met ∙ ap (met_in reader.loading) (sym parts.0);
       held = ap (λ (h : List ℕ). held_of (h ++ more)) has.held ∙ take-again (max_line_bytes + 1) has.rest more;
       good = ap (first_bad_of_lines reader.file) parts.0 ∙ has.good;
-      tells = subst (λ (ls : List (List ℕ)). TellsOf ls tally) (sym parts.0) has.tells;
+      tells = subst (λ (ls : List (List ℕ)). Tells reader.loading ls tally) (sym parts.0) has.tells;
     })
 
 -- the open line as the next item, told by what is held of it
@@ -128,7 +132,7 @@ item_is text last reader tally has =
     sym (cause-held (total_of tally) (held_of has.rest ++ last)) ∙ ap (cause_of_line (total_of tally)) (take-again (max_line_bytes + 1) has.rest last) ∙ cause-held (total_of tally) (has.rest ++ last) in
     ap (λ (n : ℕ). place n (cause_of_line (total_of tally) (reader.held ++ last))) has.numbered
     ∙ ap (λ (h : List ℕ). place (length (ended_lines_of text)) (cause_of_line (total_of tally) (h ++ last))) has.held
-    ∙ ap (place (length (ended_lines_of text))) (cause ∙ ap (λ (n : ℕ). cause_of_line n (has.rest ++ last)) has.tells.branches.total)
+    ∙ ap (place (length (ended_lines_of text))) (cause ∙ ap (λ (n : ℕ). cause_of_line n (has.rest ++ last)) (total_told reader.loading (ended_lines_of text) tally has.tells))
 
 item_held : (file : ℕ) (tally : Tally) (number : ℕ) (line : List ℕ) → item_of_counted file tally number (held_of line) ≡ item_of_counted file tally number line
 item_held file tally number line = ap (option_map (λ kind. record { file = file; at = number; kind = kind })) (cause-held (total_of tally) line)
@@ -143,37 +147,60 @@ held_whole text last reader tally has good =
     let short = cause-short (length (branches_of_lines (ended_lines_of text))) (has.rest ++ last) (no_cause _ _ good) in
     has.held ∙ take_all (max_line_bytes + 1) has.rest (omega (arith, short, length-append has.rest last))
 
+-- the loads of a line that ended
+met_behind : (text last : List ℕ) (reader : Reading) (tally : Tally) (has : HasRead text reader tally) → reader.held ≡ has.rest
+    → reader.met ++ met_in reader.loading ((reader.held ++ last) ∷ []) ≡ met_in reader.loading (ended_lines_of text ++ (has.rest ++ last) ∷ [])
+met_behind text last reader tally has whole =
+    ap (λ (ms : List Load). ms ++ met_in reader.loading ((reader.held ++ last) ∷ [])) has.met
+    ∙ ap (λ (h : List ℕ). met_in reader.loading (ended_lines_of text) ++ met_in reader.loading ((h ++ last) ∷ [])) whole
+    ∙ sym (met_in-more reader.loading (ended_lines_of text) (has.rest ++ last))
+
+-- what is counted with a line that ended
+tells_behind : (text last : List ℕ) (reader : Reading) (old tally : Tally) (has : HasRead text reader old) → reader.held ≡ has.rest
+    → AddsLine reader.loading reader.met old tally (reader.held ++ last) → Tells reader.loading (ended_lines_of text ++ (has.rest ++ last) ∷ []) tally
+tells_behind text last reader old tally has whole adds =
+    Tells-more reader.loading (ended_lines_of text) (has.rest ++ last) old tally has.tells
+    (subst (λ (ms : List Load). AddsLine reader.loading ms old tally (has.rest ++ last)) has.met
+    (subst (λ (h : List ℕ). AddsLine reader.loading reader.met old tally (h ++ last)) whole adds))
+
 -- a line that ended, was good and was counted
-HasRead-line : (text last : List ℕ) (reader new : Reading) (old tally : Tally) → HasRead text reader old → HasNoLineFeed last
-    → item_of_counted reader.file old (reader.ended_lines + 1) (reader.held ++ last) ≡ None → AddsStack old tally (branches_of_line (reader.held ++ last))
-    → new ≡ record reader { ended_lines = reader.ended_lines + 1; held = [] } → HasRead (text ++ (last ++ 10 ∷ [])) new tally
-HasRead-line text last reader new old tally has clean good adds is =
-    let parts = text_with_line text last has.rest has.split clean in
+pub HasRead-ended : (text last more : List ℕ) (reader new : Reading) (old tally : Tally) (has : HasRead text reader old) → IsTextOf more (ended_lines_of more) (lines_of more) []
+    → ended_lines_of more ≡ ended_lines_of text ++ (has.rest ++ last) ∷ []
+    → item_of_counted reader.file old (reader.ended_lines + 1) (reader.held ++ last) ≡ None → AddsLine reader.loading reader.met old tally (reader.held ++ last)
+    → new ≡ behind_line reader (reader.held ++ last) → HasRead more new tally
+HasRead-ended text last more reader new old tally has split ended_is good adds is =
     let line = has.rest ++ last in
     let item : next_item reader.file (ended_lines_of text) line ≡ None = sym (item_is text last reader old has) ∙ good in
     let whole : reader.held ≡ has.rest = held_whole text last reader old has item in
     rw is (record {
       rest = [];
-      split = parts.1;
+      split = split;
       goes_on = has.goes_on;
-      numbered = ap (λ (n : ℕ). n + 1) has.numbered ∙ sym (length-append (ended_lines_of text) (line ∷ [])) ∙ ap (λ (ls : List (List ℕ)). length ls) (sym parts.0);
+      numbered = ap (λ (n : ℕ). n + 1) has.numbered ∙ sym (length-append (ended_lines_of text) (line ∷ [])) ∙ ap (λ (ls : List (List ℕ)). length ls) (sym ended_is);
+      met = met_behind text last reader old has whole ∙ ap (met_in reader.loading) (sym ended_is);
       held = refl;
-      good = ap (first_bad_of_lines reader.file) parts.0 ∙ first_bad_of_lines-good reader.file (ended_lines_of text) line has.good item;
-      tells = subst (λ (ls : List (List ℕ)). TellsOf ls tally) (sym parts.0)
-          (TellsOf-more (ended_lines_of text) line old tally has.tells (subst (λ (h : List ℕ). AddsStack old tally (branches_of_line (h ++ last))) whole adds));
+      good = ap (first_bad_of_lines reader.file) ended_is ∙ first_bad_of_lines-good reader.file (ended_lines_of text) line has.good item;
+      tells = subst (λ (ls : List (List ℕ)). Tells reader.loading ls tally) (sym ended_is) (tells_behind text last reader old tally has whole adds);
     })
 
+HasRead-line : (text last : List ℕ) (reader new : Reading) (old tally : Tally) → HasRead text reader old → HasNoLineFeed last
+    → item_of_counted reader.file old (reader.ended_lines + 1) (reader.held ++ last) ≡ None → AddsLine reader.loading reader.met old tally (reader.held ++ last)
+    → new ≡ behind_line reader (reader.held ++ last) → HasRead (text ++ (last ++ 10 ∷ [])) new tally
+HasRead-line text last reader new old tally has clean good adds is =
+    let parts = text_with_line text last has.rest has.split clean in
+    HasRead-ended text last (text ++ (last ++ 10 ∷ [])) reader new old tally has parts.1 parts.0 good adds is
+
 -- what a line comes to that stops the reading, whatever lines come behind it
-pub line_stop : (file : ℕ) (done later all : List (List ℕ)) (line : List ℕ) (tally after : Tally) (stop : Stop) (P Q : Unit {0} → Type 0) → first_bad_of_lines file done ≡ None → TellsOf done tally → all ≡ done ++ line ∷ later → after ≡ tally
-    → JudgesUnlessNoMemory (next_item file done line) (Err stop) P → JudgesUnlessNoMemory (first_bad_of_lines file all) (Err stop) Q × TellsLinesBefore {T = Unit {0}} file all (Err stop) after
-line_stop file done later all line tally after (Refused place) P Q good tells is same judged = (
+pub line_stop : (loading : Option LoadMap) (file : ℕ) (done later all : List (List ℕ)) (line : List ℕ) (tally after : Tally) (stop : Stop) (P Q : Unit {0} → Type 0) → first_bad_of_lines file done ≡ None → Tells loading done tally → all ≡ done ++ line ∷ later → after ≡ tally
+    → JudgesUnlessNoMemory (next_item file done line) (Err stop) P → JudgesUnlessNoMemory (first_bad_of_lines file all) (Err stop) Q × TellsBefore {T = Unit {0}} loading file all (Err stop) after
+line_stop loading file done later all line tally after (Refused place) P Q good tells is same judged = (
   ap (first_bad_of_lines file) is ∙ first_bad_of_lines-bad file done later line place good judged,
-  rw (is, same) (subst (λ (ls : List (List ℕ)). TellsOf ls tally) (sym (lines_before_bad-at file done later line place good judged)) tells),
+  rw (is, same) (subst (λ (ls : List (List ℕ)). Tells loading ls tally) (sym (lines_before_bad-at file done later line place good judged)) tells),
 )
-line_stop file done later all line tally after NoMemory P Q good tells is same judged =
+line_stop loading file done later all line tally after NoMemory P Q good tells is same judged =
     let some = lines_before_bad-some file done (line ∷ later) (length done) in
     let front : take (length done) (lines_before_bad file done) ≡ done = ap (take (length done)) (lines_before_bad-all file done good) ∙ take_all (length done) done (omega arith) in
-    (tt, (some.0, rw (is, same) (subst (λ (ls : List (List ℕ)). TellsOf ls tally) (sym (some.1 ∙ front)) tells)))
+    (tt, (some.0, rw (is, same) (subst (λ (ls : List (List ℕ)). Tells loading ls tally) (sym (some.1 ∙ front)) tells)))
 
 -- what is held where bytes are added as far as there is room
 pub held_more : (held more new : List ℕ) (n : ℕ) → length held ≤ max_line_bytes + 1 → n ≡ min (length more) (max_line_bytes + 1 - length held) → new ≡ held ++ take n more → new ≡ held_of (held ++ more)
@@ -204,6 +231,7 @@ pub record FedSoFar (old : Reading) (before : Tally) (part rest : List ℕ) (now
   pub done : List ℕ
   pub joined : done ++ rest ≡ part
   pub file : now.file ≡ old.file
+  pub loading : now.loading ≡ old.loading
   pub size : now.size ≡ old.size
   pub fits : now.ended_lines + length now.held + length rest ≤ now.size
   pub reads : (text : List ℕ) → HasRead text old before → HasRead (text ++ done) now tally
@@ -213,6 +241,7 @@ FedSoFar-none old before part fits = record {
   done = [];
   joined = refl;
   file = refl;
+  loading = refl;
   size = refl;
   fits = fits;
   reads = λ text has. subst (λ (t : List ℕ). HasRead t old before) (sym (append-nil text)) has;
@@ -221,7 +250,7 @@ FedSoFar-none old before part fits = record {
 pub FedSoFar-more : (old : Reading) (before : Tally) (part rest last left : List ℕ) (end : ℕ) (now new : Reading) (tally after : Tally) → FedSoFar old before part rest now tally
     → IsFirstByte (is_byte 10) rest (Some end) → last ≡ take end rest → left ≡ drop (end + 1) rest
     → item_of_counted now.file tally (now.ended_lines + 1) (now.held ++ last) ≡ None
-    → AddsStack tally after (branches_of_line (now.held ++ last)) × (new ≡ record now { ended_lines = now.ended_lines + 1; held = [] }) → FedSoFar old before part left new after
+    → AddsLine now.loading now.met tally after (now.held ++ last) × (new ≡ behind_line now (now.held ++ last)) → FedSoFar old before part left new after
 FedSoFar-more old before part rest last left end now new tally after so_far found is_last is_left good counts =
     let feed = first_feed rest end found in
     let clean : HasNoLineFeed last = subst HasNoLineFeed (sym is_last) feed.0 in
@@ -231,6 +260,7 @@ FedSoFar-more old before part rest last left end now new tally after so_far foun
       done = so_far.done ++ (last ++ 10 ∷ []);
       joined = append_assoc so_far.done (last ++ 10 ∷ []) left ∙ ap (λ (t : List ℕ). so_far.done ++ t) (append_assoc last (10 ∷ []) left ∙ whole) ∙ so_far.joined;
       file = ap (λ (r : Reading). r.file) counts.1 ∙ so_far.file;
+      loading = ap (λ (r : Reading). r.loading) counts.1 ∙ so_far.loading;
       size = ap (λ (r : Reading). r.size) counts.1 ∙ so_far.size;
       fits = omega (arith, so_far.fits, ap (λ (r : Reading). r.ended_lines) counts.1, ap (λ (r : Reading). length r.held) counts.1, ap (λ (r : Reading). r.size) counts.1, count, length-append last (10 ∷ left));
       reads = λ text has.
@@ -256,8 +286,11 @@ FedSoFar-stop old before part rest last end now new tally after stop P so_far fo
     let all : ended_lines_of (text ++ part) ≡ ended_lines_of front ++ line ∷ later =
     ap ended_lines_of (sym text_is) ∙ more ∙ ap (λ (ls : List (List ℕ)). ls ++ later) ended_here.0 ∙ append_assoc (ended_lines_of front) (line ∷ []) later in
     let item : JudgesUnlessNoMemory (next_item now.file (ended_lines_of front) line) (Err stop) P = subst (λ (o : Option Place). JudgesUnlessNoMemory o (Err stop) P) (item_is front last now tally here) judged in
-    subst (λ (n : ℕ). JudgesUnlessNoMemory {T = Unit {0}} (first_bad_of_lines n (ended_lines_of (text ++ part))) (Err stop) (λ _. HasRead (text ++ part) new after) × TellsLinesBefore {T = Unit {0}} n (ended_lines_of (text ++ part)) (Err stop) after) so_far.file
-    (line_stop now.file (ended_lines_of front) later (ended_lines_of (text ++ part)) line tally after stop P (λ _. HasRead (text ++ part) new after) here.good here.tells all same item)
+    let Stops : Option LoadMap → ℕ → Type 0 =
+    λ loading n. JudgesUnlessNoMemory {T = Unit {0}} (first_bad_of_lines n (ended_lines_of (text ++ part))) (Err stop) (λ _. HasRead (text ++ part) new after)
+    × TellsBefore {T = Unit {0}} loading n (ended_lines_of (text ++ part)) (Err stop) after in
+    subst (λ (n : ℕ). Stops old.loading n) so_far.file (subst (λ (l : Option LoadMap). Stops l now.file) so_far.loading
+    (line_stop now.loading now.file (ended_lines_of front) later (ended_lines_of (text ++ part)) line tally after stop P (λ _. HasRead (text ++ part) new after) here.good here.tells all same item))
 
 pub FedSoFar-all : (old : Reading) (before : Tally) (part rest : List ℕ) (now new : Reading) (tally : Tally) → FedSoFar old before part rest now tally
     → IsFirstByte (is_byte 10) rest None → new ≡ record now { held = held_of (now.held ++ rest) } → ReadsMore old before part (Ok tt) new tally
@@ -268,23 +301,22 @@ FedSoFar-all old before part rest now new tally so_far none is text has =
     ((ap (λ (n : ℕ). first_bad_of_lines n (ended_lines_of (text ++ part))) (sym file) ∙ whole.good, whole), tt)
 
 -- a line that is judged by what is held of it
-judges_held : (file : ℕ) (tally after : Tally) (number : ℕ) (line : List ℕ) (result : Result (Unit {0}) Stop) (Q : Type 0)
-    → JudgesUnlessNoMemory (item_of_counted file tally number (held_of line)) result (λ _. AddsStack tally after (branches_of_line (held_of line)) × Q)
-    → JudgesUnlessNoMemory (item_of_counted file tally number line) result (λ _. AddsStack tally after (branches_of_line line) × Q)
-judges_held file tally after number line (Ok done) Q judged =
+judges_held : (file : ℕ) (tally : Tally) (number : ℕ) (line : List ℕ) (result : Result (Unit {0}) Stop) (P : List ℕ → Type 0)
+    → JudgesUnlessNoMemory (item_of_counted file tally number (held_of line)) result (λ _. P (held_of line)) → JudgesUnlessNoMemory (item_of_counted file tally number line) result (λ _. P line)
+judges_held file tally number line (Ok done) P judged =
     let item : item_of_counted file tally number line ≡ None = sym (item_held file tally number line) ∙ judged.0 in
     let short = cause-short (total_of tally) line (no_cause _ _ item) in
     let whole : held_of line ≡ line = take_all (max_line_bytes + 1) line (omega arith) in
-    (item, (subst (λ (l : List ℕ). AddsStack tally after (branches_of_line l)) whole judged.1.0, judged.1.1))
-judges_held file tally after number line (Err (Refused place)) Q judged = sym (item_held file tally number line) ∙ judged
-judges_held file tally after number line (Err NoMemory) Q judged = tt
+    (item, subst P whole judged.1)
+judges_held file tally number line (Err (Refused place)) P judged = sym (item_held file tally number line) ∙ judged
+judges_held file tally number line (Err NoMemory) P judged = tt
 
 pub judges_held_line : (old held new : Reading) (last : List ℕ) (tally after : Tally) (result : Result (Unit {0}) Stop) → held ≡ record old { held = held_of (old.held ++ last) }
     → JudgesUnlessNoMemory (item_of_counted held.file tally (held.ended_lines + 1) held.held) result
-    (λ _. AddsStack tally after (branches_of_line held.held) × (new ≡ record held { ended_lines = held.ended_lines + 1; held = [] }))
+    (λ _. AddsLine held.loading held.met tally after held.held × (new ≡ behind_line held held.held))
     → JudgesUnlessNoMemory (item_of_counted old.file tally (old.ended_lines + 1) (old.held ++ last)) result
-    (λ _. AddsStack tally after (branches_of_line (old.held ++ last)) × (new ≡ record old { ended_lines = old.ended_lines + 1; held = [] }))
+    (λ _. AddsLine old.loading old.met tally after (old.held ++ last) × (new ≡ behind_line old (old.held ++ last)))
 judges_held_line old held new last tally after result is judged =
-    judges_held old.file tally after (old.ended_lines + 1) (old.held ++ last) result (new ≡ record old { ended_lines = old.ended_lines + 1; held = [] })
+    judges_held old.file tally (old.ended_lines + 1) (old.held ++ last) result (λ (line : List ℕ). AddsLine old.loading old.met tally after line × (new ≡ behind_line old line))
     (subst (λ (r : Reading). JudgesUnlessNoMemory {T = Unit {0}} (item_of_counted r.file tally (r.ended_lines + 1) r.held) result
-    (λ _. AddsStack tally after (branches_of_line r.held) × (new ≡ record r { ended_lines = r.ended_lines + 1; held = [] }))) is judged)
+    (λ _. AddsLine r.loading r.met tally after r.held × (new ≡ behind_line r r.held))) is judged)

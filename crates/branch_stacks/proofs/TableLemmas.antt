@@ -13,7 +13,7 @@ use Rattle.std.proofs.Math.Seq.{map-set_same}
 use Rattle.sample_model.specs.Pairs.{same_pair, times_of}
 use Rattle.sample_model.proofs.PairLemmas.{same_pair-equal}
 use Rattle.sample_model.specs.Samples.{ranges_between, range_between}
-use Rattle.branch_stacks.specs.declared.pair.Pair.{Pair}
+use Rattle.sample_model.specs.declared.pair.Pair.{Pair}
 use Rattle.branch_stacks.specs.Table.{pair_of, times_of_row, times_in, total_in, AllDistinct, IsTable, AddsPairs, Tallies}
 use Rattle.branch_stacks.specs.Tally.{Tally, IsCounted, counted as counted_of}
 use Rattle.sample_model.specs.Limits.{max_branches}
@@ -210,6 +210,21 @@ IsCounted-stack old count branches ranges new_branches new_ranges stack ranged k
       total = omega (arith, kept.total, grown_branches.1);
       within = room;
       fewer_ranges = omega (arith, kept.fewer_ranges, grown_ranges.1, length-ranges_between ranged, length-counted old.with_ranges stack, ap length is_ranged);
+    }
+
+-- what is kept where the branches of a sample and these ranges were counted
+pub IsCounted-sample : (old : Tally) (count : ℕ) (branches ranges new_branches new_ranges : List Pair) (stack ran ranged : List (ℕ × ℕ)) → IsCounted old count
+    → branches ≡ old.branches → AddsPairs branches new_branches stack → ranges ≡ old.ranges → ranged ≡ counted_of old.with_ranges ran → AddsPairs ranges new_ranges ranged
+    → length ran ≤ length stack → count + length stack ≤ max_branches → IsCounted (record { branches = new_branches; ranges = new_ranges; with_ranges = old.with_ranges }) (count + length stack)
+IsCounted-sample old count branches ranges new_branches new_ranges stack ran ranged kept same_branches more_branches same_ranges is_ranged more_ranges fewer room =
+    let grown_branches = table-grown old.branches branches new_branches stack same_branches more_branches kept.branches in
+    let grown_ranges = table-grown old.ranges ranges new_ranges ranged same_ranges more_ranges kept.ranges in
+    record {
+      branches = grown_branches.0;
+      ranges = grown_ranges.0;
+      total = omega (arith, kept.total, grown_branches.1);
+      within = room;
+      fewer_ranges = omega (arith, kept.fewer_ranges, grown_ranges.1, length-counted old.with_ranges ran, ap length is_ranged, fewer);
     }
 
 -- more pairs were counted

@@ -1,4 +1,5 @@
 pub mod Line
+pub mod Loads
 pub mod Pair
 pub mod Reader
 pub mod Table

@@ -1,7 +1,7 @@
 -- The order of rows.
 use Rattle.std.specs.Ordering.{nat_cmp, ordering_then}
 use Rattle.std.specs.declared.cmp.Ordering.{Ordering}
-use Rattle.branch_stacks.specs.declared.pair.Pair.{Pair}
+use Rattle.sample_model.specs.declared.pair.Pair.{Pair}
 
 -- Rows go by where they come from, then by where they go to, and last by how often.
 abbrev pub pair_cmp : Pair → Pair → Ordering

@@ -1,8 +1,9 @@
 -- What is counted of a branch text.
-use Rattle.std.specs.Prelude.{◌≡◌, ℕ, ◌≤◌, Bool, List, [], if◌then◌else◌}
+use Rattle.std.specs.Prelude.{◌≡◌, ℕ, ◌≤◌, Bool, List, [], Option, None, if◌then◌else◌}
 use Rattle.sample_model.specs.Limits.{max_branches}
-use Rattle.sample_model.specs.Samples.{branches_of_lines, ranges_of_lines, ranges_between}
-use Rattle.branch_stacks.specs.declared.pair.Pair.{Pair}
+use Rattle.sample_model.specs.Moves.{LoadMap, branches_by, ranges_by}
+use Rattle.sample_model.specs.Samples.{ranges_between}
+use Rattle.sample_model.specs.declared.pair.Pair.{Pair}
 use Rattle.branch_stacks.specs.Table.{AddsPairs, IsTable, Tallies, total_in}
 
 -- The distinct branches and the distinct sampled ranges, each with how often it stands, and whether ranges are
@@ -26,10 +27,21 @@ pub record AddsStack (old new : Tally) (stack : List (ℕ × ℕ)) : Type 0 wher
   pub ranges : AddsPairs old.ranges new.ranges (ranges_between (counted old.with_ranges stack))
   pub with_ranges : new.with_ranges ≡ old.with_ranges
 
--- These lines were counted, and nothing else: their branches, and their ranges, unless ranges are left out.
-pub record TellsOf (lines : List (List ℕ)) (tally : Tally) : Type 0 where
-  pub branches : Tallies (branches_of_lines lines) tally.branches
-  pub ranges : Tallies (ranges_of_lines (counted tally.with_ranges lines)) tally.ranges
+-- These branches of one sample were counted, and these ranges, unless ranges are left out.
+pub record AddsSample (old new : Tally) (stack ran : List (ℕ × ℕ)) : Type 0 where
+  pub branches : AddsPairs old.branches new.branches stack
+  pub ranges : AddsPairs old.ranges new.ranges (counted old.with_ranges ran)
+  pub with_ranges : new.with_ranges ≡ old.with_ranges
+
+-- These lines were counted, and nothing else: their branches, and their ranges, unless ranges are left out. Addresses
+-- are as they stand, or moved by the loads among the lines.
+pub record Tells (loading : Option LoadMap) (lines : List (List ℕ)) (tally : Tally) : Type 0 where
+  pub branches : Tallies (branches_by loading lines) tally.branches
+  pub ranges : Tallies (ranges_by loading (counted tally.with_ranges lines)) tally.ranges
+
+-- The same of lines whose addresses are as they stand.
+abbrev pub TellsOf : List (List ℕ) → Tally → Type 0
+TellsOf lines tally = Tells None lines tally
 
 -- What is kept: both are tables, the total is that of the branches and within the limit, and there are no more ranges
 -- than branches.

@@ -2,12 +2,13 @@ ghost use Rattle.std.specs.Prelude.{◌≡◌, ◌≢◌, ◌<◌, ◌≤◌, �
 ghost use Rattle.sample_model.specs.Limits.{max_branches};
 ghost use Rattle.branch_stacks.specs.Pair.{pair_cmp};
 ghost use Rattle.branch_stacks.specs.Table.{AddsPairs, IsTable, total_in};
-ghost use Rattle.branch_stacks.specs.Tally.{AddsStack, IsCounted, counted, total_of};
+ghost use Rattle.branch_stacks.specs.Tally.{AddsSample, AddsStack, IsCounted, counted, total_of};
 ghost use Rattle.branch_stacks.specs.declared.counts.CountsStop.TheVariants.{NoMemory as no_memory};
 
-use crate::pair::{Pair, sort_pairs};
+use crate::order::sort_pairs;
 use crate::table::Table;
 use refusal::NoMemory;
+use sample_model::Pair;
 use std::alloc::{AllocError, Global};
 use std::marker::Model;
 
@@ -147,11 +148,12 @@ impl Counts {
         let _total = self.total;
     }
 
-    /// The branches of a sample whose ranges are counted: all, or none where ranges are left out.
-    fn ranged<'a>(&self, entries: &'a [(u64, u64)]) -> &'a [(u64, u64)]
-        ensures { result.now ≡ counted self.now.with_ranges entries.now }
+    /// The branches of a sample whose ranges are counted, or its ranges that are: all, or none
+    /// where ranges are left out.
+    fn ranged<'a>(&self, all: &'a [(u64, u64)]) -> &'a [(u64, u64)]
+        ensures { result.now ≡ counted self.now.with_ranges all.now }
     {
-        if self.with_ranges { entries } else { &[] }
+        if self.with_ranges { all } else { &[] }
     }
 
     /// Counts one branch from the address `from` to the address `to` `times` times more, and no
@@ -202,8 +204,36 @@ impl Counts {
         let ranged = self.ranged(entries);
         self.branches.reserve(count)?;
         self.ranges.reserve(ranged.len())?;
-        self.branches.add_branches(entries);
+        self.branches.add_pairs(entries);
         self.ranges.add_ranges(ranged);
+        self.total += count as u64;
+        Ok(())
+    }
+    /// Counts the branches of one sample and these ranges, of which there are not more.
+    ///
+    /// # Errors
+    /// `TooMany` where the total would pass 2^32 - 1, and else `NoMemory`. The counts are then as
+    /// they were.
+    pub(crate) fn add_sample(
+        &mut self,
+        branches: &[(u64, u64)],
+        ranges: &[(u64, u64)],
+    ) -> Result<(), CountsStop>
+        requires { length ranges.now ≤ length branches.now }
+        ensures added { OnOk result (AddsSample self.old self.new branches.now ranges.now) }
+        ensures too_many { IsErrOf result CountsStop.TooMany
+            ↔ (max_branches < total_of self.old + length branches.now) }
+        ensures err { OnErr result (self.new ≡ self.old) }
+    {
+        let count = branches.len();
+        if count as u64 > MAX_BRANCHES - self.total {
+            return Err(CountsStop::TooMany);
+        }
+        let ranges = self.ranged(ranges);
+        self.branches.reserve(count)?;
+        self.ranges.reserve(ranges.len())?;
+        self.branches.add_pairs(branches);
+        self.ranges.add_pairs(ranges);
         self.total += count as u64;
         Ok(())
     }

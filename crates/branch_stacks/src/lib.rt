@@ -8,7 +8,9 @@
 
 mod counts;
 mod line;
-mod pair;
+mod load_line;
+mod loads;
+mod order;
 mod reader;
 mod table;
 #[cfg(test)]
@@ -16,6 +18,5 @@ mod tests;
 mod text;
 
 pub use counts::{Counts, CountsStop};
-pub use pair::Pair;
 pub use reader::Reader;
 pub use text::read_text;

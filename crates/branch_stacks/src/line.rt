@@ -60,7 +60,7 @@ fn is_blank_line(line: &[u8]) -> bool
 }
 
 /// Whether a line begins with `#`.
-fn is_comment(line: &[u8]) -> bool
+pub(crate) fn is_comment(line: &[u8]) -> bool
     ensures { result ≡ comment line.now }
 {
     line.starts_with(b"#")
@@ -133,7 +133,7 @@ fn split_at_slash(text: &[u8]) -> (&[u8], &[u8])
 }
 
 /// An address as an entry has it: hexadecimal behind `0x`, within 64 bits.
-fn address(text: &[u8]) -> Option<u64>
+pub(crate) fn address(text: &[u8]) -> Option<u64>
     ensures { result ≡ model.address_of text.now }
 {
     prefixed(text).ok()

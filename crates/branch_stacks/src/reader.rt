@@ -1,16 +1,17 @@
 // A branch text that comes in pieces.
-ghost use Rattle.std.specs.Prelude.{◌≡◌, ◌+◌, ◌<◌, ◌≤◌, ◌++◌, [], Some, length, IfErr, IfOk, OnErr, OnOk};
+ghost use Rattle.std.specs.Prelude.{◌≡◌, ◌+◌, ◌<◌, ◌≤◌, ◌++◌, [], None, Some, length, IfErr, IfOk, OnErr, OnOk};
 ghost use Rattle.refusal.specs.Place.{JudgesUnlessNoMemory};
 ghost use Rattle.refusal.specs.declared.place.Stop.{Stop};
 ghost use Rattle.sample_model.specs.Limits.{max_text_bytes};
-ghost use Rattle.sample_model.specs.Line.{branches_of_line};
-ghost use Rattle.branch_stacks.specs.Reader.{new_reading, held_of, room_of, EndsLine, Feeds, Finishes, ReadsMore};
-ghost use Rattle.branch_stacks.specs.Tally.{AddsStack};
+ghost use Rattle.branch_stacks.specs.Loads.{AddsLine};
+ghost use Rattle.branch_stacks.specs.Reader.{behind_line, new_reading, new_reading_by, held_of, room_of, EndsLine, Feeds, Finishes, ReadsMore};
 ghost use Rattle.branch_stacks.specs.Text.{item_of_counted};
 
 use crate::counts::Counts;
 use crate::line::{MAX_KEPT, MAX_LINE_BYTES};
+use crate::loads::Loads;
 use crate::text::count_line;
+use load_model::LoadSegment;
 use memchr::memchr;
 use refusal::{Kind, NoMemory, Place, Stop, refuse_if};
 use std::alloc::Global;
@@ -30,6 +31,10 @@ const MAX_HELD: usize = MAX_LINE_BYTES + 1;
 /// and the refusal are those of `read_text` over the whole. A line that lies whole in its piece is
 /// read where it lies; of one that goes over a piece's end at most 65,537 bytes are held.
 ///
+/// A reader that was made with loads moves each address by the last load line before its sample
+/// that holds the address. A foreign address, of which no move is known, counts as 0, and a range
+/// with a foreign end as one from 0 to 0.
+///
 /// Once a call has answered a `Stop`, each later call answers it again and counts nothing.
 #[derive(Debug, Drop)]
 pub struct Reader {
@@ -39,12 +44,14 @@ pub struct Reader {
     size: u64,
     stop: Option<Stop>,
     branches: Vec<(u64, u64)>,
+    loads: Option<Loads>,
 }
 
 // There is room for an open line and for a line's branches.
 impl Model for Reader {
     ghost use Rattle.std.specs.Prelude.{◌+◌, ◌≤◌, length, vec_capacity};
     ghost use Rattle.sample_model.specs.Limits.{max_text_bytes};
+    ghost use Rattle.branch_stacks.specs.Loads.{map_of, met_of};
     ghost use Rattle.branch_stacks.specs.Reader.{Reading};
     ghost use Rattle.branch_stacks.specs.declared.line.TheConstants.{MAX_KEPT};
     ghost use Rattle.branch_stacks.specs.declared.reader.TheConstants.{MAX_HELD};
@@ -53,7 +60,9 @@ impl Model for Reader {
 
     ghost view = { λ r. record {
       file = r.file;
+      loading = map_of r.loads;
       ended_lines = r.ended_lines;
+      met = met_of r.loads;
       held = r.held.items;
       size = r.size;
       stop = r.stop;
@@ -80,7 +89,31 @@ impl Reader {
             size: 0,
             stop: None,
             branches: Vec::with_capacity(alloc, MAX_KEPT)?,
+            loads: None,
         })
+    }
+
+    /// A reader of the command's file `file` that moves addresses. The program's file has this name
+    /// in load lines, and `segments` are its segments of code in the order of their headers. What
+    /// grows later are the counts and the list of the loads that the text tells of.
+    ///
+    /// # Errors
+    /// `NoMemory`.
+    ///
+    /// Source: perf-script(1), `--show-mmap-events`; System V gABI, "Program Header".
+    pub fn with_loads(
+        alloc: Global,
+        file: u8,
+        name: &[u8],
+        segments: &[LoadSegment],
+    ) -> Result<Reader, NoMemory>
+        ensures { IfOk result (λ reader. reader ≡ new_reading_by
+            (Some (record { name = name.now; segments = segments.now })) file) }
+    {
+        let loads = Loads::new(alloc, name, segments)?;
+        let mut reader = Reader::new(alloc, file)?;
+        reader.loads = Some(loads);
+        Ok(reader)
     }
 
     /// Reads the next piece of the text: judges and counts the lines that end in it. At the first
@@ -96,6 +129,7 @@ impl Reader {
     pub fn feed(&mut self, piece: &[u8], counts: &mut Counts) -> Result<(), Stop>
         ensures judged { Feeds self.old counts.old piece.now result self.new counts.new }
         ensures goes_on { OnOk result ((self.new.file ≡ self.old.file)
+            × (self.new.loading ≡ self.old.loading)
             × (self.new.size ≡ self.old.size + length piece.now)
             × (self.new.size ≤ max_text_bytes)) }
         ensures stops { IfErr result (λ stop. self.new.stop ≡ Some stop) }
@@ -118,6 +152,7 @@ impl Reader {
     pub fn finish(&mut self, counts: &mut Counts) -> Result<(), Stop>
         ensures judged { Finishes self.old counts.old result self.new counts.new }
         ensures goes_on { OnOk result ((self.new.file ≡ self.old.file)
+            × (self.new.loading ≡ self.old.loading)
             × (self.new.size ≡ self.old.size)) }
         ensures stops { IfErr result (λ stop. self.new.stop ≡ Some stop) }
         ensures again { (stop : Stop) → self.old.stop ≡ Some stop →
@@ -135,6 +170,7 @@ impl Reader {
     fn read(&mut self, piece: &[u8], counts: &mut Counts) -> Result<(), Stop>
         ensures judged { Feeds self.old counts.old piece.now result self.new counts.new }
         ensures goes_on { OnOk result ((self.new.file ≡ self.old.file)
+            × (self.new.loading ≡ self.old.loading)
             × (self.new.size ≡ self.old.size + length piece.now)) }
     {
         let room = self.room();
@@ -162,6 +198,7 @@ impl Reader {
         requires { self.old.ended_lines + length self.old.held + length part.now ≤ self.old.size }
         ensures judged { ReadsMore self.old counts.old part.now result self.new counts.new }
         ensures goes_on { OnOk result ((self.new.file ≡ self.old.file)
+            × (self.new.loading ≡ self.old.loading)
             × (self.new.size ≡ self.old.size)) }
     {
         let mut rest = part;
@@ -195,15 +232,15 @@ impl Reader {
         requires line { self.old.ended_lines < self.old.size }
         ensures judged { JudgesUnlessNoMemory
             (item_of_counted self.old.file counts.old (self.old.ended_lines + 1) line.now) result
-            (λ _. AddsStack counts.old counts.new (branches_of_line line.now)
-            × (self.new ≡ record self.old { ended_lines = self.old.ended_lines + 1 })) }
+            (λ _. AddsLine self.old.loading self.old.met counts.old counts.new line.now
+            × (self.new ≡ behind_line self.old line.now)) }
         ensures err { OnErr result (counts.new ≡ counts.old) }
     {
         let line = Line {
             number: self.ended_lines + 1,
             bytes: line,
         };
-        count_line(line, self.file, &mut self.branches, counts)?;
+        count_line(line, self.file, &mut self.branches, &mut self.loads, counts)?;
         self.ended_lines += 1;
         Ok(())
     }
@@ -218,7 +255,7 @@ impl Reader {
             number: self.ended_lines + 1,
             bytes: &self.held,
         };
-        count_line(line, self.file, &mut self.branches, counts)?;
+        count_line(line, self.file, &mut self.branches, &mut self.loads, counts)?;
         self.held.clear();
         self.ended_lines += 1;
         Ok(())
@@ -238,6 +275,7 @@ impl Reader {
     fn end_text(&mut self, counts: &mut Counts) -> Result<(), Stop>
         ensures judged { Finishes self.old counts.old result self.new counts.new }
         ensures goes_on { OnOk result ((self.new.file ≡ self.old.file)
+            × (self.new.loading ≡ self.old.loading)
             × (self.new.size ≡ self.old.size)) }
     {
         if self.held.is_empty() {

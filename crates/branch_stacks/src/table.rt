@@ -3,8 +3,8 @@ ghost use Rattle.std.specs.Prelude.{◌≡◌, ◌+◌, ◌<◌, ◌≤◌, ◌^
 ghost use Rattle.sample_model.specs.Samples.{ranges_between};
 ghost use Rattle.branch_stacks.specs.Table.{AddsPairs, total_in};
 
-use crate::pair::Pair;
 use indexmap::IndexSet;
+use sample_model::Pair;
 use std::alloc::{AllocError, Global};
 use std::marker::Model;
 
@@ -97,14 +97,14 @@ impl Table {
         }
     }
 
-    /// Counts each of these branches once more.
-    pub(crate) fn add_branches(&mut self, branches: &[(u64, u64)])
-        requires room { length branches.now ≤ self.old.room }
-        requires fits { total_in self.old.rows + length branches.now < 2 ^ 64 }
-        ensures added { AddsPairs self.old.rows self.new.rows branches.now }
-        ensures room { self.old.room ≤ self.new.room + length branches.now }
+    /// Counts each of these pairs once more.
+    pub(crate) fn add_pairs(&mut self, pairs: &[(u64, u64)])
+        requires room { length pairs.now ≤ self.old.room }
+        requires fits { total_in self.old.rows + length pairs.now < 2 ^ 64 }
+        ensures added { AddsPairs self.old.rows self.new.rows pairs.now }
+        ensures room { self.old.room ≤ self.new.room + length pairs.now }
     {
-        for &(from, to) in branches {
+        for &(from, to) in pairs {
             self.add_times(from, to, 1);
         }
     }

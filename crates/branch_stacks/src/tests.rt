@@ -1,7 +1,9 @@
 ghost use Rattle.std.specs.Prelude.{◌<◌};
 
-use crate::{Counts, CountsStop, Pair, Reader, read_text};
+use crate::{Counts, CountsStop, Reader, read_text};
+use load_model::LoadSegment;
 use refusal::{Kind, NoMemory, Place, Stop};
+use sample_model::Pair;
 use std::alloc::Global;
 use std::test::Fail;
 
@@ -294,5 +296,106 @@ fn counts_of_branches_leave_ranges_out(rt: HostRuntime) -> Result<(), Fail> {
         counts.into_sorted_branches()?.as_slice(),
         sorted.as_slice()
     );
+    Ok(())
+}
+
+// Two segments of code that share the offsets from 0x20 up to 0x40, and one at the last addresses.
+const SEGMENTS: [LoadSegment; 3] = [
+    LoadSegment {
+        offset: 0,
+        vaddr: 0x401000,
+        size: 0x40,
+    },
+    LoadSegment {
+        offset: 0x20,
+        vaddr: 0x602020,
+        size: 0x40,
+    },
+    LoadSegment {
+        offset: 0x1000,
+        vaddr: 0xffff_ffff_ffff_fff0,
+        size: 0x40,
+    },
+];
+
+// The counts of a text that moves the addresses of /bin/x, and the answer to it. A `|` ends each
+// piece of the text.
+fn move_all(alloc: Global, text: &[u8]) -> Result<(Result<(), Stop>, Counts), NoMemory> {
+    let mut counts = Counts::new(alloc)?;
+    let mut reader = Reader::with_loads(alloc, 2, b"/bin/x", &SEGMENTS)?;
+    let mut answer = Ok(());
+    for piece in text.split(|byte| *byte == b'|') {
+        answer = reader.feed(piece, &mut counts);
+    }
+    if answer.is_ok() {
+        answer = reader.finish(&mut counts);
+    }
+    Ok((answer, counts))
+}
+
+#[test]
+fn addresses_are_moved(rt: HostRuntime) -> Result<(), Fail> {
+    let cases: [(&[u8], &[Pair], &[Pair]); 8] = [
+        (
+            b"x 7 PERF_RECORD_MMAP2 7/7: [0x7f0000000000(0x1000) @ 0 08:02 5 0]: r-xp /bin/x\n\
+              0x7f0000000034/0x7f0000000000/P/-/-/1\n",
+            &[pair(0x401034, 0x401000, 1)],
+            &[],
+        ),
+        (
+            b"x 7 PERF_RECORD_MMAP2 7/7: [0x7f0000000000(0x1000) @ 0 08:02 5 0]: r-xp /bin/y\n\
+              0x7f0000000034/0x7f0000000000/P/-/-/1\n",
+            &[pair(0, 0, 1)],
+            &[],
+        ),
+        (
+            b"x 7 PERF_RECORD_MMAP2 7/7: [0x7f0000000000(0x1000) @ 0 08:02 5 0]: r-xp /bin/x\n\
+              0x7f0000000004/0x9 0x9/0x7f0000000000",
+            &[pair(0x401004, 0, 1), pair(0, 0x401000, 1)],
+            &[pair(0x401000, 0x401004, 1)],
+        ),
+        // A range with a foreign end; an address of two segments; one of the second alone.
+        (
+            b"PERF_RECORD_MMAP2 7: [0x5000(0x1000) @ 0 0]: r /bin/x\n0x5030/0x5044 0x5004/0x9",
+            &[pair(0x401030, 0x602044, 1), pair(0x401004, 0, 1)],
+            &[pair(0, 0, 1)],
+        ),
+        // A load line behind its sample; the offset of the load; a piece that ends in the line.
+        (
+            b"0x5000/0x5001\nPERF_RECORD_MMAP2 7: [0x50|00(0x1000) @ 0x10 0]: r /bin/x\n\
+              0x5000/0x5001",
+            &[pair(0, 0, 1), pair(0x401010, 0x401011, 1)],
+            &[],
+        ),
+        // The last load line that holds the address, and one that does not hold it.
+        (
+            b"PERF_RECORD_MMAP2 7: [0x5000(0x1000) @ 0 0]: r /bin/x\n\
+              PERF_RECORD_MMAP2 7: [0x5010(0x8) @ 0 0]: r /bin/x\n0x5017/0x5018",
+            &[pair(0x401007, 0x401018, 1)],
+            &[],
+        ),
+        // Addresses up to the last one, and moves that would pass it.
+        (
+            b"PERF_RECORD_MMAP2 7: [0x5000(0x1000) @ 0x1000 0]: r /bin/x\n0x500f/0x5010",
+            &[pair(0xffff_ffff_ffff_ffff, 0, 1)],
+            &[],
+        ),
+        // A comment, and a line that has not the form, tell of no load.
+        (
+            b"#PERF_RECORD_MMAP2 7: [0x5000(0x1000) @ 0 0]: r /bin/x\n\
+              PERF_RECORD_MMAP2 7: [0x5000(0x1000) @ 0 0] r /bin/x\n0x5000/0x5001",
+            &[pair(0, 0, 1)],
+            &[],
+        ),
+    ];
+    for (text, branches, ranges) in cases {
+        let (answer, counts) = move_all(rt.alloc(), text)?;
+        assert_eq!(rt; answer, Ok(()));
+        assert_eq!(rt; counts.branches(), branches);
+        assert_eq!(rt; counts.ranges(), ranges);
+    }
+    let (bad, counts) = move_all(rt.alloc(), b"0x1/0x2\nPERF_RECORD_MMAP2\nzz\n0x1/0x2")?;
+    assert_eq!(rt; bad, refused(3, Kind::BadLine));
+    assert_eq!(rt; counts.branches(), [pair(0, 0, 1)].as_slice());
     Ok(())
 }

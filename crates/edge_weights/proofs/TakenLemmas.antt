@@ -9,7 +9,7 @@ use Rattle.std.proofs.lemmas.List.{get_or_default}
 use Rattle.std.proofs.lemmas.List.Sorted.{sum_by-IsPermutation}
 use Rattle.std.proofs.lemmas.List.Sums.{sum_by_more, sum_by_more_le_part, sum_by-take-drop, sum_by-le-sum_by}
 use Rattle.block_model.specs.declared.parts.Block.{Block}
-use Rattle.branch_stacks.specs.declared.pair.Pair.{Pair}
+use Rattle.sample_model.specs.declared.pair.Pair.{Pair}
 use Rattle.edge_weights.specs.Sampled.{branches_taken}
 use Rattle.weight_model.specs.Edges.{leads, taken}
 use Rattle.edge_weights.proofs.SumLemmas.{sum_passing, no_sum_front, no_sum_back}

@@ -1,7 +1,7 @@
 -- Sampled branches and ranges in order.
 use Rattle.std.specs.Prelude.{◌≡◌, ℕ, ◌<◌, ◌^◌, List, sum_by}
 use Rattle.std.specs.List.Sorted.{IsNonDecreasingBy}
-use Rattle.branch_stacks.specs.declared.pair.Pair.{Pair}
+use Rattle.sample_model.specs.declared.pair.Pair.{Pair}
 use Rattle.hit_model.specs.declared.ran_range.RanRange.{RanRange}
 use Rattle.hit_model.specs.declared.step.Step.{Step}
 use Rattle.hit_model.specs.Steps.{hits_by}

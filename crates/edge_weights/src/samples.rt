@@ -7,10 +7,10 @@ ghost use Rattle.edge_weights.specs.Sampled.{Tell, branches_taken};
 use crate::passing::behind_firsts;
 use crate::taken::taken;
 use block_model::Block;
-use branch_stacks::Pair;
 use hit_model::RanRange;
 use range_counts::{Hits, sweep};
 use refusal::NoMemory;
+use sample_model::Pair;
 use std::alloc::Global;
 use std::marker::Model;
 

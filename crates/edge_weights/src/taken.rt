@@ -4,7 +4,7 @@ ghost use Rattle.edge_weights.specs.Sampled.{branches_taken};
 ghost use Rattle.weight_model.specs.Edges.{taken as times_taken};
 
 use block_model::Block;
-use branch_stacks::Pair;
+use sample_model::Pair;
 
 /// How often branches from a block to an address were taken, where the branches stand by their
 /// sources.

@@ -2,9 +2,9 @@ ghost use Rattle.std.specs.Prelude.{◌≡◌};
 
 use crate::{EdgeSamples, RanRange, Weight, edge_weights};
 use block_model::{Block, Bound, Edge};
-use branch_stacks::Pair;
 use cfg_text::Fun;
 use io_edge::Items;
+use sample_model::Pair;
 use std::test;
 
 const FREE: Bound = Bound {

@@ -1,12 +1,18 @@
 -- The definitions on worked values.
 use Rattle.std.proofs.Common.{◌≡◌, ℕ, true, false, List, [], ◌∷◌, ◌++◌, refl, Some, None}
-use Rattle.std.specs.Prelude.{codes, replicate}
+use Rattle.std.specs.Prelude.{Bool, Option, codes, replicate}
 use Rattle.std.specs.List.{flat_map}
+use Rattle.std.specs.Option.{option_map}
 use Rattle.refusal.specs.declared.kind.Kind.TheVariants.{BadLine, LineTooLong, TooManyEntries, TooManyBranches, FileTooLarge}
+use Rattle.load_model.specs.declared.load_segment.LoadSegment.{LoadSegment}
+use Rattle.load_model.specs.Segments.{address_of_offset}
 use Rattle.text_model.specs.Lines.{lines_of, ended_lines_of}
 use Rattle.text_model.specs.Fields.{fields_of}
 use Rattle.text_model.specs.Numbers.{number_of, prefixed_of}
 use Rattle.sample_model.specs.Line.{address_of, is_ip, entry_of, is_sample, is_well_formed, branches_of_line}
+use Rattle.sample_model.specs.declared.load.Load.{Load}
+use Rattle.sample_model.specs.Loads.{LoadLine, load_line_of, extent_of, offset_of, behind_at, name_in}
+use Rattle.sample_model.specs.Moves.{LoadMap, move_of, moved_ranges, branches_by, ranges_by}
 use Rattle.sample_model.specs.Samples.{ranges_between, branches_of, ranges_of}
 use Rattle.sample_model.specs.Judging.{cause_of_line, items_of_lines, judged_lines_of, first_bad_of_text, first_bad_of_piece, lines_before_bad}
 use Rattle.sample_model.specs.Limits.{max_text_bytes}
@@ -104,3 +110,71 @@ pieces = (refl, refl, refl, refl)
 lines_before : (lines_before_bad 1 (codes "#" ∷ codes "zz" ∷ codes "1" ∷ []) ≡ codes "#" ∷ []) × (lines_before_bad 1 (codes "#" ∷ codes "1" ∷ []) ≡ codes "#" ∷ codes "1" ∷ [])
 unfolding fields_of number_of prefixed_of address_of is_ip entry_of is_sample is_well_formed branches_of_line cause_of_line items_of_lines
 lines_before = (refl, refl)
+
+-- ---- load lines
+
+-- what is read of a load line: its addresses, its offset and its name
+told : List ℕ → Option (ℕ × ℕ × ℕ × List ℕ)
+told line = option_map (λ (l : LoadLine). (l.start, l.len, l.offset, l.name)) (load_line_of line)
+
+loads_as_perf_prints_them :
+    (told (codes "x 7 PERF_RECORD_MMAP2 7/7: [0x7f0000000000(0x1000) @ 0 08:02 5 0]: r-xp /bin/x") ≡ Some (0x7f0000000000, 0x1000, 0, codes "/bin/x"))
+    × (told (codes "app 811/812  5.25: PERF_RECORD_MMAP2 811/811: [0x55e000001000(0x2000) @ 0x1000 fd:01 917 3019]: r-xp /opt/a b ") ≡ Some (0x55e000001000, 0x2000, 0x1000, codes "/opt/a b "))
+    × (told (codes "PERF_RECORD_MMAP2  a b:\t[0x10(0x0)\t@ 0x0 ]: r \t//anon\r") ≡ Some (0x10, 0, 0, codes "//anon\r"))
+unfolding told load_line_of extent_of offset_of behind_at name_in address_of prefixed_of number_of
+loads_as_perf_prints_them = (refl, refl, refl)
+
+no_load_lines :
+    (told (codes "#PERF_RECORD_MMAP2 7/7: [0x1(0x1) @ 0 ]: r /x") ≡ None)
+    × (told (codes "PERF_RECORD_MMAP 7/7: [0x1(0x1) @ 0 ]: r /x") ≡ None)
+    × (told (codes "PERF_RECORD_MMAP2 7/7 [0x1(0x1) @ 0 ]: r /x") ≡ None)
+    × (told (codes "PERF_RECORD_MMAP2 7/7: x [0x1(0x1) @ 0 ]: r /x") ≡ None)
+    × (told (codes "PERF_RECORD_MMAP2 7/7: [1(0x1) @ 0 ]: r /x") ≡ None)
+    × (told (codes "PERF_RECORD_MMAP2 7/7: [0x1(0x1 @ 0 ]: r /x") ≡ None)
+    × (told (codes "PERF_RECORD_MMAP2 7/7: [0x1(0x1)) @ 0 ]: r /x") ≡ None)
+    × (told (codes "PERF_RECORD_MMAP2 7/7: [0x1(0x1) 0 ]: r /x") ≡ None)
+    × (told (codes "PERF_RECORD_MMAP2 7/7: [0x1(0x1) @ 00 ]: r /x") ≡ None)
+    × (told (codes "PERF_RECORD_MMAP2 7/7: [0x1(0x1) @ 0x10000000000000000 ]: r /x") ≡ None)
+    × (told (codes "PERF_RECORD_MMAP2 7/7: [0x1(0x1) @ 0 ] r /x") ≡ None)
+    × (told (codes "PERF_RECORD_MMAP2 7/7: [0x1(0x1) @ 0 ]: r \t") ≡ None)
+unfolding told load_line_of extent_of offset_of behind_at name_in address_of prefixed_of number_of
+no_load_lines = (refl, refl, refl, refl, refl, refl, refl, refl, refl, refl, refl, refl)
+
+-- The first place of the mark counts, and what it does not go on to is no load line.
+first_mark : told (codes "PERF_RECORD_MMAP2 x PERF_RECORD_MMAP2 7/7: [0x1(0x1) @ 0 ]: r /x") ≡ Some (1, 1, 0, codes "/x")
+unfolding told load_line_of extent_of offset_of behind_at name_in address_of prefixed_of number_of
+first_mark = refl
+
+-- ---- moves
+
+load : ℕ → ℕ → ℕ → Bool → Load
+load start len offset is_wanted = record { start = start; len = len; offset = offset; is_wanted = is_wanted }
+
+segments : List LoadSegment
+segments = record { offset = 0x1000; vaddr = 0x401000; size = 0x1000 } ∷ record { offset = 0; vaddr = 0; size = 0x2000 } ∷ []
+
+moves :
+    (move_of segments (load 0x5000 0x1000 0x1000 true ∷ []) 0x5034 ≡ Some 0x401034)
+    × (move_of segments (load 0x5000 0x1000 0x1000 true ∷ []) 0x6000 ≡ None)
+    × (move_of segments (load 0x5000 0x1000 0x800 true ∷ []) 0x5000 ≡ Some 0x800)
+    × (move_of segments (load 0x5000 0x9000 0 true ∷ []) 0x7000 ≡ None)
+    × (move_of segments (load 0x5000 0x1000 0x1000 true ∷ load 0x5800 1 0 false ∷ []) 0x5800 ≡ None)
+    × (move_of segments (load 0x5800 1 0 false ∷ load 0x5000 0x1000 0x1000 true ∷ []) 0x5800 ≡ Some 0x401800)
+    × (move_of segments [] 0x5000 ≡ None)
+unfolding load segments move_of address_of_offset
+moves = (refl, refl, refl, refl, refl, refl, refl)
+
+-- A program that was loaded, then one more, and foreign addresses; nothing is moved behind the sample.
+moved_text : List ℕ
+moved_text = codes "0x5004/0x5008\n1 PERF_RECORD_MMAP2 7/7: [0x5000(0x1000) @ 0x1000 08:02 5 0]: r-xp /bin/x\n0x5004/0x9 0x9/0x5000\n0x5034/0x5000 0x5020/0x5030\n"
+
+x_loaded : LoadMap
+x_loaded = record { name = codes "/bin/x"; segments = segments }
+
+moved_samples :
+    (branches_by (Some x_loaded) (lines_of moved_text) ≡ (0, 0) ∷ (0x401004, 0) ∷ (0, 0x401000) ∷ (0x401034, 0x401000) ∷ (0x401020, 0x401030) ∷ [])
+    × (ranges_by (Some x_loaded) (lines_of moved_text) ≡ (0x401000, 0x401004) ∷ (0x401030, 0x401034) ∷ [])
+    × (branches_by (Some (record x_loaded { name = codes "/bin/y" })) (lines_of moved_text) ≡ (0, 0) ∷ (0, 0) ∷ (0, 0) ∷ (0, 0) ∷ (0, 0) ∷ [])
+    × (ranges_by (Some (record x_loaded { name = codes "/bin/y" })) (lines_of moved_text) ≡ (0, 0) ∷ (0, 0) ∷ [])
+unfolding moved_text x_loaded segments lines_of fields_of number_of prefixed_of address_of is_ip entry_of is_sample branches_of_line load_line_of extent_of offset_of behind_at name_in move_of address_of_offset moved_ranges
+moved_samples = (refl, refl, refl, refl)

@@ -2,11 +2,16 @@
 //! sample, and which line of the text is its first bad one.
 //!
 //! The text is what `perf script -F ip,brstack` prints (perf-script(1), "brstack"). Definitions in
-//! `specs/`, with examples in `proofs/`, and laws about them as functions with an empty body.
+//! `specs/`, with examples in `proofs/`, and laws about them as functions with an empty body. The
+//! types of a load and of a pair of addresses that were counted stand here as well.
 #![tactic(auto)]
 
 mod laws;
+mod load;
+mod pair;
 
 pub use laws::{
     bad_places_stay, distinct_pairs_are_unique, distinct_pairs_ascend, entries_are_spelled,
 };
+pub use load::Load;
+pub use pair::Pair;

@@ -4,7 +4,7 @@ use Rattle.block_model.specs.declared.parts.Block.{Block}
 use Rattle.block_model.specs.declared.parts.Edge.{Edge}
 use Rattle.block_model.specs.declared.parts.Weight.TheVariants.{Unknown, Known}
 use Rattle.block_model.specs.Function.{unbounded}
-use Rattle.branch_stacks.specs.declared.pair.Pair.{Pair}
+use Rattle.sample_model.specs.declared.pair.Pair.{Pair}
 use Rattle.hit_model.specs.declared.ran_range.RanRange.{RanRange}
 use Rattle.weight_model.specs.Edges.{edge_weight}
 use Rattle.std.proofs.Common.{false}

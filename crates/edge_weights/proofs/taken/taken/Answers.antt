@@ -1,6 +1,6 @@
 use Rattle.std.proofs.Common.{rules, arith, ltb, ltb-true, ltb-false}
 use Rattle.std.proofs.lemmas.List.Sorted.{IsPartitionPoint-from_clause, IsPartitionedBy-ltb}
-use Rattle.branch_stacks.specs.declared.pair.Pair.{Pair}
+use Rattle.sample_model.specs.declared.pair.Pair.{Pair}
 use Rattle.edge_weights.proofs.TakenLemmas.{TakenSoFar-none, TakenSoFar-led, TakenSoFar-other, TakenSoFar-all, taken_below, taken_fits}
 use Rattle.edge_weights.proofs.taken.taken.Goals as goal
 use Rattle.edge_weights.proofs.taken.taken.Goals.{then-branches-next-2, else-branches-next-2}

@@ -1,6 +1,6 @@
 use Rattle.std.proofs.Common.{ap, arith, rules, ◌∙◌}
 use Rattle.std.proofs.lemmas.List.Sorted.{IsNonDecreasingBy-from_sort_by_key, sum_by-IsPermutation}
-use Rattle.branch_stacks.specs.declared.pair.Pair.{Pair}
+use Rattle.sample_model.specs.declared.pair.Pair.{Pair}
 use Rattle.hit_model.specs.Hits.{times_of}
 use Rattle.weight_model.specs.Edges.{taken}
 use Rattle.edge_weights.specs.Sampled.{branches_taken}

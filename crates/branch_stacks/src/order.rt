@@ -1,19 +1,8 @@
 ghost use Rattle.std.specs.Prelude.{IsPermutation, IsSorted, OnOk};
 ghost use Rattle.branch_stacks.specs.Pair.{pair_cmp};
 
+use sample_model::Pair;
 use std::alloc::AllocError;
-
-/// Two addresses, and how often they stand together.
-///
-/// Of a branch `from` is its source and `to` its target. Of a sampled range `from` is the first
-/// address that ran and `to` the last, both held. Pairs go by `from`, then by `to`, and last by
-/// `times`.
-#[derive(Clone, Copy, Debug, PartialEq, Eq, PartialOrd, Ord)]
-pub struct Pair {
-    pub from: u64,
-    pub to: u64,
-    pub times: u64,
-}
 
 /// Puts pairs into their order.
 pub(crate) fn sort_pairs(pairs: &mut Vec<Pair>) -> Result<(), AllocError>

@@ -1,0 +1,213 @@
+// What a text has told of the loads of a program, and the addresses that they move.
+ghost use Rattle.std.specs.Prelude.{◌≡◌, ◌++◌, ◌∷◌, [], Some, true, map, IfOk, IfSome, OnErr, OnOk, IsErrOf, ◌+◌, ◌<◌, ◌≤◌, length, vec_len, vec_capacity};
+ghost use Rattle.load_model.specs.Segments as loading;
+ghost use Rattle.sample_model.specs.Limits.{max_branches};
+ghost use Rattle.sample_model.specs.Line.{branches_of_line};
+ghost use Rattle.sample_model.specs.Loads.{loads_of};
+ghost use Rattle.sample_model.specs.Moves as moves;
+ghost use Rattle.branch_stacks.specs.Loads.{map_in, range_behind, AddsLine};
+ghost use Rattle.branch_stacks.specs.Tally.{total_of};
+
+use crate::counts::{Counts, CountsStop};
+use crate::load_line::load_line;
+use load_model::LoadSegment;
+use sample_model::Load;
+use std::alloc::{AllocError, Global};
+
+/// The loads that a text has told of so far, and what is needed to move the addresses of a program.
+#[derive(Debug, Drop)]
+pub(crate) struct Loads {
+    /// The name of the program's file in load lines.
+    pub name: Vec<u8>,
+    /// Its segments of code.
+    pub segments: Vec<LoadSegment>,
+    /// The loads, as the lines tell of them.
+    pub met: Vec<Load>,
+    /// The moved branches of one sample, newest first.
+    branches: Vec<(u64, u64)>,
+    /// The ranges between them.
+    ranges: Vec<(u64, u64)>,
+}
+
+impl Loads {
+    /// No loads yet, of a program whose file has this name and these segments of code.
+    pub fn new(alloc: Global, name: &[u8], segments: &[LoadSegment]) -> Result<Loads, AllocError>
+        ensures { IfOk result (λ loads. (loads.name.items ≡ name.now)
+            × (loads.segments.items ≡ segments.now) × (loads.met.items ≡ [])) }
+    {
+        Ok(Loads {
+            name: Vec::from_slice(alloc, name)?,
+            segments: Vec::from_slice(alloc, segments)?,
+            met: Vec::new(alloc),
+            branches: Vec::new(alloc),
+            ranges: Vec::new(alloc),
+        })
+    }
+
+    /// Counts the branches of a line and the ranges between them, moved by the loads that the lines
+    /// before it tell of, or takes the load that it tells of.
+    ///
+    /// # Errors
+    /// `TooMany` where the total would pass 2^32 - 1, and `NoMemory`. The counts are then as they
+    /// were.
+    pub fn count(
+        &mut self,
+        line: &[u8],
+        branches: &[(u64, u64)],
+        counts: &mut Counts,
+    ) -> Result<(), CountsStop>
+        requires { branches.now ≡ branches_of_line line.now }
+        ensures added { OnOk result
+            (AddsLine (Some (map_in self.old)) self.old.met.items counts.old counts.new line.now) }
+        ensures met { OnOk result (self.new.met.items
+            ≡ self.old.met.items ++ loads_of self.old.name.items (line.now ∷ [])) }
+        ensures same { OnOk result (map_in self.new ≡ map_in self.old) }
+        ensures fits { OnOk result (total_of counts.old + length branches.now ≤ max_branches) }
+        ensures too_many { IsErrOf result CountsStop.TooMany
+            → max_branches < total_of counts.old + length branches.now }
+        ensures err { OnErr result (counts.new ≡ counts.old) }
+    {
+        if branches.is_empty() {
+            self.meet(line)?;
+        }
+        self.move_branches(branches)?;
+        counts.add_sample(&self.branches, &self.ranges)
+    }
+
+    /// Takes the load that a line tells of, if it is a load line.
+    fn meet(&mut self, line: &[u8]) -> Result<(), AllocError>
+        ensures met { OnOk result (self.new.met.items
+            ≡ self.old.met.items ++ loads_of self.old.name.items (line.now ∷ [])) }
+        ensures same { map_in self.new ≡ map_in self.old }
+    {
+        if let Some(told) = load_line(line) {
+            self.met.push(Load {
+                start: told.start,
+                len: told.len,
+                offset: told.offset,
+                is_wanted: told.name == self.name.as_slice(),
+            })?;
+        }
+        Ok(())
+    }
+
+    /// Moves the branches of a sample, newest first, and makes the ranges between them.
+    fn move_branches(&mut self, branches: &[(u64, u64)]) -> Result<(), AllocError>
+        ensures branches { OnOk result (let moved = map
+            (moves.moved_branch self.old.segments.items self.old.met.items) branches.now in
+            (self.new.branches.items ≡ map moves.counted_branch moved)
+            × (self.new.ranges.items ≡ moves.moved_ranges moved)) }
+        ensures same { (map_in self.new ≡ map_in self.old)
+            × (self.new.met.items ≡ self.old.met.items) }
+    {
+        self.branches.clear();
+        self.ranges.clear();
+        self.branches.try_reserve(branches.len())?;
+        self.ranges.try_reserve(branches.len())?;
+        let mut newer = None;
+        for &(from, to) in branches {
+            let source = self.move_of(from);
+            let target = self.move_of(to);
+            push_range(&mut self.ranges, target, newer);
+            self.branches.push_reserved((or_0(source), or_0(target)));
+            newer = Some(source);
+        }
+        Ok(())
+    }
+
+    /// The address of the program that ran at an address, unless that is foreign.
+    #[tactic(auto, unfolding(sample_model::specs::Moves::move_of))]
+    fn move_of(&self, address: u64) -> Option<u64>
+        ensures { result ≡ moves.move_of self.now.segments.items self.now.met.items address }
+    {
+        let load = self.last_load(address)?;
+        if !load.is_wanted {
+            return None;
+        }
+        let offset = u128::from(address - load.start) + u128::from(load.offset);
+        address_of_offset(&self.segments, offset)
+    }
+
+    /// The last load that holds an address.
+    fn last_load(&self, address: u64) -> Option<Load>
+        ensures last { result ≡ moves.last_load self.now.met.items address }
+        ensures holds { IfSome result (λ load. load.start ≤ address) }
+    {
+        let mut rest = self.met.as_slice();
+        while let Some((load, before)) = rest.split_last() {
+            if holds(load, address) {
+                return Some(*load);
+            }
+            rest = before;
+        }
+        None
+    }
+}
+
+/// Whether an address is one of those that were loaded.
+fn holds(load: &Load, address: u64) -> bool
+    ensures value { result ≡ moves.holds address load.now }
+    ensures start { result ≡ true → load.now.start ≤ address }
+{
+    load.start <= address && address - load.start < load.len
+}
+
+/// The address at which the byte at an offset in the file is loaded: in the first segment that has
+/// it.
+#[tactic(auto, unfolding(load_model::specs::Segments::address_of_offset))]
+fn address_of_offset(segments: &[LoadSegment], offset: u128) -> Option<u64>
+    ensures { result ≡ loading.address_of_offset segments.now offset }
+{
+    for segment in segments {
+        if has_offset(segment, offset) {
+            return address_in(segment, offset);
+        }
+    }
+    None
+}
+
+/// Whether a segment has an offset.
+fn has_offset(segment: &LoadSegment, offset: u128) -> bool
+    ensures { result ≡ loading.has_offset offset segment.now }
+{
+    let start = u128::from(segment.offset);
+    start <= offset && offset - start < u128::from(segment.size)
+}
+
+/// The address of an offset that a segment has, if it fits 64 bits.
+fn address_in(segment: &LoadSegment, offset: u128) -> Option<u64>
+    requires { segment.now.offset ≤ offset }
+    ensures { result ≡ loading.address_in offset segment.now }
+{
+    let behind = offset - u128::from(segment.offset);
+    let address = u128::from(segment.vaddr).checked_add(behind)?;
+    u64::try_from(address).ok()
+}
+
+/// A foreign address counts as 0.
+fn or_0(address: Option<u64>) -> u64
+    ensures { result ≡ moves.or_0 address }
+{
+    address.unwrap_or(0)
+}
+
+/// Adds the range from a target to the source of the newer branch, where there is one.
+fn push_range(ranges: &mut Vec<(u64, u64)>, target: Option<u64>, newer: Option<Option<u64>>)
+    requires { vec_len ranges.old < vec_capacity ranges.old }
+    ensures pushed { ranges.new.items ≡ ranges.old.items ++ range_behind newer target }
+    ensures capacity { vec_capacity ranges.new ≡ vec_capacity ranges.old }
+{
+    if let Some(source) = newer {
+        ranges.push_reserved(range(target, source));
+    }
+}
+
+/// The range from one moved address to another, which is from 0 to 0 where one of them is foreign.
+fn range(lo: Option<u64>, hi: Option<u64>) -> (u64, u64)
+    ensures { result ≡ moves.range_from lo hi }
+{
+    match (lo, hi) {
+        (Some(lo), Some(hi)) => (lo, hi),
+        _ => (0, 0),
+    }
+}

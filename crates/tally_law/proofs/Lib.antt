@@ -1,2 +1,3 @@
 mod Examples
+pub mod OrderLemmas
 pub mod TallyLemmas

@@ -3,7 +3,7 @@ use Rattle.std.proofs.Common.{◌≡◌, ℕ, zero, suc, ◌+◌, ◌≤◌, Boo
 use Rattle.std.specs.Prelude.{count_by, filter, sum_by}
 use Rattle.std.proofs.lemmas.Bool.{cases_Bool}
 use Rattle.std.proofs.lemmas.List.Sums.{sum_by-cons}
-use Rattle.branch_stacks.specs.declared.pair.Pair.{Pair}
+use Rattle.sample_model.specs.declared.pair.Pair.{Pair}
 use Rattle.branch_stacks.specs.Table.{pair_of, times_in}
 use Rattle.sample_model.specs.Pairs.{same_pair}
 use Rattle.sample_model.proofs.PairLemmas.{same_pair-refl, same_pair-equal}

@@ -1,8 +1,8 @@
 -- The units, one by one.
-use Rattle.std.proofs.Common.{◌≡◌, ℕ, ◌+◌, ◌<◌, ◌≤◌, Bool, false, cond, nat_lt, List, length, take, drop, Option, None, Result, Ok, Err, refl, sym, ap, subst, ◌∙◌, arith}
+use Rattle.std.proofs.Common.{◌≡◌, ℕ, ◌+◌, ◌<◌, ◌≤◌, ◌^◌, Bool, false, cond, nat_lt, List, length, take, drop, Option, None, Result, Ok, Err, refl, sym, ap, subst, ◌∙◌, arith}
 use Rattle.std.specs.Result.{IsErrAnd}
 use Rattle.std.proofs.lemmas.Bool.{le-ltb}
-use Rattle.std.proofs.lemmas.List.{length-append}
+use Rattle.std.proofs.lemmas.List.{length-append, length-take}
 use Rattle.byte_view.specs.declared.fault.ViewFault.{ViewFault}
 use Rattle.byte_view.specs.declared.fault.ViewFault.TheVariants.{Short}
 use Rattle.byte_view.specs.declared.part.Part.{Part}
@@ -22,10 +22,9 @@ use Rattle.dwarf_info.specs.declared.rows.SoFar.{SoFar}
 use Rattle.dwarf_info.specs.declared.units.Extent.{Extent}
 use Rattle.dwarf_info.specs.Entries.{all_of, IsWhole}
 use Rattle.dwarf_info.specs.Units.{units_of, extent_of, IsRead, IsReadTo, ReadsUnit, ReadsNext, SkipsUnit}
-use Rattle.entry_model.proofs.OrderLemmas.{entries-in_order}
-use Rattle.dwarf_info.specs.Rows.{Ascend}
+use Rattle.entry_model.proofs.OrderLemmas.{entries-in_order, units-share_entries}
+use Rattle.dwarf_info.specs.Kept.{AreKept}
 use Rattle.dwarf_info.proofs.EntryLemmas.{stopped}
-use Rattle.dwarf_info.proofs.FoundLemmas.{rows-ascend}
 
 skipped-is : (old new : SoFar) (extent : Extent) → SkipsUnit old new extent → units_of new ≡ model.with_skipped (extent_of extent) (units_of old)
 skipped-is old new extent skips =
@@ -137,12 +136,31 @@ UnitsSoFar-end section start so_far cur on none =
     let is = GoesOn-end (step_if_left (model.next_unit section)) _ _ cur cur on.on (step_if_left-none (model.next_unit section) _ cur none) in
     (ap refused_at is, (cur, is))
 
--- the entries of all units stand in order
-pub UnitsSoFar-order : (section : Option Cursor) (start : Cursor) (so_far : SoFar) (cur : Cursor) → UnitsSoFar section start so_far cur → length cur.left ≡ 0 → Ascend so_far.entries.rows.items
-UnitsSoFar-order section start so_far cur on none =
-    let end = UnitsSoFar-end section start so_far cur on none in
-    let order = entries-in_order section start end.1.0 (units_of so_far) end.1.1 in
-    rows-ascend so_far.entries.found.items so_far.entries.rows.items order.ascending
+-- what holds of all units
+pub UnitsSoFar-kept : (section : Option Cursor) (part : Part) (so_far : SoFar) (cur : Cursor) → part.len ≤ 2 ^ 30 → part.at + part.len ≤ 2 ^ 64
+    → UnitsSoFar section (start_of part) so_far cur → length cur.left ≡ 0 → AreKept (units_of so_far)
+UnitsSoFar-kept section part so_far cur short fits on none =
+    let end = UnitsSoFar-end section (start_of part) so_far cur on none in
+    let order = entries-in_order section (start_of part) end.1.0 (units_of so_far) end.1.1 in
+    let shared = units-share_entries section (start_of part) end.1.0 (units_of so_far) end.1.1 in
+    let long = length-take part.len (drop part.at part.file.now) in
+    record {
+      ascending = order.ascending;
+      within = λ k d within. let before = (order.within k d within).1 in omega (arith, before, long, fits);
+      few_units = omega (arith, on.few, long, short);
+      few_entries = shared.1;
+      shared = shared.0;
+    }
+
+-- no units
+pub kept-none : AreKept model.no_units
+kept-none = record {
+  ascending = λ i j d less within. absurd (omega (arith, within));
+  within = λ k d within. absurd (omega (arith, within));
+  few_units = omega arith;
+  few_entries = omega arith;
+  shared = refl;
+}
 
 bad : (section : Option Cursor) (start : Cursor) (old new : SoFar) (cur next : Cursor) (why : Stop) → UnitsSoFar section start old cur → 0 < length cur.left
     → ReadsNext (Err why) old new next (model.next_unit section (units_of old) cur)

@@ -1,5 +1,6 @@
 pub mod Entries
 pub mod Found
+pub mod Kept
 pub mod Rows
 pub mod Told
 pub mod Units

@@ -136,22 +136,25 @@ pub struct Units<'a> {
 impl<'a> Model for Units<'a> {
     ghost use Rattle.unit_model.specs.Units.{Units};
     ghost use Rattle.dwarf_info.specs.Entries.{IsWhole};
-    ghost use Rattle.dwarf_info.specs.Rows.{Ascend};
+    ghost use Rattle.dwarf_info.specs.Kept.{AreKept};
     ghost use Rattle.dwarf_info.specs.Units.{units_of};
 
     ghost Value = { Units };
 
     ghost view = { λ u. units_of u.so_far };
 
-    ghost invariant = { λ u. IsWhole u.so_far.entries × Ascend u.so_far.entries.rows.items };
+    ghost invariant = { λ u. IsWhole u.so_far.entries × AreKept (units_of u.so_far) };
 }
 
 impl<'a> Units<'a> {
     ghost use Rattle.dwarf_info.specs.Found.{FindsEntry};
+    ghost use Rattle.dwarf_info.specs.Kept.{AreKept};
 
-    /// The units that are read, in their order.
+    /// The units that are read, in their order. They are at most 2^30, and have at most 2^24
+    /// entries together.
     pub fn units(&self) -> &[Unit]
-        ensures { result.now ≡ self.now.units }
+        ensures units { result.now ≡ self.now.units }
+        ensures kept { AreKept self.now }
     {
         &self.so_far.units
     }

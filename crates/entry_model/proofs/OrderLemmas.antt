@@ -1,10 +1,11 @@
 -- Cursors go forward, and entries stand where they went.
 use Rattle.std.proofs.Common.{◌≡◌, ℕ, zero, suc, ◌+◌, ◌-◌, ◌<◌, ◌≤◌, Bool, true, false, cond, nat_le, nat_lt, List, [], ◌∷◌, ◌++◌, length, take, drop, Option, None, Some, Ok, Err, refl, sym, ap, subst, ◌∙◌, arith}
-use Rattle.std.specs.Prelude.{◌==◌, ◌||◌, not, All, AllPairs}
+use Rattle.std.specs.Prelude.{◌==◌, ◌||◌, not, sum_by, All, AllPairs}
 use Rattle.std.proofs.lemmas.Bool.Decides.{nat_tests}
 use Rattle.std.proofs.lemmas.List.{append-nil, length-append, length-drop, length-take}
 use Rattle.std.proofs.lemmas.List.Kept.{AllPairs-cons}
 use Rattle.std.proofs.lemmas.List.Elements.{All-cons}
+use Rattle.std.proofs.lemmas.List.Sums.{sum_by_push}
 use Rattle.byte_view.specs.Cursor.{Cursor, Passes}
 use Rattle.refusal.specs.declared.kind.Kind.{Kind}
 use Rattle.placed_view.specs.Reader.{Read, Reader, behind, gives, refuse, refuse_if, told_as, refused_as, elsewhere, piece_of, cursor_behind, within, field, uleb}
@@ -15,9 +16,9 @@ use Rattle.abbrev_model.specs.Abbrev.{Abbrev}
 use Rattle.abbrev_model.specs.Table.{table}
 use Rattle.unit_model.specs.Entries.{Entry, InUnit, entries, max_entries}
 use Rattle.unit_model.specs.Header.{Header, long_length, short_length, sized, unit_length, leads_into, abbrevs_at, address_size, header_4, is_read_type, header_5_behind, header_5, other_version, header_of_version, header}
-use Rattle.unit_model.specs.Units.{Units, no_units, Extent, with_skipped, with_unit, unit_behind, some_unit, unit_body, next_unit, units}
+use Rattle.unit_model.specs.Units.{Unit as UnitRead, Units, no_units, Extent, with_skipped, with_unit, unit_behind, some_unit, unit_body, next_unit, units}
 use Rattle.entry_model.specs.Entries.{SpellsEntry, SpellsEntries, no_entry, level_closed, entry_first}
-use Rattle.entry_model.specs.Laws.{EntriesStandInOrder}
+use Rattle.entry_model.specs.Laws.{EntriesStandInOrder, UnitsShareEntries}
 use Rattle.entry_model.specs.Order.{AreInOrder}
 use Rattle.entry_model.proofs.CursorLemmas.{same_pair, reads_field, Split, split, Unless, unless}
 use Rattle.entry_model.proofs.EntryLemmas.{entries-read}
@@ -229,32 +230,46 @@ forward_header wide section old new x e =
 
 -- ---- units
 
--- The entries of some units, all of them between two offsets.
+-- How many entries are the units' own.
+abbrev total : Units → ℕ
+total told = sum_by (λ (unit : UnitRead). unit.count) told.units
+
+-- The entries of some units, all of them between two offsets, and each of one unit.
 record InOrder (from to : ℕ) (told : Units) : Type 0 where
   between : Between from to told.entries
+  shared : total told ≡ length told.entries
   few : length told.entries ≤ max_entries
 
 -- A unit adds entries between where its cursor stood and where it stands.
 record Adds (before told : Units) (old new : Cursor) : Type 0 where
   own : List Entry
   joined : told.entries ≡ before.entries ++ own
+  shared : total told ≡ total before + length own
   between : Between old.at new.at own
   forward : Forward old new
   few : length told.entries ≤ max_entries
 
-adds_none : (before told : Units) (old new : Cursor) → length before.entries ≤ max_entries → told.entries ≡ before.entries → Forward old new → Adds before told old new
-adds_none before told old new room same f = record {
+adds_none : (before told : Units) (old new : Cursor) → length before.entries ≤ max_entries → told.entries ≡ before.entries → told.units ≡ before.units → Forward old new → Adds before told old new
+adds_none before told old new room same units f = record {
   own = [];
   joined = same ∙ sym (append-nil before.entries);
+  shared = omega (arith, ap (λ (us : List UnitRead). sum_by (λ (unit : UnitRead). unit.count) us) units);
   between = f.places;
   forward = f;
   few = subst (λ (es : List Entry). length es ≤ max_entries) (sym same) room;
 }
 
+-- a unit's own entries are those behind the others
+pushed : (extent : Extent) (version : ℕ) (all : List Entry) (before : Units) (own : List Entry) → all ≡ before.entries ++ own → total (with_unit extent version all before) ≡ total before + length own
+pushed extent version all before own joined =
+    sum_by_push (λ (unit : UnitRead). unit.count) before.units _
+    ∙ ap (λ (n : ℕ). total before + n) (omega (arith, ap length joined, length-append before.entries own))
+
 behind_adds : (extent : Extent) (head : Option Header) (before told : Units) (old new : Cursor) → length before.entries ≤ max_entries → unit_behind extent head before old ≡ Ok (told, new) → Adds before told old new
 behind_adds extent None before told old new room e =
     let p = same_pair (with_skipped extent before) told old new e in
-    adds_none before told old new room (ap (λ (p : Units × Cursor). p.0.entries) (sym p)) (here old new (ap (λ (p : Units × Cursor). p.1) p))
+    adds_none before told old new room (ap (λ (p : Units × Cursor). p.0.entries) (sym p)) (ap (λ (p : Units × Cursor). p.0.units) (sym p))
+    (here old new (ap (λ (p : Units × Cursor). p.1) p))
 behind_adds extent (Some head) before told old new room e =
     let a = split (elsewhere head.abbrevs table old) _ told new e in
     let t = split (table head.abbrevs) _ a.value a.cur a.first in
@@ -267,6 +282,7 @@ behind_adds extent (Some head) before told old new room e =
     record {
       own = x.own;
       joined = sym all ∙ x.joined;
+      shared = ap (λ (p : Units × Cursor). total p.0) (sym p) ∙ pushed extent head.version b.value before x.own x.joined;
       between = subst (λ (c : Cursor). Between old.at c.at x.own) last (subst (λ (c : Cursor). Between c.at b.cur.at x.own) (sym stood) x.between);
       forward = on old a.cur new (here old a.cur stood) (on a.cur b.cur new x.forward (here b.cur new last));
       few = subst (λ (es : List Entry). length es ≤ max_entries) all x.few;
@@ -285,6 +301,7 @@ body_adds section extent size before told old new room e = go (size == 0) e
         record {
           own = b.own;
           joined = b.joined;
+          shared = b.shared;
           between = Between-wider a.cur.at old.at new.at new.at b.own f.places (omega arith) b.between;
           forward = on old a.cur new f b.forward;
           few = b.few;
@@ -311,6 +328,7 @@ unit_adds section before told old new room e =
     record {
       own = x.own;
       joined = sym all ∙ x.joined;
+      shared = ap (λ (p : Units × Cursor). total p.0) (sym p) ∙ x.shared;
       between = subst (λ (c : Cursor). Between old.at c.at x.own) last
           (Between-wider a.cur.at old.at b.cur.at (a.cur.at + size) x.own places (grind (arith, nat_tests)) x.between);
       forward = on old (cursor_behind size a.cur) new f (here (cursor_behind size a.cur) new last);
@@ -346,13 +364,20 @@ module _ (section : Option Cursor) where
           let a = unit_adds section before t.value old t.cur ok.few t.first in
           let joined : Between from t.cur.at t.value.entries =
           subst (λ (es : List Entry). Between from t.cur.at es) (sym a.joined) (Between-append from old.at t.cur.at before.entries a.own ok.between a.between) in
-          let l = later t.value t.cur (record { between = joined; few = a.few }) f in
+          let shared : total t.value ≡ length t.value.entries = omega (arith, a.shared, ok.shared, ap length a.joined, length-append before.entries a.own) in
+          let l = later t.value t.cur (record { between = joined; shared = shared; few = a.few }) f in
           (l.0, on old t.cur new a.forward l.1)
 
 pub entries-in_order : EntriesStandInOrder
 unfolding units
 entries-in_order section old new told e =
-    let r = steps_order section old.at (suc (length old.left)) no_units told old new (record { between = omega arith; few = omega arith }) e in
+    let r = steps_order section old.at (suc (length old.left)) no_units told old new (record { between = omega arith; shared = refl; few = omega arith }) e in
     let b = r.0.between in
     let wide = Between-wider old.at old.at new.at (old.at + length old.left) told.entries (omega arith) (let f = r.1.ends in omega (arith, f)) b in
     record { ascending = Between-pairs old.at (old.at + length old.left) told.entries wide; within = Between-all old.at (old.at + length old.left) told.entries wide }
+
+pub units-share_entries : UnitsShareEntries
+unfolding units
+units-share_entries section old new told e =
+    let r = steps_order section old.at (suc (length old.left)) no_units told old new (record { between = omega arith; shared = refl; few = omega arith }) e in
+    (r.0.shared, r.0.few)

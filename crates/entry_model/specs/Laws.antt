@@ -1,5 +1,5 @@
 -- What holds of readings and spellings.
-use Rattle.std.specs.Prelude.{◌≡◌, ◌≤◌, ℕ, ◌+◌, List, ◌++◌, length, Option, Ok}
+use Rattle.std.specs.Prelude.{◌≡◌, ◌≤◌, ℕ, ◌+◌, List, ◌++◌, length, sum_by, Option, Ok}
 use Rattle.byte_view.specs.Cursor.{Cursor}
 use Rattle.abbrev_model.specs.Abbrev.{Abbrev}
 use Rattle.abbrev_model.specs.Table.{table}
@@ -39,3 +39,9 @@ abbrev pub EntriesStandInOrder : Type 0
 EntriesStandInOrder =
     (section : Option Cursor) (old new : Cursor) (told : Units) → units section old ≡ Ok (told, new)
     → AreInOrder old.at (old.at + length old.left) told.entries
+
+-- Each entry is of one unit: the units' own are as many as there are. A file has no more than it can have.
+abbrev pub UnitsShareEntries : Type 0
+UnitsShareEntries =
+    (section : Option Cursor) (old new : Cursor) (told : Units) → units section old ≡ Ok (told, new)
+    → (sum_by (λ unit. unit.count) told.units ≡ length told.entries) × (length told.entries ≤ max_entries)

@@ -1,5 +1,5 @@
 // The readings and the spellings agree.
-ghost use Rattle.entry_model.specs.Laws.{EntriesStandInOrder, ReadEntriesAreSpelled, ReadTablesAreSpelled, SpelledEntriesAreRead, SpelledTablesAreRead};
+ghost use Rattle.entry_model.specs.Laws.{EntriesStandInOrder, ReadEntriesAreSpelled, ReadTablesAreSpelled, SpelledEntriesAreRead, SpelledTablesAreRead, UnitsShareEntries};
 
 /// What is read as a table is spelled so, no code stands in it twice, and it is not too long.
 pub fn read_tables_are_spelled()
@@ -27,4 +27,10 @@ pub fn spelled_entries_are_read()
 /// section.
 pub fn entries_stand_in_order()
     ensures { EntriesStandInOrder }
+{}
+
+/// The units that are read of `.debug_info` have as many entries together as there are, and these
+/// are not too many.
+pub fn units_share_entries()
+    ensures { UnitsShareEntries }
 {}

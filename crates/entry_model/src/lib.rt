@@ -11,5 +11,5 @@ mod laws;
 
 pub use laws::{
     entries_stand_in_order, read_entries_are_spelled, read_tables_are_spelled,
-    spelled_entries_are_read, spelled_tables_are_read,
+    spelled_entries_are_read, spelled_tables_are_read, units_share_entries,
 };

@@ -1,6 +1,6 @@
 use Rattle.std.proofs.Common.{◌<◌, ◌≡◌, length, drop, arith}
 use Rattle.std.proofs.lemmas.List.{length-take}
-use Rattle.dwarf_info.proofs.UnitLemmas.{UnitsSoFar-none, UnitsSoFar-more, UnitsSoFar-end, UnitsSoFar-order, UnitsSoFar-stop}
+use Rattle.dwarf_info.proofs.UnitLemmas.{UnitsSoFar-none, UnitsSoFar-more, UnitsSoFar-end, UnitsSoFar-kept, UnitsSoFar-stop}
 use Rattle.dwarf_info.proofs.units.read_section.Goals as goal
 
 pub loop-cur-init : goal.loop-cur-init
@@ -27,7 +27,7 @@ pub invariant_of-result : goal.invariant_of-result
 invariant_of-result c = (
   c.loop-cur.invariant.whole,
   let none : length c.loop-cur.cur.left ≡ 0 = omega (arith, c.loop-cur-test.false, c.left.ensures) in
-      UnitsSoFar-order _ _ c.loop-cur.so_far c.loop-cur.cur c.loop-cur.invariant none,
+      UnitsSoFar-kept _ c.args.part c.loop-cur.so_far c.loop-cur.cur c.requires (omega (arith, c.args.part.inside)) c.loop-cur.invariant none,
 )
 
 pub returns : goal.returns

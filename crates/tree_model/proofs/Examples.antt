@@ -1,5 +1,6 @@
 -- The functions and calls of a unit, in a file with one segment of code, from 0x401000 up to 0x403000.
-use Rattle.std.proofs.Common.{◌≡◌, ℕ, zero, suc, ◌+◌, false, List, [], ◌∷◌, length, None, Some, Result, Ok, Err, refl}
+use Rattle.std.proofs.Common.{◌≡◌, ℕ, zero, suc, ◌+◌, false, List, [], ◌∷◌, length, take, None, Some, Result, Ok, Err, refl}
+use Rattle.std.specs.Prelude.{reverse}
 use Rattle.refusal.specs.declared.kind.Kind.TheVariants.{BadReference, InlineTooDeep, NoSection}
 use Rattle.refusal.specs.declared.place.Place.{Place}
 use Rattle.refusal.specs.Place.{in_binary}
@@ -15,6 +16,7 @@ use Rattle.piece_model.specs.Pieces.{InUnit, pieces, spelled_ranges}
 use Rattle.way_model.specs.Way.{next_on_way, way}
 use Rattle.way_model.specs.Origin.{origin}
 use Rattle.tree_model.specs.Members.{Told}
+use Rattle.tree_model.specs.Depths.{calls_above}
 use Rattle.tree_model.specs.Frames.{SoFar, nothing}
 use Rattle.tree_model.specs.Tree.{Source, members, next_call, next_entries, next_entry, next_function, next_unit}
 
@@ -119,6 +121,10 @@ nested_function_behind : members (source entries)
     ≡ Ok (f ∷ g_in 12 1 0x401010 0x401020 ∷ g_in 13 0 0x401030 0x401038 ∷ h ∷ g_in 21 0 0x402004 0x402008 ∷ [])
 unfolding members next_unit next_entry next_function next_call pieces spelled_ranges is_live number_at address_of text_of origin way next_on_way base_address bases_of_unit root_of
 nested_function_behind = refl
+
+-- by the depths alone: the last entry stands below two calls, and no call of the outer function is one of the inner's
+depths_count_calls : (calls_above 4 (reverse (take 9 entries)) ≡ 2) × (calls_above 3 (reverse (take 6 entries)) ≡ 0)
+depths_count_calls = (refl, refl)
 
 -- the root's address is judged before all, a call's origin behind its pieces, and only where it has any
 bad_origin : members

@@ -1,1 +1,3 @@
+mod DepthLemmas
+mod DownLemmas
 mod Examples

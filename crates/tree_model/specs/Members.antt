@@ -1,5 +1,5 @@
 -- Functions and the calls inlined into them.
-use Rattle.std.specs.Prelude.{ℕ, zero, suc, ◌+◌, ◌%◌, ◌^◌, Bool, ◌==◌, List, [], ◌∷◌, ◌++◌, take, flat_map, Option, None, Some}
+use Rattle.std.specs.Prelude.{ℕ, ◌%◌, ◌^◌, Bool, ◌==◌, List, Option}
 use Rattle.std.specs.Option.{option_map_or}
 use Rattle.unit_model.specs.Entries.{Entry}
 use Rattle.unit_bases.specs.Bases.{attribute}

@@ -1,5 +1,5 @@
 -- The functions and inlined calls that the entries of a file tell of, and the first place at which one is bad.
-use Rattle.std.specs.Prelude.{ℕ, ◌+◌, nat_lt, if◌then◌else◌, List, [], ◌∷◌, ◌++◌, take, drop, length, Result, Ok, Err}
+use Rattle.std.specs.Prelude.{ℕ, ◌+◌, nat_lt, if◌then◌else◌, List, [], ◌∷◌, take, drop, length, Result, Ok, Err}
 use Rattle.refusal.specs.declared.kind.Kind.TheVariants.{InlineTooDeep}
 use Rattle.refusal.specs.declared.place.Place.{Place}
 use Rattle.refusal.specs.Place.{in_binary}
@@ -9,9 +9,9 @@ use Rattle.unit_model.specs.Units as model
 use Rattle.unit_bases.specs.Bases.{base_address, bases_of_unit}
 use Rattle.piece_model.specs.Pieces.{InUnit, and_then, pieces}
 use Rattle.way_model.specs.Way.{Info}
-use Rattle.way_model.specs.Origin.{Origin, origin}
+use Rattle.way_model.specs.Origin.{origin}
 use Rattle.tree_model.specs.Members.{Told, call_told, function_told, is_call, is_function}
-use Rattle.tree_model.specs.Frames.{Frame, SoFar, all_members, behind_call, behind_function, behind_other, behind_unit, frame_above, left_out, nothing, one_deeper, outside}
+use Rattle.tree_model.specs.Frames.{Frame, SoFar, all_members, behind_call, behind_function, behind_other, frame_above, left_out, nothing, one_deeper, outside}
 
 -- One step, and behind it the next, which knows what came of it.
 infixl 10 ◌>>=◌

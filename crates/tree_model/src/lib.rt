@@ -6,3 +6,7 @@
 //!
 //! Source: DWARF 5, sections 3.3.1 and 3.3.8.
 #![tactic(auto)]
+
+mod laws;
+
+pub use laws::{depths_are_by_entries, read_entries_go_down};

@@ -1,15 +1,14 @@
-ghost use Rattle.std.specs.Prelude.{◌≡◌, ◌≤◌, ◌^◌, length, sum_by, IfSome, IsTrue};
-ghost use Rattle.way_model.specs.Order.{AreInOrder};
-
 use crate::{Source, make};
 use byte_view::Part;
 use chain_model::Member;
-use dwarf_info::{Unit, Units, read_units};
+use dwarf_info::read_units;
 use dwarf_ranges::RangeParts;
 use dwarf_strings::Texts;
 use elf_sections::read;
 use key_types::{NameId, Names};
-use std::alloc::Global;
+use refusal::{Kind, Place, Stop};
+use std::alloc::{AllocError, Global};
+use std::test::Fail;
 
 // A file whose one segment is code from 0x401000 up to 0x401040.
 const FILE: &[u8; 120] = b"\x7fELF\x02\x01\x01\0\0\0\0\0\0\0\0\0\
@@ -29,6 +28,16 @@ const SAMPLE: &'static [u8] = &[
     0x00, 0x00, 0x00, 0x00, 0x10, 0x00, 0x00, 0x00, 0x0c, 0x00, 0x01, 0x00, 0x00,
 ];
 
+// Abbreviations up to 40, and a unit: a function with a call below a lexical block, with a function
+// that has a call of its own, and with a call that reaches behind it.
+const NESTED: &'static [u8] = b"\x01\x11\x01\0\0\x02\x2e\x01\x03\x08\x11\x01\x12\x0b\0\0\
+    \x03\x0b\x01\0\0\x04\x1d\0\x03\x08\x59\x0b\x11\x01\x12\x0b\0\0\x05\x1d\x01\0\0\0\
+    \x4c\0\0\0\x04\0\0\0\0\0\x08\x01\
+    \x02f\0\0\x10\x40\0\0\0\0\0\x30\
+    \x03\x04a\0\x0c\x10\x10\x40\0\0\0\0\0\x04\0\
+    \x02h\0\x20\x10\x40\0\0\0\0\0\x10\x04b\0\x15\x24\x10\x40\0\0\0\0\0\x04\0\
+    \x04c\0\x0d\x2c\x10\x40\0\0\0\0\0\x08\0\0";
+
 const NO_PARTS: RangeParts<'static> = RangeParts {
     ranges: None,
     rnglists: None,
@@ -40,57 +49,24 @@ const NO_PARTS: RangeParts<'static> = RangeParts {
     },
 };
 
-// The units of a section.
-fn read_parts<'a>(alloc: Global, info: Part<'a>, abbrev: Part<'_>) -> Option<Units<'a>>
-    ensures { IfSome result (λ units. AreInOrder units.entries) }
-{
-    if info.at > 1000 || info.len > 1000 {
-        return None;
-    }
-    match read_units(alloc, Some(info), Some(abbrev)) {
-        Ok(units) => Some(units),
-        Err(_) => None,
-    }
-}
-
-// The units of the sample.
-fn units(alloc: Global) -> Option<Units<'static>>
-    ensures { IfSome result (λ units. AreInOrder units.entries) }
-{
-    let file = SAMPLE;
-    if file.len() < 46 {
+// The members of a file's units, which stand behind its abbreviations from an offset on.
+fn members(alloc: Global, file: &[u8], at: usize) -> Option<Result<Vec<Member>, Stop>> {
+    if file.len() < at || file.len() > 1000 {
         return None;
     }
     let abbrev = Part {
         file,
         at: 0,
-        len: 46,
+        len: at,
     };
     let info = Part {
         file,
-        at: 46,
-        len: file.len() - 46,
+        at,
+        len: file.len() - at,
     };
-    read_parts(alloc, info, abbrev)
-}
-
-// Whether there is one unit, with few entries.
-fn is_small(units: &[Unit]) -> bool
-    ensures { IsTrue result
-        → (length units.now ≡ 1) × (sum_by (λ unit. unit.count) units.now ≤ 2 ^ 24) }
-{
-    match units {
-        [unit] => unit.count < 1000,
-        _ => false,
-    }
-}
-
-// The members of the sample.
-fn members(alloc: Global) -> Option<Vec<Member>> {
-    let units = units(alloc)?;
-    if !is_small(units.units()) {
+    let Ok(units) = read_units(alloc, Some(info), Some(abbrev)) else {
         return None;
-    }
+    };
     let Ok(elf) = read(FILE) else {
         return None;
     };
@@ -99,16 +75,16 @@ fn members(alloc: Global) -> Option<Vec<Member>> {
     };
     let source = Source {
         elf: &elf,
-        start: 46,
+        start: at,
         units: &units,
         parts: &NO_PARTS,
     };
-    make(alloc, &source, &mut names).ok()
+    Some(make(alloc, &source, &mut names))
 }
 
 #[test]
 fn a_call_stands_behind_its_function(rt: HostRuntime) {
-    let Some(members) = members(rt.alloc()) else {
+    let Some(Ok(members)) = members(rt.alloc(), SAMPLE, 46) else {
         panic!(rt; "not made");
     };
     let cases: [(u8, u32, u64, u64, u32, (u64, u64)); 2] = [
@@ -122,4 +98,53 @@ fn a_call_stands_behind_its_function(rt: HostRuntime) {
         assert_eq!(rt; (member.line, member.disc), (line, disc));
         assert_eq!(rt; member.pieces.as_slice(), [piece].as_slice());
     }
+}
+
+#[test]
+fn calls_are_of_the_nearest_function(rt: HostRuntime) {
+    let Some(Ok(members)) = members(rt.alloc(), NESTED, 40) else {
+        panic!(rt; "not made");
+    };
+    let cases: [(u8, u32, u64, (u64, u64)); 5] = [
+        (0, 0, 0, (0x40_1000, 0x40_1030)),
+        (1, 1, 12, (0x40_1010, 0x40_1014)),
+        (1, 4, 13, (0x40_102c, 0x40_1034)),
+        (0, 2, 0, (0x40_1020, 0x40_1030)),
+        (1, 3, 21, (0x40_1024, 0x40_1028)),
+    ];
+    assert_eq!(rt; members.len(), cases.len());
+    for (member, (depth, name, line, piece)) in members.iter().zip(cases) {
+        assert_eq!(rt; (member.depth, member.line), (depth, line));
+        assert_eq!(rt; member.name, Some(NameId(name)));
+        assert_eq!(rt; member.pieces.as_slice(), [piece].as_slice());
+    }
+}
+
+// The abbreviations of the nested sample, and a unit with so many calls, each in the one before.
+fn calls(alloc: Global, count: u8) -> Result<Vec<u8>, AllocError> {
+    let mut file = Vec::from_slice(alloc, &NESTED[..40])?;
+    let [low, high] = (u16::from(count) + 9).to_le_bytes();
+    file.extend_from_slice(&[low, high, 0, 0, 4, 0, 0, 0, 0, 0, 8, 1])?;
+    for _ in 0..=count {
+        file.push(5)?;
+    }
+    Ok(file)
+}
+
+#[test]
+fn the_256th_call_is_too_deep(rt: HostRuntime) -> Result<(), Fail> {
+    let deepest = calls(rt.alloc(), 254)?;
+    assert_eq!(rt;
+        members(rt.alloc(), &deepest, 40).map(|made| made.is_ok()),
+        Some(true)
+    );
+    let deeper = calls(rt.alloc(), 255)?;
+    let too_deep = Place {
+        file: 1,
+        at: 307,
+        kind: Kind::InlineTooDeep,
+    };
+    let found = members(rt.alloc(), &deeper, 40).and_then(|made| made.err());
+    assert_eq!(rt; found, Some(Stop::Refused(too_deep)));
+    Ok(())
 }

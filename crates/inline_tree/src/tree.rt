@@ -1,5 +1,5 @@
 // The units, one behind the other.
-ghost use Rattle.std.specs.Prelude.{◌≡◌, ◌+◌, ◌-◌, ◌<◌, ◌≤◌, ◌^◌, length, sum_by, OnOk};
+ghost use Rattle.std.specs.Prelude.{◌≡◌, ◌+◌, ◌-◌, ◌<◌, ◌≤◌, ◌^◌, length, OnOk};
 ghost use Rattle.std.specs.Result.{result_err};
 ghost use Rattle.refusal.specs.Place.{JudgesUnlessNoMemory};
 ghost use Rattle.way_model.specs.Order.{AreInOrder};
@@ -104,10 +104,7 @@ pub fn make<'a>(
     source: &Source<'a, '_>,
     names: &mut Names<'a>,
 ) -> Result<Vec<Member>, Stop>
-    requires order { AreInOrder source.now.units.now.entries }
-    requires units { length source.now.units.now.units ≤ 2 ^ 30 }
-    requires entries { sum_by (λ unit. unit.count) source.now.units.now.units ≤ 2 ^ 24 }
-    requires names { length names.old < 2 ^ 31 }
+    requires { length names.old < 2 ^ 31 }
     ensures { let told = members (source_of source.now) in
         JudgesUnlessNoMemory (result_err told) result (λ made. IsMadeOf names.new told made.items) }
 {

@@ -8,10 +8,10 @@ loop-place-init c = (UnitsSoFar-start (source_of c.args.source.now) c.units-unit
 
 pub returns-in_err-next_unit : goal.returns-in_err-next_unit
 returns-in_err-next_unit c =
-    UnitsSoFar-stop (source_of c.args.source.now) _ c.units-units.result.now _ _ _ _ _ _ _ _ _ c.units-units.ensures c.loop-place.invariant.0 c.loop-place-test.true
+    UnitsSoFar-stop (source_of c.args.source.now) _ c.units-units.result.now _ _ _ _ _ _ _ _ _ c.units-units.ensures.units c.loop-place.invariant.0 c.loop-place-test.true
     c.index-units-place.is c.in_err-next_unit.ensures.read c.from_residual.ensures.1
 
 pub returns : goal.returns
 returns c =
-    UnitsSoFar-end (source_of c.args.source.now) _ c.units-units.result.now _ _ _ _ c.units-units.ensures c.loop-place.invariant.0 c.loop-place-test.false
+    UnitsSoFar-end (source_of c.args.source.now) _ c.units-units.result.now _ _ _ _ c.units-units.ensures.units c.loop-place.invariant.0 c.loop-place-test.false
     c.in_ok-into_members.ensures

@@ -28,7 +28,7 @@ fn held(alloc: Global, frames: &[Span], inner: &[Span]) -> Result<Vec<Span>, NoM
     requires inner { AreDisjoint inner.now }
     ensures { IfOk result (λ made. made.items ≡ held_in frames.now inner.now) }
 {
-    let mut out = Vec::new(alloc);
+    let mut out = Vec::with_capacity(alloc, inner.len())?;
     let mut left = inner;
     for frame in frames {
         left = push_between(&mut out, left, frame.lo, frame.hi)?;

@@ -51,7 +51,7 @@ pub(crate) fn overlay(alloc: Global, above: &[Span], below: &[Span]) -> Result<V
     requires below { AreDisjoint below.now }
     ensures { IfOk result (λ spans. spans.items ≡ overlaid 0 above.now below.now) }
 {
-    let mut out = Vec::new(alloc);
+    let mut out = Vec::with_capacity(alloc, above.len() + below.len())?;
     let mut left = below;
     let mut from = 0;
     for span in above {

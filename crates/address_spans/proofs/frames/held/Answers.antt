@@ -9,7 +9,7 @@ none : Span
 none = record { lo = 0; hi = 0; owner = 0 }
 
 pub loop-frame-init : goal.loop-frame-init
-loop-frame-init c = HeldSoFar-none _ _ _ c.requires.frames c.requires.inner c.new-out.ensures.items
+loop-frame-init c = HeldSoFar-none _ _ _ c.requires.frames c.requires.inner c.in_ok-out.ensures.items
 
 pub loop-frame-preserved : goal.loop-frame-preserved
 unfolding none

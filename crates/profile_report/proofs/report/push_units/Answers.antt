@@ -1,0 +1,16 @@
+use Rattle.std.specs.Prelude.{codes}
+use Rattle.text_model.specs.Numbers.{decimal_text}
+use Rattle.profile_report.proofs.JoinLemmas.{joined5}
+use Rattle.profile_report.proofs.report.push_units.Goals as goal
+
+pub returns : goal.returns
+returns c =
+    rw (
+      c.in_ok-push.ensures.items,
+      c.in_ok-push_number-2.ensures.appended,
+      c.in_ok-extend_from_slice-2.ensures.items,
+      c.in_ok-push_number.ensures.appended,
+      c.in_ok-extend_from_slice.ensures.items,
+      c.from.ensures,
+      c.from-2.ensures,
+    ) (joined5 c.args.out.now.items (codes "# units read ") (decimal_text c.args.units.read) (codes " passed ") (decimal_text c.args.units.passed) (codes "\n"))

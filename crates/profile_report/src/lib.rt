@@ -1,0 +1,18 @@
+//! The report of a profile: what became of each sampled branch and range.
+//!
+//! `class_branches` and `class_ranges` say what each distinct branch and sampled range is. `write`
+//! counts the classes, lists what is unmapped with its reason, and tells how many units of the
+//! binary were read.
+#![tactic(auto)]
+
+mod branches;
+mod classed;
+mod line;
+mod ranges;
+mod report;
+#[cfg(test)]
+mod tests;
+mod unmapped;
+
+pub use classed::{Classed, class_branches, class_ranges};
+pub use report::{Units, write};

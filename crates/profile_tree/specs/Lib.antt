@@ -1,1 +1,7 @@
+pub mod Items
+pub mod Known
+pub mod Rows
+pub mod Said
+pub mod Steps
+pub mod Sums
 pub mod Told

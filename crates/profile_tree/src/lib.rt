@@ -2,11 +2,21 @@
 //! keys.
 //!
 //! The tree of functions and inlined calls is flat: a line knows its depth, and what belongs to a
-//! function or a call stands behind it, one deeper.
+//! function or a call stands behind it, one deeper. `build` makes it in one call from the parts of
+//! the program, the hits of its addresses, and what was called and entered.
 #![tactic(auto)]
 
+mod from_counts;
+mod head;
+mod items;
 mod line;
+mod lines;
+mod order;
+mod sums;
 mod tree;
 
+pub use from_counts::build;
+pub use head::Head;
 pub use line::{Line, Target};
+pub use target_lists::Call;
 pub use tree::Tree;

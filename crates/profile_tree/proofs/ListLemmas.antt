@@ -1,0 +1,367 @@
+-- Lists: what stands in them, sums over them, and their orders.
+use Rattle.std.proofs.Common.{◌≡◌, ◌⊎◌, ◌≤◌, ◌<◌, ℕ, zero, suc, ◌+◌, ◌==◌, Bool, true, false, cond, ◌&&◌, ◌||◌, List, [], ◌∷◌, ◌++◌, map, filter, length, get_or, sum_by, refl, sym, ap, subst, ◌∙◌, inl, inr, arith, add-zero, zero-add, IsPermutation, Contains}
+use Rattle.std.proofs.lemmas.Bool.{true≢false}
+use Rattle.std.proofs.lemmas.Bool.Decides.{nat_tests}
+use Rattle.std.proofs.lemmas.Cmp.{tied_itself}
+use Rattle.std.proofs.lemmas.List.{map-append}
+use Rattle.std.proofs.lemmas.List.Folds.{list_any-append}
+use Rattle.std.proofs.lemmas.List.Sorted.{Contains-permutation, IsPermutation-sym}
+use Rattle.std.proofs.lemmas.List.Sums.{sum_by-cons}
+use Rattle.std.specs.List.{AllByRecursion, flat_map, list_any, range_with_len}
+use Rattle.std.specs.declared.cmp.Ordering.{Ordering}
+use Rattle.std.specs.declared.cmp.Ordering.TheVariants.{Less, Equal, Greater}
+use Rattle.std.specs.Ordering.{is_eq, eq_by_cmp}
+use Rattle.profile_model.specs.Laws.{TellsApart, has}
+use Rattle.profile_model.specs.Orders.{ordered, placed, with_item}
+use Rattle.profile_model.specs.Ways.{beginnings}
+use Rattle.profile_model.proofs.OrderedLemmas.{ordered_is_in_order, only_ordered_is_in_order}
+
+-- tests
+pub and_first : (a b : Bool) → (a && b) ≡ true → a ≡ true
+and_first true b e = refl
+and_first false b e = e
+
+pub and_second : (a b : Bool) → (a && b) ≡ true → b ≡ true
+and_second true b e = e
+and_second false b e = absurd (true≢false (sym e))
+
+pub and_both : (a b : Bool) → a ≡ true → b ≡ true → (a && b) ≡ true
+and_both true b e f = f
+and_both false b e f = e
+
+pub bool_same : (a b : Bool) → (a ≡ true → b ≡ true) → (b ≡ true → a ≡ true) → a ≡ b
+bool_same true true f g = refl
+bool_same true false f g = sym (f refl)
+bool_same false true f g = g refl
+bool_same false false f g = refl
+
+pub bool_cases : (b : Bool) {P : Type 0} → (b ≡ true → P) → (b ≡ false → P) → P
+bool_cases true f g = f refl
+bool_cases false f g = g refl
+
+pub nat_same : (x y : ℕ) → (x == y) ≡ true → x ≡ y
+nat_same x y e = grind (arith, nat_tests)
+
+pub nat_refl : (x : ℕ) → (x == x) ≡ true
+nat_refl x = grind (arith, nat_tests)
+
+-- what stands in a list
+abbrev pub Among : {T : Type 0} → T → List T → Type 0
+Among x [] = ⊥
+Among x (y ∷ ys) = (x ≡ y) ⊎ Among x ys
+
+pub among_right : {T : Type 0} (x : T) (xs ys : List T) → Among x ys → Among x (xs ++ ys)
+among_right x [] ys h = h
+among_right x (y ∷ xs) ys h = inr (among_right x xs ys h)
+
+pub among_left : {T : Type 0} (x : T) (xs ys : List T) → Among x xs → Among x (xs ++ ys)
+among_left x [] ys h = absurd h
+among_left x (y ∷ xs) ys h = elim h as (λ _. (x ≡ y) ⊎ Among x (xs ++ ys)) [ inl e ↦ inl e | inr r ↦ inr (among_left x xs ys r) ]
+
+pub among_either : {T : Type 0} (x : T) (xs ys : List T) → Among x (xs ++ ys) → Among x xs ⊎ Among x ys
+among_either x [] ys h = inr h
+among_either x (y ∷ xs) ys h = elim h as (λ _. Among x (y ∷ xs) ⊎ Among x ys) [
+  | inl e ↦ inl (inl e)
+  | inr r ↦ elim (among_either x xs ys r) as (λ _. Among x (y ∷ xs) ⊎ Among x ys) [ inl l ↦ inl (inr l) | inr q ↦ inr q ]
+]
+
+pub among_map : {S T : Type 0} (f : S → T) (x : S) (xs : List S) → Among x xs → Among (f x) (map f xs)
+among_map f x [] h = absurd h
+among_map f x (y ∷ xs) h = elim h as (λ _. (f x ≡ f y) ⊎ Among (f x) (map f xs)) [ inl e ↦ inl (ap f e) | inr r ↦ inr (among_map f x xs r) ]
+
+pub among_map_back : {S T : Type 0} (f : S → T) (y : T) (xs : List S) → Among y (map f xs) → (x : S) × (Among x xs) × (y ≡ f x)
+among_map_back f y [] h = absurd h
+among_map_back {S} f y (x ∷ xs) h = elim h as (λ _. (z : S) × (Among z (x ∷ xs)) × (y ≡ f z)) [
+  | inl e ↦ (x, inl refl, e)
+  | inr r ↦ let b = among_map_back f y xs r in (b.0, inr b.1, b.2)
+]
+
+pub among_filter : {T : Type 0} (p : T → Bool) (x : T) (xs : List T) → p x ≡ true → Among x xs → Among x (filter p xs)
+among_filter p x [] t h = absurd h
+among_filter {T} p x (y ∷ xs) t h = elim h as (λ _. Among x (cond (p y) (y ∷ filter p xs) (filter p xs))) [
+  | inl e ↦ subst (λ b. Among x (cond b (y ∷ filter p xs) (filter p xs))) (sym t ∙ ap p e) (inl e)
+  | inr r ↦ elim (p y) as (λ b. Among x (cond b (y ∷ filter p xs) (filter p xs))) [ true ↦ inr (among_filter p x xs t r) | false ↦ among_filter p x xs t r ]
+]
+
+pub among_filter_back : {T : Type 0} (p : T → Bool) (x : T) (xs : List T) → Among x (filter p xs) → (p x ≡ true) × Among x xs
+among_filter_back p x [] h = absurd h
+among_filter_back p x (y ∷ xs) h =
+    elim (p y) as (λ b. p y ≡ b → Among x (cond b (y ∷ filter p xs) (filter p xs)) → (p x ≡ true) × Among x (y ∷ xs)) [
+      | true ↦ λ e g. elim g as (λ _. (p x ≡ true) × Among x (y ∷ xs)) [
+        | inl q ↦ (ap p q ∙ e, inl q)
+        | inr r ↦ let b = among_filter_back p x xs r in (b.0, inr b.1)
+      ]
+      | false ↦ λ _ g. let b = among_filter_back p x xs g in (b.0, inr b.1)
+    ] refl h
+
+pub all_among : {T : Type 0} (P : T → Type 0) (xs : List T) → ((x : T) → Among x xs → P x) → AllByRecursion P xs
+all_among P [] f = tt
+all_among P (x ∷ xs) f = (f x (inl refl), all_among P xs (λ y h. f y (inr h)))
+
+pub all_places : {T : Type 0} (P : T → Type 0) (xs : List T) → AllByRecursion P xs → (k : ℕ) (d : T) → k < length xs → P (get_or xs k d)
+all_places P [] all k d h = absurd (omega arith)
+all_places P (x ∷ xs) all zero d h = all.0
+all_places P (x ∷ xs) all (suc k) d h = all_places P xs all.1 k d (omega arith)
+
+pub among_all : {T : Type 0} (P : T → Type 0) (x : T) (xs : List T) → AllByRecursion P xs → Among x xs → P x
+among_all P x [] all h = absurd h
+among_all P x (y ∷ xs) all h = elim h as (λ _. P x) [ inl e ↦ subst P (sym e) all.0 | inr r ↦ among_all P x xs all.1 r ]
+
+among_place : {T : Type 0} (x : T) (xs : List T) → Among x xs → Contains xs x
+among_place x [] h = absurd h
+among_place {T} x (y ∷ xs) h = elim h as (λ _. Contains (y ∷ xs) x) [
+  | inl e ↦ (0, omega arith, sym e)
+  | inr r ↦ let b = among_place x xs r in (suc b.0, omega (arith, b.1), b.2)
+]
+
+place_among : {T : Type 0} (x : T) (xs : List T) (i : ℕ) → i < length xs → get_or xs i x ≡ x → Among x xs
+place_among x [] i h e = absurd (omega arith)
+place_among x (y ∷ xs) zero h e = inl (sym e)
+place_among x (y ∷ xs) (suc i) h e = inr (place_among x xs i (omega arith) e)
+
+pub among_permuted : {T : Type 0} (x : T) (xs ys : List T) → IsPermutation xs ys → Among x ys → Among x xs
+among_permuted x xs ys p h =
+    let there : Contains xs x = Contains-permutation ys xs x (IsPermutation-sym xs ys p) (among_place x ys h) in
+    place_among x xs there.0 there.1 there.2
+
+-- numbers from the first on
+pub among_range : (a n x : ℕ) → Among x (range_with_len a n) → (a ≤ x) × (x < a + n)
+among_range a zero x h = absurd h
+among_range a (suc n) x h = elim h as (λ _. (a ≤ x) × (x < a + suc n)) [
+  | inl e ↦ (omega arith, omega arith)
+  | inr r ↦ let b = among_range (a + 1) n x r in (omega (arith, b.0), omega (arith, b.1))
+]
+
+pub range_among : (a n x : ℕ) → a ≤ x → x < a + n → Among x (range_with_len a n)
+range_among a zero x h g = absurd (omega arith)
+range_among a (suc n) x h g = elim (here_or_further a x h) as (λ _. (x ≡ a) ⊎ Among x (range_with_len (a + 1) n)) [
+  | inl e ↦ inl e
+  | inr f ↦ inr (range_among (a + 1) n x f (omega arith))
+]
+  where
+    here_or_further : (a x : ℕ) → a ≤ x → (x ≡ a) ⊎ (a + 1 ≤ x)
+    here_or_further a x h = grind arith
+
+-- sums
+pub map_map : {R S T : Type 0} (f : S → T) (g : R → S) (xs : List R) → map f (map g xs) ≡ map (λ x. f (g x)) xs
+map_map f g [] = refl
+map_map f g (x ∷ xs) = ap (λ ys. f (g x) ∷ ys) (map_map f g xs)
+
+pub map_same : {S T : Type 0} (f g : S → T) (xs : List S) → AllByRecursion (λ x. f x ≡ g x) xs → map f xs ≡ map g xs
+map_same f g [] same = refl
+map_same f g (x ∷ xs) same = λ i. same.0 i ∷ map_same f g xs same.1 i
+
+pub filter_map : {S T : Type 0} (p : T → Bool) (f : S → T) (xs : List S) → filter p (map f xs) ≡ map f (filter (λ x. p (f x)) xs)
+filter_map p f [] = refl
+filter_map p f (x ∷ xs) =
+    elim (p (f x)) as (λ b. cond b (f x ∷ filter p (map f xs)) (filter p (map f xs)) ≡ map f (cond b (x ∷ filter (λ y. p (f y)) xs) (filter (λ y. p (f y)) xs))) [
+      | true ↦ ap (λ ys. f x ∷ ys) (filter_map p f xs)
+      | false ↦ filter_map p f xs
+    ]
+
+pub sum_map : {S T : Type 0} (f : T → ℕ) (g : S → T) (xs : List S) → sum_by f (map g xs) ≡ sum_by (λ x. f (g x)) xs
+sum_map f g [] = refl
+sum_map f g (x ∷ xs) = sum_by-cons f (g x) (map g xs) ∙ ap (λ n. f (g x) + n) (sum_map f g xs) ∙ sym (sum_by-cons (λ y. f (g y)) x xs)
+
+pub sum_filter : {T : Type 0} (f : T → ℕ) (p : T → Bool) (xs : List T) → sum_by f (filter p xs) ≡ sum_by (λ x. cond (p x) (f x) 0) xs
+sum_filter f p [] = refl
+sum_filter f p (x ∷ xs) =
+    elim (p x) as (λ b. sum_by f (cond b (x ∷ filter p xs) (filter p xs)) ≡ cond b (f x) 0 + sum_by (λ y. cond (p y) (f y) 0) xs) [
+      | true ↦ sum_by-cons f x (filter p xs) ∙ ap (λ n. f x + n) (sum_filter f p xs)
+      | false ↦ sum_filter f p xs ∙ sym (zero-add _)
+    ]
+    ∙ sym (sum_by-cons (λ y. cond (p y) (f y) 0) x xs)
+
+pub sum_same : {T : Type 0} (f g : T → ℕ) (xs : List T) → AllByRecursion (λ x. f x ≡ g x) xs → sum_by f xs ≡ sum_by g xs
+sum_same f g [] all = refl
+sum_same f g (x ∷ xs) all = sum_by-cons f x xs ∙ (λ i. all.0 i + sum_same f g xs all.1 i) ∙ sym (sum_by-cons g x xs)
+
+pub sum_none : {T : Type 0} (f : T → ℕ) (xs : List T) → AllByRecursion (λ x. f x ≡ 0) xs → sum_by f xs ≡ 0
+sum_none f [] all = refl
+sum_none f (x ∷ xs) all = sum_by-cons f x xs ∙ (λ i. all.0 i + sum_none f xs all.1 i)
+
+pub sum_at_most : {T : Type 0} (f g : T → ℕ) (xs : List T) → AllByRecursion (λ x. f x ≤ g x) xs → sum_by f xs ≤ sum_by g xs
+sum_at_most f g [] all = omega arith
+sum_at_most f g (x ∷ xs) all = omega (arith, sum_by-cons f x xs, sum_by-cons g x xs, all.0, sum_at_most f g xs all.1)
+
+pub part_of_sum : {T : Type 0} (f : T → ℕ) (x : T) (xs : List T) → Among x xs → f x ≤ sum_by f xs
+part_of_sum f x [] h = absurd h
+part_of_sum f x (y ∷ xs) h = elim h as (λ _. f x ≤ sum_by f (y ∷ xs)) [
+  | inl e ↦ omega (arith, sum_by-cons f y xs, ap f e)
+  | inr r ↦ omega (arith, sum_by-cons f y xs, part_of_sum f x xs r)
+]
+
+pub some_in_sum : {T : Type 0} (f : T → ℕ) (xs : List T) → 0 < sum_by f xs → (x : T) × (Among x xs) × (0 < f x)
+some_in_sum f [] h = absurd (omega arith)
+some_in_sum {T} f (x ∷ xs) h =
+    elim (zero_or_more (f x)) as (λ _. (y : T) × (Among y (x ∷ xs)) × (0 < f y)) [
+      | inl z ↦ let b = some_in_sum f xs (omega (arith, z, sum_by-cons f x xs)) in (b.0, inr b.1, b.2)
+      | inr m ↦ (x, inl refl, m)
+    ]
+  where
+    zero_or_more : (n : ℕ) → (n ≡ 0) ⊎ (0 < n)
+    zero_or_more n = grind arith
+
+-- one number of a range counts
+none_below : (f : ℕ → ℕ) (k a n : ℕ) → k < a → sum_by (λ j. cond (j == k) (f j) 0) (range_with_len a n) ≡ 0
+none_below f k a zero h = refl
+none_below f k a (suc n) h =
+    let other : (a == k) ≡ false = grind (arith, nat_tests) in
+    sum_by-cons (λ j. cond (j == k) (f j) 0) a (range_with_len (a + 1) n) ∙ (λ i. cond (other i) (f a) 0 + none_below f k (a + 1) n (omega arith) i)
+
+pub one_of_range : (f : ℕ → ℕ) (k a n : ℕ) → a ≤ k → k < a + n → sum_by (λ j. cond (j == k) (f j) 0) (range_with_len a n) ≡ f k
+one_of_range f k a zero h g = absurd (omega arith)
+one_of_range f k a (suc n) h g =
+    bool_cases (a == k)
+    (λ e.
+    let same : a ≡ k = nat_same a k e in
+    sum_by-cons (λ j. cond (j == k) (f j) 0) a (range_with_len (a + 1) n)
+    ∙ (λ i. cond (e i) (f (same i)) 0 + none_below f k (a + 1) n (omega arith) i) ∙ add-zero (f k))
+    (λ e.
+    let further : a + 1 ≤ k = grind (arith, nat_tests) in
+    sum_by-cons (λ j. cond (j == k) (f j) 0) a (range_with_len (a + 1) n)
+    ∙ (λ i. cond (e i) (f a) 0 + one_of_range f k (a + 1) n further (omega arith) i) ∙ zero-add (f k))
+
+-- lists in order
+with_item_map : {S T : Type 0} (cmp : T → T → Ordering) (f : S → T) (x : S) (xs : List S) → with_item cmp (f x) (map f xs) ≡ map f (with_item (λ a b. cmp (f a) (f b)) x xs)
+with_item_map cmp f x [] = refl
+with_item_map cmp f x (y ∷ xs) =
+    elim (cmp (f x) (f y)) as (λ r. placed r (f x) (f y) (map f xs) (with_item cmp (f x) (map f xs)) ≡ map f (placed r x y xs (with_item (λ a b. cmp (f a) (f b)) x xs))) [
+      | Less ↦ refl
+      | Equal ↦ refl
+      | Greater ↦ ap (λ more. f y ∷ more) (with_item_map cmp f x xs)
+    ]
+
+pub ordered_map : {S T : Type 0} (cmp : T → T → Ordering) (f : S → T) (xs : List S) → ordered cmp (map f xs) ≡ map f (ordered (λ a b. cmp (f a) (f b)) xs)
+ordered_map cmp f [] = refl
+ordered_map cmp f (x ∷ xs) = ap (with_item cmp (f x)) (ordered_map cmp f xs) ∙ with_item_map cmp f x (ordered (λ a b. cmp (f a) (f b)) xs)
+
+all_placed : {T : Type 0} (P : T → Type 0) (r : Ordering) (x y : T) (items more : List T) → P x → AllByRecursion P (y ∷ items) → AllByRecursion P more → AllByRecursion P (placed r x y items more)
+all_placed P Less x y items more px all m = (px, all)
+all_placed P Equal x y items more px all m = all
+all_placed P Greater x y items more px all m = (all.0, m)
+
+all_with_item : {T : Type 0} (P : T → Type 0) (cmp : T → T → Ordering) (x : T) (xs : List T) → P x → AllByRecursion P xs → AllByRecursion P (with_item cmp x xs)
+all_with_item P cmp x [] px all = (px, tt)
+all_with_item P cmp x (y ∷ xs) px all = all_placed P (cmp x y) x y xs (with_item cmp x xs) px all (all_with_item P cmp x xs px all.1)
+
+pub all_ordered : {T : Type 0} (P : T → Type 0) (cmp : T → T → Ordering) (xs : List T) → AllByRecursion P xs → AllByRecursion P (ordered cmp xs)
+all_ordered P cmp [] all = tt
+all_ordered P cmp (x ∷ xs) all = all_with_item P cmp x (ordered cmp xs) all.0 (all_ordered P cmp xs all.1)
+
+with_item_same : {T : Type 0} (P : T → Type 0) (c d : T → T → Ordering) → ((x y : T) → P x → P y → c x y ≡ d x y) → (x : T) (xs : List T) → P x → AllByRecursion P xs → with_item c x xs ≡ with_item d x xs
+with_item_same P c d same x [] px all = refl
+with_item_same P c d same x (y ∷ xs) px all = λ i. placed (same x y px all.0 i) x y xs (with_item_same P c d same x xs px all.1 i)
+
+pub ordered_same : {T : Type 0} (P : T → Type 0) (c d : T → T → Ordering) → ((x y : T) → P x → P y → c x y ≡ d x y) → (xs : List T) → AllByRecursion P xs → ordered c xs ≡ ordered d xs
+ordered_same P c d same [] all = refl
+ordered_same P c d same (x ∷ xs) all =
+    with_item_same P c d same x (ordered c xs) all.0 (all_ordered P c xs all.1) ∙ ap (with_item d x) (ordered_same P c d same xs all.1)
+
+-- lists with the same items are in order alike
+pub ordered_alike : {T : Type 0} (cmp : T → T → Ordering) → TellsApart cmp → (xs ys : List T) → ((z : T) → has cmp z xs ≡ has cmp z ys) → ordered cmp xs ≡ ordered cmp ys
+ordered_alike cmp t xs ys same =
+    let is = ordered_is_in_order cmp t xs in
+    only_ordered_is_in_order cmp t ys (ordered cmp xs) (record { ascending = is.ascending; same = λ z. is.same z ∙ same z })
+
+pub has_among : {T : Type 0} (cmp : T → T → Ordering) → TellsApart cmp → (x : T) (xs : List T) → has cmp x xs ≡ true → Among x xs
+has_among cmp t x [] e = true≢false (sym e)
+has_among cmp t x (y ∷ xs) e =
+    elim (cmp x y) as (λ r. cmp x y ≡ r → (is_eq r || has cmp x xs) ≡ true → Among x (y ∷ xs)) [
+      | Less ↦ λ _ g. inr (has_among cmp t x xs g)
+      | Equal ↦ λ q _. inl (t.apart x y q)
+      | Greater ↦ λ _ g. inr (has_among cmp t x xs g)
+    ] refl e
+
+pub among_has : {T : Type 0} (cmp : T → T → Ordering) → TellsApart cmp → (x : T) (xs : List T) → Among x xs → has cmp x xs ≡ true
+among_has cmp t x [] h = absurd h
+among_has cmp t x (y ∷ xs) h = elim h as (λ _. (eq_by_cmp cmp x y || has cmp x xs) ≡ true) [
+  | inl e ↦ ap (λ r. is_eq r || has cmp x xs) (ap (cmp x) (sym e) ∙ tied_itself t.total x)
+  | inr r ↦ elim (eq_by_cmp cmp x y) as (λ b. (b || has cmp x xs) ≡ true) [ true ↦ refl | false ↦ among_has cmp t x xs r ]
+]
+
+pub any_flat : {S T : Type 0} (p : T → Bool) (f : S → List T) (xs : List S) → list_any p (flat_map f xs) ≡ list_any (λ x. list_any p (f x)) xs
+any_flat p f [] = refl
+any_flat p f (x ∷ xs) = list_any-append p (f x) (flat_map f xs) ∙ ap (λ b. list_any p (f x) || b) (any_flat p f xs)
+
+pub any_map : {S T : Type 0} (p : T → Bool) (f : S → T) (xs : List S) → list_any p (map f xs) ≡ list_any (λ x. p (f x)) xs
+any_map p f [] = refl
+any_map p f (x ∷ xs) = ap (λ b. p (f x) || b) (any_map p f xs)
+
+pub any_among : {T : Type 0} (p : T → Bool) (xs : List T) → list_any p xs ≡ true → (x : T) × (Among x xs) × (p x ≡ true)
+any_among p [] e = absurd (true≢false (sym e))
+any_among {T} p (x ∷ xs) e =
+    elim (p x) as (λ b. p x ≡ b → (b || list_any p xs) ≡ true → (y : T) × (Among y (x ∷ xs)) × (p y ≡ true)) [
+      | true ↦ λ q _. (x, inl refl, q)
+      | false ↦ λ _ g. let b = any_among p xs g in (b.0, inr b.1, b.2)
+    ] refl e
+
+pub among_any : {T : Type 0} (p : T → Bool) (x : T) (xs : List T) → Among x xs → p x ≡ true → list_any p xs ≡ true
+among_any p x [] h e = absurd h
+among_any p x (y ∷ xs) h e = elim h as (λ _. (p y || list_any p xs) ≡ true) [
+  | inl q ↦ ap (λ b. b || list_any p xs) (ap p (sym q) ∙ e)
+  | inr r ↦ elim (p y) as (λ b. (b || list_any p xs) ≡ true) [ true ↦ refl | false ↦ among_any p x xs r e ]
+]
+
+-- items may be left out where others are told alike
+told_still : {S T : Type 0} (f : S → T) (xs ys zs rest : List S) → ((s : S) → Among s ys → Among (f s) (map f xs) ⊎ Among s zs) → (w : T) → Among w (map f (xs ++ (ys ++ rest))) → Among w (map f (xs ++ (zs ++ rest)))
+told_still f xs ys zs rest fewer w h =
+    let b = among_map_back f w (xs ++ (ys ++ rest)) h in
+    subst (λ v. Among v (map f (xs ++ (zs ++ rest)))) (sym b.2)
+    (elim (among_either b.0 xs (ys ++ rest) b.1) as (λ _. Among (f b.0) (map f (xs ++ (zs ++ rest)))) [
+      | inl l ↦ among_map f b.0 (xs ++ (zs ++ rest)) (among_left b.0 xs (zs ++ rest) l)
+      | inr r ↦ elim (among_either b.0 ys rest r) as (λ _. Among (f b.0) (map f (xs ++ (zs ++ rest)))) [
+        | inl y ↦ elim (fewer b.0 y) as (λ _. Among (f b.0) (map f (xs ++ (zs ++ rest)))) [
+          | inl m ↦
+              let c = among_map_back f (f b.0) xs m in
+              subst (λ v. Among v (map f (xs ++ (zs ++ rest)))) (sym c.2) (among_map f c.0 (xs ++ (zs ++ rest)) (among_left c.0 xs (zs ++ rest) c.1))
+          | inr z ↦ among_map f b.0 (xs ++ (zs ++ rest)) (among_right b.0 xs (zs ++ rest) (among_left b.0 zs rest z))
+        ]
+        | inr q ↦ among_map f b.0 (xs ++ (zs ++ rest)) (among_right b.0 xs (zs ++ rest) (among_right b.0 zs rest q))
+      ]
+    ])
+
+pub any_with_fewer : {S T : Type 0} (f : S → T) (p : T → Bool) (xs ys zs rest : List S) → ((s : S) → Among s ys → Among (f s) (map f xs) ⊎ Among s zs) → ((s : S) → Among s zs → Among s ys) → list_any p (map f (xs ++ (ys ++ rest))) ≡ list_any p (map f (xs ++ (zs ++ rest)))
+any_with_fewer f p xs ys zs rest fewer back =
+    bool_same (list_any p (map f (xs ++ (ys ++ rest)))) (list_any p (map f (xs ++ (zs ++ rest))))
+    (λ e. let one = any_among p (map f (xs ++ (ys ++ rest))) e in among_any p one.0 (map f (xs ++ (zs ++ rest))) (told_still f xs ys zs rest fewer one.0 one.1) one.2)
+    (λ e. let one = any_among p (map f (xs ++ (zs ++ rest))) e in among_any p one.0 (map f (xs ++ (ys ++ rest))) (told_still f xs zs ys rest (λ s h. inr (back s h)) one.0 one.1) one.2)
+
+-- beginnings
+map_cons : {S T : Type 0} (f : S → T) (s : S) (xs : List (List S)) → map (λ x. f s ∷ x) (map (map f) xs) ≡ map (map f) (map (λ x. s ∷ x) xs)
+map_cons f s [] = refl
+map_cons f s (x ∷ xs) = ap (λ ys. (f s ∷ map f x) ∷ ys) (map_cons f s xs)
+
+beginnings_map : {S T : Type 0} (f : S → T) (w : List S) → beginnings (map f w) ≡ map (map f) (beginnings w)
+beginnings_map f [] = refl
+beginnings_map f (s ∷ w) = ap (λ xs. (f s ∷ []) ∷ xs) (ap (map (λ x. f s ∷ x)) (beginnings_map f w) ∙ map_cons f s (beginnings w))
+
+pub all_beginnings_map : {S T : Type 0} (f : S → T) (ws : List (List S)) → flat_map beginnings (map (map f) ws) ≡ map (map f) (flat_map beginnings ws)
+all_beginnings_map f [] = refl
+all_beginnings_map f (w ∷ ws) =
+    (λ i. beginnings_map f w i ++ all_beginnings_map f ws i) ∙ sym (map-append (map f) (beginnings w) (flat_map beginnings ws))
+
+-- lists that are beginnings of lists of such items have at least one item, and all are such
+abbrev pub SomeAll : {T : Type 0} → (T → Type 0) → List T → Type 0
+SomeAll P [] = ⊥
+SomeAll P (x ∷ xs) = P x × AllByRecursion P xs
+
+some_all : {T : Type 0} (P : T → Type 0) (xs : List T) → SomeAll P xs → AllByRecursion P xs
+some_all P [] h = absurd h
+some_all P (x ∷ xs) h = h
+
+pub all_append : {T : Type 0} (P : T → Type 0) (xs ys : List T) → AllByRecursion P xs → AllByRecursion P ys → AllByRecursion P (xs ++ ys)
+all_append P [] ys all others = others
+all_append P (x ∷ xs) ys all others = (all.0, all_append P xs ys all.1 others)
+
+consed : {T : Type 0} (P : T → Type 0) (s : T) (xs : List (List T)) → P s → AllByRecursion (SomeAll P) xs → AllByRecursion (SomeAll P) (map (λ x. s ∷ x) xs)
+consed P s [] ps all = tt
+consed P s (x ∷ xs) ps all = ((ps, some_all P x all.0), consed P s xs ps all.1)
+
+beginnings_all : {T : Type 0} (P : T → Type 0) (w : List T) → AllByRecursion P w → AllByRecursion (SomeAll P) (beginnings w)
+beginnings_all P [] all = tt
+beginnings_all P (s ∷ w) all = ((all.0, tt), consed P s (beginnings w) all.0 (beginnings_all P w all.1))
+
+pub all_beginnings : {T : Type 0} (P : T → Type 0) (ws : List (List T)) → AllByRecursion (AllByRecursion P) ws → AllByRecursion (SomeAll P) (flat_map beginnings ws)
+all_beginnings P [] all = tt
+all_beginnings P (w ∷ ws) all = all_append (SomeAll P) (beginnings w) (flat_map beginnings ws) (beginnings_all P w all.0) (all_beginnings P ws all.1)

@@ -1,0 +1,12 @@
+use Rattle.std.proofs.Common.{subst, sym}
+use Rattle.hit_model.specs.Steps.{hits_by}
+use Rattle.key_counts.proofs.PlaceLemmas.{counts_are_those_of_places}
+use Rattle.profile_tree.specs.Said.{AreCountsOfPlaces}
+use Rattle.profile_tree.proofs.from_counts.build.Goals as goal
+
+pub returns-clause-counts : goal.returns-clause-counts
+returns-clause-counts c =
+    let segments = c.args.segments.now in
+    let hits = hits_by c.args.hits.now in
+    subst (AreCountsOfPlaces segments hits) (sym c.new-2.ensures)
+    (λ key low. counts_are_those_of_places segments hits key _ c.requires.segments (c.in_ok-counts.ensures.counts key low))

@@ -1,0 +1,74 @@
+-- The ways of a profile, by ranks.
+use Rattle.std.specs.Prelude.{ℕ, ◌==◌, Bool, ◌&&◌, nat_lt, List, [], ◌∷◌, ◌++◌, map, filter, length, slice_index}
+use Rattle.std.specs.List.{range_with_len}
+use Rattle.key_types.specs.declared.key.Key.{Key}
+use Rattle.profile_tree.specs.Steps.{NumberedStep, at_function, at_line, at_call, steps_at}
+use Rattle.profile_tree.specs.declared.head.Head.{Head}
+use Rattle.target_lists.specs.Pairs.{was_made}
+use Rattle.target_lists.specs.declared.pairs.Call.{Call}
+use Rattle.way_rows.specs.declared.item.Item.{Item}
+use Rattle.way_rows.specs.declared.item.Kind.TheVariants.{Function, Body, Call as Inlined}
+use Rattle.way_rows.specs.declared.item.Step.{Step}
+
+-- A step with the ranks of names: those of functions go by total, those of callees by name alone.
+abbrev pub ranked : List ℕ → List ℕ → NumberedStep → Step
+ranked by_total by_name (at_function name) =
+    record { kind = Function; offset = 0; disc = 0; rank = slice_index by_total name }
+ranked by_total by_name (at_line offset disc) = record { kind = Body; offset = offset; disc = disc; rank = 0 }
+ranked by_total by_name (at_call offset disc name) =
+    record { kind = Inlined; offset = offset; disc = disc; rank = slice_index by_name name }
+
+-- A way that is written, with the count and the number of a key.
+pub record Source : Type 0 where
+  pub way : List NumberedStep
+  pub count : ℕ
+  pub key : ℕ
+
+-- A key that has a count.
+abbrev pub of_count : List Key → List ℕ → ℕ → Source
+of_count keys counts id = record { way = steps_at keys id; count = slice_index counts id; key = id }
+
+-- A key that has a target, and no count.
+abbrev pub of_call : List Key → Call → Source
+of_call keys call = record { way = steps_at keys call.key.0; count = 0; key = call.key.0 }
+
+-- A function that was entered.
+abbrev pub of_head : Head → Source
+of_head head = record { way = at_function head.name.0 ∷ []; count = 0; key = 0 }
+
+abbrev pub has_count : List ℕ → ℕ → Bool
+has_count counts id = nat_lt 0 (slice_index counts id)
+
+-- A call that was made from a key without a count: a key with one has its way already.
+abbrev pub is_from_new : List ℕ → Call → Bool
+is_from_new counts call = was_made call && slice_index counts call.key.0 == 0
+
+abbrev pub was_entered : Head → Bool
+was_entered head = nat_lt 0 head.times
+
+abbrev pub counted : List Key → List ℕ → ℕ → List Source
+counted keys counts n = map (of_count keys counts) (filter (has_count counts) (range_with_len 0 n))
+
+abbrev pub called : List Key → List ℕ → List Call → List Source
+called keys counts calls = map (of_call keys) (filter (is_from_new counts) calls)
+
+abbrev pub entered : List Head → List Source
+entered heads = map of_head (filter was_entered heads)
+
+-- All ways that lead to a line: those of keys with counts, of other keys with targets, and of functions that were entered.
+abbrev pub sources : List Key → List ℕ → List Call → List Head → List Source
+sources keys counts calls heads = counted keys counts (length keys) ++ (called keys counts calls ++ entered heads)
+
+-- What an item tells.
+pub record Told : Type 0 where
+  pub way : List Step
+  pub count : ℕ
+  pub key : ℕ
+
+abbrev pub told_item : Item → Told
+told_item item = record { way = item.way.items; count = item.count; key = item.key }
+
+-- A source by ranks.
+abbrev pub ranked_source : List ℕ → List ℕ → Source → Told
+ranked_source by_total by_name source =
+    record { way = map (ranked by_total by_name) source.way; count = source.count; key = source.key }

@@ -1,0 +1,31 @@
+-- What was counted, as a profile says it.
+use Rattle.std.specs.Prelude.{◌<◌, ℕ, List, map, length, slice_index}
+use Rattle.std.specs.List.{range_with_len}
+use Rattle.key_counts.specs.Laws.{factor_by, place_by}
+use Rattle.key_types.specs.declared.key.Key.{Key}
+use Rattle.key_types.specs.declared.places.Seg.{Seg}
+use Rattle.profile_model.specs.Counts.{IsCount}
+use Rattle.profile_model.specs.Profile.{Profile}
+use Rattle.profile_model.specs.Ways.{Way}
+use Rattle.profile_tree.specs.Steps.{name_at, named, steps_at}
+use Rattle.profile_tree.specs.declared.head.Head.{Head}
+use Rattle.target_lists.specs.declared.pairs.Call.{Call}
+
+-- The way of the key of a number.
+abbrev pub way_at : List (List ℕ) → List Key → ℕ → Way
+way_at names keys id = map (named names) (steps_at keys id)
+
+-- Each key by its way, with its count; each call by the way of the key and the name of the function; each entry by the
+-- name of the function.
+abbrev pub said : List (List ℕ) → List Key → List ℕ → List Call → List Head → Profile
+said names keys counts calls heads = record {
+  counts = map (λ id. (way_at names keys id, slice_index counts id)) (range_with_len 0 (length keys));
+  calls = map (λ call. (way_at names keys call.key.0, name_at names call.callee.0, call.times)) calls;
+  heads = map (λ head. (name_at names head.name.0, head.times)) heads;
+}
+
+-- The counts of all keys, each at its number, where segments tell the place and the factor of an address.
+abbrev pub AreCountsOfPlaces : List Seg → (ℕ → ℕ) → List ℕ → Type 0
+AreCountsOfPlaces segments hits counts =
+    (key : ℕ) → key < length counts
+    → IsCount (place_by segments) hits (factor_by segments) key (slice_index counts key)

@@ -1,0 +1,113 @@
+// A profile, from what was counted.
+ghost use Rattle.std.specs.Prelude.{◌≡◌, ◌<◌, ◌^◌, ℕ, All, IfOk, length, map};
+ghost use Rattle.hit_model.specs.Steps.{hits_by};
+ghost use Rattle.key_counts.specs.Segments.{AllFit, AreSegments};
+ghost use Rattle.key_types.specs.Numbers.{IsNumbered};
+ghost use Rattle.profile_model.specs.Profile.{lines_of};
+ghost use Rattle.profile_tree.specs.Known.{HasNames, IsGiven};
+ghost use Rattle.profile_tree.specs.Said.{AreCountsOfPlaces, said};
+ghost use Rattle.profile_tree.specs.Sums.{calls_of, entries_of};
+ghost use Rattle.profile_tree.specs.Told.{IsOf, told};
+
+use crate::head::Head;
+use crate::items::{RankedBy, items_of};
+use crate::line::Line;
+use crate::lines::{Parts, lines_of};
+use crate::order::{by_name, by_total};
+use crate::sums::{heads_of, totals_of};
+use crate::tree::Tree;
+use key_counts::counts_of;
+use key_types::{Chain, Keys, Names, Seg};
+use range_counts::Hits;
+use refusal::NoMemory;
+use std::alloc::Global;
+use target_lists::{Call, targets_of};
+use way_rows::{rows_of, sort_items};
+
+/// The profile of what was counted: how often addresses ran, what was called, and what was entered.
+///
+/// The count of a key is the largest hits times factor of the addresses of its segments. A total
+/// stands still at 2^64 - 1.
+///
+/// Segments are disjoint, ascending and not empty, all numbers are of `keys` and `names`, hits are
+/// below 2^32 and factors below 4,096. The times of one function's heads add up to less than 2^64,
+/// and so do those of one function's calls from one key.
+///
+/// # Errors
+/// `NoMemory`.
+pub fn build(
+    alloc: Global,
+    segments: &[Seg],
+    hits: &Hits,
+    calls: &[Call],
+    heads: &[Head],
+    keys: &Keys,
+    names: &Names,
+) -> Result<Tree, NoMemory>
+    requires segments { AreSegments 0 segments.now }
+    requires fit { AllFit (length keys.now) segments.now }
+    requires hits { (a : ℕ) → hits_by hits.now a < 2 ^ 32 }
+    requires keys { IsNumbered keys.now }
+    requires names { IsNumbered names.now }
+    requires key_names { All (HasNames (length names.now)) keys.now }
+    requires calls { All (IsGiven (length keys.now) (length names.now)) calls.now }
+    requires heads { All (λ head. head.name.0 < length names.now) heads.now }
+    requires call_sums { (key callee : ℕ) → calls_of calls.now key callee < 2 ^ 64 }
+    requires head_sums { (name : ℕ) → entries_of heads.now name < 2 ^ 64 }
+    ensures lines { IfOk result (λ tree. map (told names.now) tree.lines
+        ≡ lines_of (said names.now keys.now tree.counts calls.now heads.now)) }
+    ensures names { IfOk result (λ tree. All (IsOf names.now) tree.lines) }
+    ensures counts { IfOk result (λ tree.
+        AreCountsOfPlaces segments.now (hits_by hits.now) tree.counts) }
+    ensures len { IfOk result (λ tree. length tree.counts ≡ length keys.now) }
+{
+    let counts = counts_of(alloc, segments, hits, keys.len())?;
+    let lines = lines_of_counts(alloc, &counts, calls, heads, keys, names)?;
+    Ok(Tree {
+        lines: Chain::new(lines),
+        counts: Chain::new(counts),
+    })
+}
+
+/// The lines of a profile, from the counts of its keys.
+fn lines_of_counts(
+    alloc: Global,
+    counts: &[u64],
+    calls: &[Call],
+    heads: &[Head],
+    keys: &Keys,
+    names: &Names,
+) -> Result<Vec<Line>, NoMemory>
+    requires len { length counts.now ≡ length keys.now }
+    requires keys { IsNumbered keys.now }
+    requires names { IsNumbered names.now }
+    requires key_names { All (HasNames (length names.now)) keys.now }
+    requires calls { All (IsGiven (length keys.now) (length names.now)) calls.now }
+    requires heads { All (λ head. head.name.0 < length names.now) heads.now }
+    requires call_sums { (key callee : ℕ) → calls_of calls.now key callee < 2 ^ 64 }
+    requires head_sums { (name : ℕ) → entries_of heads.now name < 2 ^ 64 }
+    ensures lines { IfOk result (λ lines. map (told names.now) lines.items
+        ≡ lines_of (said names.now keys.now counts.now calls.now heads.now)) }
+    ensures names { IfOk result (λ lines. All (IsOf names.now) lines.items) }
+{
+    let totals = totals_of(alloc, names.len(), keys, counts)?;
+    let by_total = by_total(alloc, names, &totals)?;
+    let by_name = by_name(alloc, names)?;
+    let ranks = RankedBy {
+        total: by_total.ranks.as_slice(),
+        name: by_name.ranks.as_slice(),
+    };
+    let mut items = items_of(alloc, keys, counts, calls, heads, &ranks)?;
+    sort_items(&mut items)?;
+    let rows = rows_of(alloc, &items)?;
+    let targets = targets_of(alloc, calls, by_name.ranks.as_slice())?;
+    let heads = heads_of(alloc, names.len(), heads)?;
+    let parts = Parts {
+        by_total: &by_total,
+        by_name: &by_name,
+        heads: &heads,
+        counts,
+        targets: &targets,
+    };
+    lines_of(alloc, &parts, &rows)
+}

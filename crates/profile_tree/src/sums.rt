@@ -1,0 +1,62 @@
+// Sums for each function.
+ghost use Rattle.std.specs.Prelude.{◌≡◌, ◌<◌, ◌+◌, ◌^◌, ℕ, All, IfOk, length, replicate, slice_index, slice_set};
+ghost use Rattle.profile_model.specs.Profile.{capped};
+ghost use Rattle.profile_tree.specs.Sums.{AreEach, entries_of, root_total};
+
+use crate::head::Head;
+use key_types::{KeyId, Keys, NameId};
+use refusal::NoMemory;
+use std::alloc::Global;
+
+/// The total of each of `names` functions: the sum of the counts of its keys.
+pub fn totals_of(
+    alloc: Global,
+    names: u32,
+    keys: &Keys,
+    counts: &[u64],
+) -> Result<Vec<u64>, NoMemory>
+    requires roots { All (λ key. key.root.0 < names) keys.now }
+    requires len { length counts.now ≡ length keys.now }
+    ensures { IfOk result (λ totals. AreEach names (root_total keys.now counts.now) totals.items) }
+{
+    let mut totals = zeros(alloc, names)?;
+    for id in 0..keys.len() {
+        let key = keys.get(KeyId(id));
+        raise(&mut totals, key.root, counts[id as usize]);
+    }
+    Ok(totals)
+}
+
+/// Adds a count to the total of a function. A total stands still at its type's end.
+fn raise(totals: &mut Vec<u64>, root: NameId, count: u64)
+    requires { root.0 < length totals.old.items }
+    ensures { totals.new.items ≡ slice_set totals.old.items root.0
+        (capped (slice_index totals.old.items root.0 + count)) }
+{
+    let root = root.0 as usize;
+    totals[root] = totals[root].saturating_add(count);
+}
+
+/// How often each of `names` functions was entered.
+pub fn heads_of(alloc: Global, names: u32, heads: &[Head]) -> Result<Vec<u64>, NoMemory>
+    requires given { All (λ head. head.name.0 < names) heads.now }
+    requires fit { (name : ℕ) → entries_of heads.now name < 2 ^ 64 }
+    ensures { IfOk result (λ sums. AreEach names (entries_of heads.now) sums.items) }
+{
+    let mut sums = zeros(alloc, names)?;
+    for head in heads {
+        sums[head.name.0 as usize] += head.times;
+    }
+    Ok(sums)
+}
+
+/// So many zeros.
+pub fn zeros(alloc: Global, n: u32) -> Result<Vec<u64>, NoMemory>
+    ensures { IfOk result (λ zeros. zeros.items ≡ replicate n 0) }
+{
+    let mut zeros = Vec::new(alloc);
+    for _ in 0..n {
+        zeros.push(0)?;
+    }
+    Ok(zeros)
+}

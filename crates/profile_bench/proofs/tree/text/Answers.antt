@@ -1,0 +1,20 @@
+use Rattle.std.proofs.Common.{length, subst, sym}
+use Rattle.key_counts.specs.Segments.{AllFit, AreSegments}
+use Rattle.profile_bench.proofs.LaidLemmas.{are_laid}
+use Rattle.profile_bench.proofs.tree.text.Goals as goal
+
+pub build-requires-clause-segments : goal.build-requires-clause-segments
+build-requires-clause-segments c =
+    subst (AreSegments 0) (sym c.deref-2.ensures.value) (are_laid 0 _ c.in_ok-laid.laid.segments.items c.in_ok-laid.ensures.lie)
+
+pub build-requires-clause-fit : goal.build-requires-clause-fit
+build-requires-clause-fit c = subst (AllFit (length c.in_ok-laid.laid.keys)) (sym c.deref-2.ensures.value) c.in_ok-laid.ensures.fit
+
+pub build-requires-clause-keys : goal.build-requires-clause-keys
+build-requires-clause-keys c = c.in_ok-laid.ensures.numbered
+
+pub build-requires-clause-names : goal.build-requires-clause-names
+build-requires-clause-names c = c.in_ok-names.ensures.numbered
+
+pub build-requires-clause-key_names : goal.build-requires-clause-key_names
+build-requires-clause-key_names c = c.in_ok-laid.ensures.named

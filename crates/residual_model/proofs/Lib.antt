@@ -1,0 +1,5 @@
+mod Examples
+pub mod StepLemmas
+pub mod CutLemmas
+pub mod PushLemmas
+pub mod LoadLemmas

@@ -1,0 +1,2 @@
+pub mod NearnessLemmas
+pub mod RoundLemmas

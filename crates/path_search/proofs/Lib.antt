@@ -1,0 +1,6 @@
+pub mod RowLemmas
+pub mod SearchLemmas
+pub mod AroundLemmas
+pub mod NextLemmas
+pub mod WalkLemmas
+pub mod EndLemmas

@@ -1,0 +1,293 @@
+-- The start of a search, one side more, and its two ends.
+use Rattle.std.proofs.Common.{◌≡◌, ◌≢◌, ℕ, zero, suc, ◌+◌, ◌^◌, ◌<◌, ◌≤◌, Bool, true, false, not, List, [], ◌∷◌, length, replicate, Option, None, Some, inl, inr, refl, arith, ap, sym, ◌∙◌, subst}
+use Rattle.std.specs.Prelude.{slice_set, ℤ, pos, ◌+ℤ◌, ◌≤ℤ◌}
+use Rattle.std.specs.List.{All, Contains}
+use Rattle.std.specs.Option.{is_some}
+use Rattle.std.specs.List.Sorted.{IsPermutation}
+use Rattle.std.proofs.lemmas.Bool.{cases_eq, cases_lt}
+use Rattle.std.proofs.lemmas.Int.{ints}
+use Rattle.std.proofs.lemmas.List.{get_or-replicate, get_or_past, length-replicate, length-set}
+use Rattle.std.proofs.lemmas.List.Sorted.{All-permutation, Contains-permutation}
+use Rattle.std.proofs.lemmas.List.Folds.{sum_by-replicate}
+use Rattle.flow_model.specs.Network.{Network, arcs_of}
+use Rattle.residual_model.specs.Residual.{StepsOn, reduced}
+use Rattle.reached_sides.specs.declared.mark.Mark.{Mark}
+use Rattle.reached_sides.specs.declared.mark.Way.TheVariants.{Along}
+use Rattle.path_search.specs.Ground.{AreSmall, arc_at, count_at, price_at, IsGround}
+use Rattle.path_search.specs.Search.{mark_at, distance_of, distance_at, is_settled, is_open, settled_one, settled_count, settled_as, ComeNearer, IsLooking, LedOut, LedBack, IsWaiting, IsNext, HasSettled, AreNear}
+use Rattle.path_search.proofs.RowLemmas.{each_at, each_by_place}
+use Rattle.path_search.proofs.SearchLemmas.{IsSet, set_is}
+
+-- what holds before each side is settled
+pub record IsWalking (net : Network) (counts : List ℕ) (prices excess : List ℤ) (source : ℕ) (marks : List (Option Mark))
+    (frontier : List (ℕ × ℕ)) (rank : ℕ) : Type 0 where
+  pub settled : HasSettled net counts prices excess source marks
+  pub waiting : IsWaiting marks frontier
+  pub near : AreNear marks
+  pub rank_is : rank ≡ settled_count marks
+
+-- ---- the start
+
+no_mark : (n side : ℕ) → mark_at (replicate n None) side ≡ None
+no_mark n side =
+    elim (cases_lt side n) [
+      | inl within ↦ get_or-replicate n side None None within
+      | inr past ↦ get_or_past (replicate n None) side None (let long = length-replicate {A = Option Mark} n None in omega (arith, long, past))
+    ]
+
+abbrev first : Mark
+first = record { distance = 0; arc = 0; way = Along; rank = None }
+
+-- the marks of a source alone
+record IsBegun (source : ℕ) (marks : List (Option Mark)) : Type 0 where
+  pub here : mark_at marks source ≡ Some first
+  pub others : (side : ℕ) → side ≢ source → mark_at marks side ≡ None
+  pub none_settled : (side : ℕ) → is_settled (mark_at marks side) ≡ false
+  pub count : settled_count marks ≡ 0
+
+begun : (n source : ℕ) → source < n → IsBegun source (slice_set (replicate n None) source (Some first))
+begun n source within =
+    let blank : List (Option Mark) = replicate n None in
+    let set = set_is source first blank (let long = length-replicate {A = Option Mark} n None in omega (arith, long, within)) in
+    let others : (side : ℕ) → side ≢ source → mark_at (slice_set blank source (Some first)) side ≡ None =
+    λ side apart. set.others side apart ∙ no_mark n side in
+    record {
+      here = set.here;
+      others = others;
+      none_settled = λ side.
+          elim (cases_eq side source) [
+            | inl e ↦ subst (λ (s : ℕ). is_settled (mark_at (slice_set blank source (Some first)) s) ≡ false) (sym e) (ap is_settled set.here)
+            | inr apart ↦ ap is_settled (others side apart)
+          ];
+      count =
+          let zeros = sum_by-replicate settled_one n None in
+          let was : settled_one (mark_at blank source) ≡ 0 = ap settled_one (no_mark n source) in
+          omega (arith, zeros, was, set.count);
+    }
+
+never : (b : Bool) → b ≡ false → b ≡ true → ⊥
+never b unset set = let clash : true ≡ false = sym set ∙ unset in absurd (cc)
+
+pub walk_begins : (net : Network) (counts : List ℕ) (prices excess : List ℤ) (source n : ℕ) (marks : List (Option Mark)) (frontier : List (ℕ × ℕ))
+    → IsGround net counts prices → source < length prices → n ≡ length prices
+    → marks ≡ slice_set (replicate n None) source (Some first) → IsPermutation ((0, source) ∷ []) frontier
+    → IsWalking net counts prices excess source marks frontier 0
+walk_begins net counts prices excess source n marks frontier ground within same is moves =
+    let begun_now = subst (λ (after : List (Option Mark)). IsBegun source after) (sym is) (begun n source (omega (arith, same, within))) in
+    let long : length marks ≡ length prices =
+    ap length is ∙ length-set (replicate n None) source (Some first) ∙ length-replicate {A = Option Mark} n None ∙ same in
+    let Led : ℕ → ℕ → ℤ → Type 0 = λ from to cost. is_settled (mark_at marks from) ≡ true
+    → pos (distance_at marks to) ≤ℤ (pos (distance_at marks from) +ℤ reduced (price_at prices) from to cost) in
+    record {
+      settled = record {
+        each = long;
+        begins = ap distance_of begun_now.here;
+        led = each_by_place (StepsOn Led) (arcs_of net) counts ground.counted
+            (λ place inside. record {
+              along = λ below settled. absurd (never _ (begun_now.none_settled _) settled);
+              against = λ above settled. absurd (never _ (begun_now.none_settled _) settled);
+            });
+        none_lacks = λ side settled. absurd (never _ (begun_now.none_settled side) settled);
+      };
+      waiting = record {
+        listed = λ side waits.
+            elim (cases_eq side source) [
+              | inl e ↦
+                  let one : Contains ((0, source) ∷ []) (0, source) = (0, omega arith, refl) in
+                  let there = Contains-permutation _ _ _ moves one in
+                  let d : distance_at marks source ≡ 0 = ap distance_of begun_now.here in
+                  let at : Contains frontier (distance_at marks source, source) = subst (λ (m : ℕ). Contains frontier (m, source)) (sym d) there in
+                  subst (λ (s : ℕ). Contains frontier (distance_at marks s, s)) (sym e) at
+              | inr apart ↦ absurd (never _ (ap is_open (begun_now.others side apart)) waits)
+            ];
+        within =
+            let Inside : ℕ × ℕ → Type 0 = λ entry. entry.1 < length marks in
+            All-permutation Inside _ _ moves (All-one Inside (0, source) (omega (arith, long, within)));
+        ordered = λ side settled. absurd (never _ (begun_now.none_settled side) settled);
+      };
+      near = λ side mark at.
+          elim (cases_eq side source) [
+            | inl e ↦
+                let here : mark_at marks source ≡ Some mark = subst (λ (s : ℕ). mark_at marks s ≡ Some mark) e at in
+                let d : distance_of (Some first) ≡ distance_of (Some mark) = ap distance_of (sym begun_now.here ∙ here) in
+                omega (arith, d)
+            | inr apart ↦ let clash : None ≡ Some mark = sym (begun_now.others side apart) ∙ at in absurd (cc)
+          ];
+      rank_is = sym begun_now.count;
+    }
+  where
+    All-one : (P : ℕ × ℕ → Type 0) (x : ℕ × ℕ) → P x → All P (x ∷ [])
+    All-one P x here zero d within = here
+    All-one P x here (suc k) d within = absurd (omega (arith, within))
+
+-- ---- one side more
+
+pub open_mark : (at : Option Mark) → is_open at ≡ true → (mark : Mark) × (at ≡ Some mark)
+open_mark None waits = absurd (cc)
+open_mark (Some mark) waits = (mark, refl)
+
+not_both : (at : Option Mark) → is_open at ≡ true → is_settled at ≡ false
+not_both None waits = refl
+not_both (Some mark) waits = by_rank mark.rank waits
+  where
+    by_rank : (rank : Option ℕ) → not (is_some rank) ≡ true → is_some rank ≡ false
+    by_rank None waits = refl
+    by_rank (Some r) waits = absurd (cc)
+
+-- the marks after an open side was settled
+pub record IsSettledNow (marks new_marks : List (Option Mark)) (side : ℕ) : Type 0 where
+  pub here : is_settled (mark_at new_marks side) ≡ true
+  pub not_open : is_open (mark_at new_marks side) ≡ false
+  pub others : (other : ℕ) → other ≢ side → mark_at new_marks other ≡ mark_at marks other
+  pub distances : (other : ℕ) → distance_at new_marks other ≡ distance_at marks other
+  pub count : settled_count new_marks ≡ settled_count marks + 1
+  pub each : length new_marks ≡ length marks
+
+pub settled_now : (marks new_marks : List (Option Mark)) (side rank : ℕ) → side < length marks → is_open (mark_at marks side) ≡ true
+    → new_marks ≡ slice_set marks side (settled_as rank (mark_at marks side)) → IsSettledNow marks new_marks side
+settled_now marks new_marks side rank within waits is =
+    let found = open_mark (mark_at marks side) waits in
+    let mark = found.0 in
+    let after : Mark = record mark { rank = Some rank } in
+    let is_set : new_marks ≡ slice_set marks side (Some after) =
+    is ∙ ap (λ (at : Option Mark). slice_set marks side (settled_as rank at)) found.1 in
+    let set = subst (λ (list : List (Option Mark)). IsSet side after marks list) (sym is_set) (set_is side after marks within) in
+    let was : settled_one (mark_at marks side) ≡ 0 = rw (not_both (mark_at marks side) waits) refl in
+    record {
+      here = ap is_settled set.here;
+      not_open = ap is_open set.here;
+      others = set.others;
+      distances = λ other.
+          elim (cases_eq other side) [
+            | inl e ↦ subst (λ (s : ℕ). distance_at new_marks s ≡ distance_at marks s) (sym e) (ap distance_of set.here ∙ sym (ap distance_of found.1))
+            | inr apart ↦ ap distance_of (set.others other apart)
+          ];
+      count = omega (arith, was, set.count);
+      each = set.each;
+    }
+
+-- what is known of the search when a side was settled
+pub record IsStepping (net : Network) (counts : List ℕ) (prices excess : List ℤ) (source : ℕ) (marks new_marks : List (Option Mark))
+    (frontier : List (ℕ × ℕ)) (side distance : ℕ) : Type 0 where
+  pub settled : HasSettled net counts prices excess source marks
+  pub near : AreNear marks
+  pub next : IsNext marks frontier side distance
+  pub now : IsSettledNow marks new_marks side
+
+pub looks_from : (net : Network) (counts : List ℕ) (prices excess : List ℤ) (source : ℕ) (marks new_marks : List (Option Mark))
+    (frontier : List (ℕ × ℕ)) (side distance : ℕ) → AreSmall prices → length prices < 2 ^ 18
+    → IsStepping net counts prices excess source marks new_marks frontier side distance
+    → IsLooking prices new_marks frontier distance
+looks_from net counts prices excess source marks new_marks frontier side distance small few stepping =
+    let next = stepping.next in
+    let now = stepping.now in
+    let found = open_mark (mark_at marks side) next.current.waits in
+    let at : distance ≡ found.0.distance = sym next.current.at ∙ ap distance_of found.1 in
+    let close = stepping.near side found.0 found.1 in
+    record {
+      small = small;
+      few = few;
+      each = now.each ∙ stepping.settled.each;
+      searching = record {
+        listed = λ other waits.
+            elim (cases_eq other side) [
+              | inl e ↦
+                  let here : is_open (mark_at new_marks side) ≡ true = subst (λ (s : ℕ). is_open (mark_at new_marks s) ≡ true) e waits in
+                  absurd (never _ now.not_open here)
+              | inr apart ↦
+                  let there = next.others other (ap is_open (sym (now.others other apart)) ∙ waits) apart in
+                  subst (λ (d : ℕ). Contains frontier (d, other)) (sym (now.distances other)) there
+            ];
+        within = λ k d inside. omega (arith, next.within k d inside, now.each);
+        ahead = next.ahead;
+        behind = λ other done.
+            elim (cases_eq other side) [
+              | inl e ↦
+                  let here : distance_at new_marks side ≡ distance = now.distances side ∙ next.current.at in
+                  subst (λ (s : ℕ). distance_at new_marks s ≤ distance) (sym e) (omega (arith, here))
+              | inr apart ↦
+                  let before = next.behind other (ap is_settled (sym (now.others other apart)) ∙ done) in
+                  omega (arith, before, now.distances other)
+            ];
+        near = λ other mark is.
+            elim (cases_eq other side) [
+              | inl e ↦
+                  let here : mark_at new_marks side ≡ Some mark = subst (λ (s : ℕ). mark_at new_marks s ≡ Some mark) e is in
+                  let d : mark.distance ≡ distance = sym (ap distance_of here) ∙ now.distances side ∙ next.current.at in
+                  omega (arith, d, at, close, now.count)
+              | inr apart ↦
+                  let before = stepping.near other mark (sym (now.others other apart) ∙ is) in
+                  omega (arith, before, now.count)
+            ];
+      };
+      room = omega (arith, at, close, now.count);
+    }
+
+pub walked : (net : Network) (counts : List ℕ) (prices excess : List ℤ) (source : ℕ) (marks now_marks new_marks : List (Option Mark))
+    (frontier new_frontier : List (ℕ × ℕ)) (rank side distance : ℕ) → IsGround net counts prices
+    → IsStepping net counts prices excess source marks now_marks frontier side distance → rank ≡ settled_count marks
+    → pos 0 ≤ℤ price_at excess side
+    → IsLooking prices new_marks new_frontier distance → ComeNearer now_marks new_marks
+    → LedOut net counts prices new_marks distance side → LedBack net counts prices new_marks distance side
+    → IsWalking net counts prices excess source new_marks new_frontier (rank + 1)
+walked net counts prices excess source marks now_marks new_marks frontier new_frontier rank side distance ground stepping rank_is enough looking nearer out back =
+    let next = stepping.next in
+    let now = stepping.now in
+    let Led : List (Option Mark) → ℕ → ℕ → ℤ → Type 0 = λ list from to cost. is_settled (mark_at list from) ≡ true
+    → pos (distance_at list to) ≤ℤ (pos (distance_at list from) +ℤ reduced (price_at prices) from to cost) in
+    let at : distance_at new_marks side ≡ distance = ap distance_of (nearer.kept side now.here) ∙ now.distances side ∙ next.current.at in
+    -- a side that is settled and not this one was so before, at the same distance
+    let before : (other : ℕ) → other ≢ side → is_settled (mark_at new_marks other) ≡ true
+    → (is_settled (mark_at marks other) ≡ true) × (distance_at new_marks other ≡ distance_at marks other) =
+    λ other apart done.
+    let then_done = sym (nearer.alike other) ∙ done in
+    (ap is_settled (sym (now.others other apart)) ∙ then_done, ap distance_of (nearer.kept other then_done) ∙ now.distances other) in
+    let closer : (other : ℕ) → distance_at new_marks other ≤ distance_at marks other =
+    λ other. omega (arith, nearer.nearer other, now.distances other) in
+    let old : (place : ℕ) → place < length (arcs_of net) → StepsOn (Led marks) (arc_at (arcs_of net) place) (count_at counts place) =
+    λ place inside. each_at (StepsOn (Led marks)) (arcs_of net) counts stepping.settled.led place inside in
+    record {
+      settled = record {
+        each = looking.each;
+        begins = omega (arith, closer source, stepping.settled.begins);
+        led = each_by_place (StepsOn (Led new_marks)) (arcs_of net) counts ground.counted
+            (λ place inside. record {
+              along = λ below done.
+                  elim (cases_eq (arc_at (arcs_of net) place).tail side) [
+                    | inl e ↦
+                        let step = out place inside e below in
+                        let from : distance_at new_marks (arc_at (arcs_of net) place).tail ≡ distance = ap (distance_at new_marks) e ∙ at in
+                        omega (arith, ints, step, from)
+                    | inr apart ↦
+                        let was = before (arc_at (arcs_of net) place).tail apart done in
+                        let step = (old place inside).along below was.0 in
+                        let to = closer (arc_at (arcs_of net) place).head in
+                        omega (arith, ints, step, was.1, to)
+                  ];
+              against = λ above done.
+                  elim (cases_eq (arc_at (arcs_of net) place).head side) [
+                    | inl e ↦
+                        let step = back place inside e above in
+                        let from : distance_at new_marks (arc_at (arcs_of net) place).head ≡ distance = ap (distance_at new_marks) e ∙ at in
+                        omega (arith, ints, step, from)
+                    | inr apart ↦
+                        let was = before (arc_at (arcs_of net) place).head apart done in
+                        let step = (old place inside).against above was.0 in
+                        let to = closer (arc_at (arcs_of net) place).tail in
+                        omega (arith, ints, step, was.1, to)
+                  ];
+            });
+        none_lacks = λ other done.
+            elim (cases_eq other side) [
+              | inl e ↦ subst (λ (s : ℕ). pos 0 ≤ℤ price_at excess s) (sym e) enough
+              | inr apart ↦ stepping.settled.none_lacks other (before other apart done).0
+            ];
+      };
+      waiting = record {
+        listed = looking.searching.listed;
+        within = looking.searching.within;
+        ordered = λ other done k d inside. omega (arith, looking.searching.behind other done, looking.searching.ahead k d inside);
+      };
+      near = looking.searching.near;
+      rank_is = omega (arith, rank_is, now.count, nearer.count);
+    }

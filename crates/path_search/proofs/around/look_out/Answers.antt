@@ -1,0 +1,50 @@
+use Rattle.std.proofs.Common.{ℕ, List, Option, refl}
+use Rattle.flow_model.specs.Network.{arcs_of}
+use Rattle.reached_sides.specs.declared.mark.Mark.{Mark}
+use Rattle.path_search.specs.Ground.{arc_at, count_at}
+use Rattle.path_search.specs.Search.{LedAlong}
+use Rattle.path_search.proofs.RowLemmas.{row_has, row_placed}
+use Rattle.path_search.proofs.AroundLemmas.{led_on_along, looked_none, looked_more, looked_all}
+use Rattle.path_search.proofs.around.look_out.Goals as goal
+
+pub loop-place-init : goal.loop-place-init
+loop-place-init c = looked_none _ _ _ _ _ _ c.requires.looking
+
+pub bounds-arcs-at : goal.bounds-arcs-at
+bounds-arcs-at c =
+    rw c.arcs-arcs.ensures.arcs (row_placed (λ arc. arc.tail) _ _ _ _ _ _ refl c.arcs-arcs.ensures.of_a_function c.requires.ground c.leaving-row.ensures c.loop-place-test.true).within
+
+pub bounds-counts-at : goal.bounds-counts-at
+bounds-counts-at c =
+    (row_placed (λ arc. arc.tail) _ _ _ _ _ _ refl c.arcs-arcs.ensures.of_a_function c.requires.ground c.leaving-row.ensures c.loop-place-test.true).counted
+
+pub look_along-requires-clause-cheap : goal.look_along-requires-clause-cheap
+look_along-requires-clause-cheap c =
+    rw c.arcs-arcs.ensures.arcs (row_placed (λ arc. arc.tail) _ _ _ _ _ _ refl c.arcs-arcs.ensures.of_a_function c.requires.ground c.leaving-row.ensures c.loop-place-test.true).cheap
+
+pub look_along-requires-clause-fits : goal.look_along-requires-clause-fits
+look_along-requires-clause-fits c =
+    rw c.arcs-arcs.ensures.arcs (row_placed (λ arc. arc.tail) _ _ _ _ _ _ refl c.arcs-arcs.ensures.of_a_function c.requires.ground c.leaving-row.ensures c.loop-place-test.true).fits
+
+pub look_along-requires-clause-starts : goal.look_along-requires-clause-starts
+look_along-requires-clause-starts c =
+    rw c.arcs-arcs.ensures.arcs (row_placed (λ arc. arc.tail) _ _ _ _ _ _ refl c.arcs-arcs.ensures.of_a_function c.requires.ground c.leaving-row.ensures c.loop-place-test.true).starts
+
+pub look_along-requires-clause-leads : goal.look_along-requires-clause-leads
+look_along-requires-clause-leads c =
+    rw c.arcs-arcs.ensures.arcs (row_placed (λ arc. arc.tail) _ _ _ _ _ _ refl c.arcs-arcs.ensures.of_a_function c.requires.ground c.leaving-row.ensures c.loop-place-test.true).leads
+
+pub loop-place-preserved : goal.loop-place-preserved
+loop-place-preserved c =
+    let Led : List (Option Mark) → ℕ → Type 0 = λ marks place.
+    LedAlong c.args.prices.now marks c.args.distance (arc_at (arcs_of c.args.net.now) place) (count_at c.args.counts.now place) in
+    let here = rw c.arcs-arcs.ensures.arcs at c.in_ok-look_along.ensures.led in
+    looked_more Led _ _ _ _ _ _ _ _ _ (λ place nearer led. led_on_along _ _ _ _ (arc_at (arcs_of c.args.net.now) place) (count_at c.args.counts.now place) nearer led)
+    c.loop-place.invariant c.in_ok-look_along.ensures.looking c.in_ok-look_along.ensures.nearer here
+
+pub returns-clause-out : goal.returns-clause-out
+returns-clause-out c = λ place within ends.
+    let Led : List (Option Mark) → ℕ → Type 0 = λ marks place.
+    LedAlong c.args.prices.now marks c.args.distance (arc_at (arcs_of c.args.net.now) place) (count_at c.args.counts.now place) in
+    let has = row_has (λ arc. arc.tail) (arcs_of c.args.net.now) c.args.side place refl within ends in
+    looked_all Led _ _ _ _ _ _ _ place c.loop-place.invariant c.loop-place-test.false (rw c.leaving-row.ensures has)

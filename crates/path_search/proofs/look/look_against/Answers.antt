@@ -1,0 +1,23 @@
+use Rattle.std.proofs.Common.{arith, refl}
+use Rattle.std.proofs.lemmas.Int.{ints}
+use Rattle.path_search.proofs.SearchLemmas.{few_settled, looked}
+use Rattle.path_search.proofs.look.look_against.Goals as goal
+
+pub overflow_add-distance : goal.overflow_add-distance
+overflow_add-distance c =
+    let few = few_settled c.args.marks.now in
+    let looking = c.requires.looking in
+    search (arith, few, looking.few, looking.each, looking.room, c.reduced-more.ensures.small)
+
+pub returns-clause-looking : goal.returns-clause-looking
+returns-clause-looking c =
+    (looked _ _ _ _ _ _ _ _ c.requires.looking c.requires.leads refl (omega arith) (omega (arith, c.reduced-more.ensures.small)) c.in_ok-offer.ensures).0
+
+pub returns-clause-nearer : goal.returns-clause-nearer
+returns-clause-nearer c =
+    (looked _ _ _ _ _ _ _ _ c.requires.looking c.requires.leads refl (omega arith) (omega (arith, c.reduced-more.ensures.small)) c.in_ok-offer.ensures).1
+
+pub reduced-more-requires-clause-fits : goal.reduced-more-requires-clause-fits
+reduced-more-requires-clause-fits c =
+    let order = c.requires.fits.less c.if-count-arc.false in
+    omega (arith, ints, order, c.cost_of_less.ensures.value, c.cost_of_less.ensures.small.least, c.cost_of_less.ensures.small.most)

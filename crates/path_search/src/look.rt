@@ -1,0 +1,80 @@
+// The step over one arc, from the side that was settled last.
+ghost use Rattle.std.specs.Prelude.{◌≡◌, ◌<◌, length, OnOk};
+ghost use Rattle.flow_model.specs.Prices.{FitsOn};
+ghost use Rattle.flow_network.specs.Cost.{IsCheap};
+ghost use Rattle.path_search.specs.Ground.{price_at};
+ghost use Rattle.path_search.specs.Search.{ComeNearer, IsLooking, LedAgainst, LedAlong};
+
+use crate::offer::offer;
+use crate::steps::{cost_of_less, cost_of_more, is_below, reduced};
+use flow_model::Arc;
+use reached_sides::{Frontier, Marks, Way};
+use refusal::NoMemory;
+
+/// Looks along an arc from its tail, which is settled at a distance, if one more may pass there.
+pub(crate) fn look_along(
+    marks: &mut Marks,
+    frontier: &mut Frontier,
+    prices: &[i64],
+    distance: u64,
+    place: u32,
+    arc: &Arc,
+    count: u64,
+) -> Result<(), NoMemory>
+    requires cheap { IsCheap arc.now }
+    requires fits { FitsOn (price_at prices.now) arc.now count }
+    requires starts { arc.now.tail < length prices.now }
+    requires leads { arc.now.head < length prices.now }
+    requires looking { IsLooking prices.now marks.old frontier.old distance }
+    ensures looking { OnOk result (IsLooking prices.now marks.new frontier.new distance) }
+    ensures nearer { OnOk result (ComeNearer marks.old marks.new) }
+    ensures led { OnOk result (LedAlong prices.now marks.new distance arc.now count) }
+{
+    if !is_below(arc.upper, count) {
+        return Ok(());
+    }
+    let more = reduced(prices, arc.tail, arc.head, cost_of_more(arc, count));
+    offer(
+        marks,
+        frontier,
+        arc.head,
+        distance + more,
+        place,
+        Way::Along,
+    )?;
+    Ok(())
+}
+
+/// Looks against an arc from its head, which is settled at a distance, if one less may pass there.
+pub(crate) fn look_against(
+    marks: &mut Marks,
+    frontier: &mut Frontier,
+    prices: &[i64],
+    distance: u64,
+    place: u32,
+    arc: &Arc,
+    count: u64,
+) -> Result<(), NoMemory>
+    requires cheap { IsCheap arc.now }
+    requires fits { FitsOn (price_at prices.now) arc.now count }
+    requires starts { arc.now.head < length prices.now }
+    requires leads { arc.now.tail < length prices.now }
+    requires looking { IsLooking prices.now marks.old frontier.old distance }
+    ensures looking { OnOk result (IsLooking prices.now marks.new frontier.new distance) }
+    ensures nearer { OnOk result (ComeNearer marks.old marks.new) }
+    ensures led { OnOk result (LedAgainst prices.now marks.new distance arc.now count) }
+{
+    if count <= arc.lower {
+        return Ok(());
+    }
+    let more = reduced(prices, arc.head, arc.tail, cost_of_less(arc, count));
+    offer(
+        marks,
+        frontier,
+        arc.tail,
+        distance + more,
+        place,
+        Way::Against,
+    )?;
+    Ok(())
+}

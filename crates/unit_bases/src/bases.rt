@@ -10,8 +10,8 @@ use dwarf_info::Units;
 use dwarf_strings::{Bases, Texts};
 use refusal::Place;
 
-/// The place in a section that the value of a base means.
-fn section_place(value: Value<'_>) -> Option<u64>
+/// The place in a section that a value means, as that of a base or of `DW_AT_stmt_list`.
+pub fn section_place(value: Value<'_>) -> Option<u64>
     ensures { result ≡ section_place_told (meaning_of value.entry) }
 {
     match value {

@@ -37,8 +37,8 @@ fn root<'a, 'u>(units: &'u Units<'a>, unit: u32) -> Option<Entry<'a, 'u>>
     }
 }
 
-/// The attribute of a name of a unit's root.
-pub(crate) fn root_attribute<'a>(units: &Units<'a>, unit: u32, name: u64) -> Option<Found<'a>>
+/// The attribute of a name of the root of the unit at a place among the units.
+pub fn root_attribute<'a>(units: &Units<'a>, unit: u32, name: u64) -> Option<Found<'a>>
     ensures { result ≡ root_attribute_told units.now unit name }
 {
     match root(units, unit) {

@@ -1,0 +1,39 @@
+-- The definitions on worked values.
+use Rattle.std.proofs.Common.{◌≡◌, ℕ, List, [], ◌∷◌, Option, None, Some, refl, true, false}
+use Rattle.std.specs.Prelude.{codes}
+use Rattle.line_model.specs.declared.row.Row.{Row}
+use Rattle.row_model.specs.Rows.{Sequence}
+use Rattle.tree_model.specs.Members.{Told}
+use Rattle.profile_model.specs.Ways.{to_body, to_call, to_function}
+use Rattle.binary_model.specs.Places.{at_way, nameless, no_line, outside, place_among}
+
+row_at : ℕ → ℕ → ℕ → Row
+row_at address line disc = record { address = address; line = line; disc = disc; ends = false }
+
+-- one sequence, of a unit that stands behind one without a line program
+tables : List (Option (List Sequence))
+tables = None ∷ Some (record { rows = row_at 0x10 12 0 ∷ row_at 0x14 6 2 ∷ row_at 0x1c 0 0 ∷ []; end = row_at 0x30 0 0 } ∷ []) ∷ []
+
+member : ℕ → ℕ → Option (List ℕ) → ℕ → ℕ → ℕ → ℕ → ℕ → Told
+member depth unit name start line disc lo hi =
+    record { depth = depth; unit = unit; name = name; start = start; line = line; disc = disc; pieces = (lo, hi) ∷ [] }
+
+-- a function with a call of `g` and one without a name, and a function whose unit has no rows
+members : List Told
+members =
+    member 0 1 (Some (codes "f")) 10 0 0 0x10 0x20
+    ∷ member 1 1 (Some (codes "g")) 5 12 1 0x14 0x18
+    ∷ member 1 1 None 5 13 0 0x18 0x1a
+    ∷ member 0 0 (Some (codes "h")) 1 0 0 0x20 0x30
+    ∷ []
+
+places : (place_among tables false members 0x10 ≡ at_way (to_function (codes "f") ∷ to_body 2 0 ∷ []))
+    × (place_among tables false members 0x17 ≡ at_way (to_function (codes "f") ∷ to_call 2 1 (codes "g") ∷ to_body 1 2 ∷ []))
+    × (place_among tables true members 0x17 ≡ at_way (to_function (codes "f") ∷ to_call 2 0 (codes "g") ∷ to_body 1 1 ∷ []))
+    × (place_among tables false members 0x18 ≡ nameless)
+    × (place_among tables false members 0x1a ≡ at_way (to_function (codes "f") ∷ to_body 65532 2 ∷ []))
+    × (place_among tables false members 0x1c ≡ no_line)
+    × (place_among tables false members 0x20 ≡ no_line)
+    × (place_among tables false members 0x30 ≡ outside)
+unfolding row_at tables member members place_among
+places = (refl, refl, refl, refl, refl, refl, refl, refl)

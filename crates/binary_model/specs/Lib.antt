@@ -1,0 +1,4 @@
+pub mod Sections
+pub mod LinePrograms
+pub mod Binary
+pub mod Places

@@ -1,0 +1,6 @@
+//! A whole binary: its sections, its first bad place, and the place of each of its addresses by
+//! names.
+//!
+//! Definitions in `specs/`, with examples in `proofs/`. The parts are those of the models below;
+//! here they stand in the order in which a binary is judged.
+#![tactic(auto)]

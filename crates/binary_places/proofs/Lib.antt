@@ -1,0 +1,9 @@
+pub mod Items
+pub mod LimitLemmas
+pub mod ProgramLemmas
+pub mod TableLemmas
+pub mod SectionLemmas
+pub mod NumberLemmas
+pub mod PlaceLemmas
+pub mod ReadLemmas
+pub mod ShownLemmas

@@ -1,0 +1,4 @@
+pub mod Sections
+pub mod Tables
+pub mod Binary
+pub mod Laws

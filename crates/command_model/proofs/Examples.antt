@@ -1,5 +1,5 @@
 -- The definitions on worked values.
-use Rattle.std.proofs.Common.{◌≡◌, [], ◌∷◌, refl, Some, None}
+use Rattle.std.proofs.Common.{◌≡◌, [], ◌∷◌, refl, Some, None, true, false}
 use Rattle.std.specs.Prelude.{codes, if◌then◌else◌}
 use Rattle.std.specs.Fmt.{digits}
 use Rattle.std.specs.Str.{bytes_eq}
@@ -12,8 +12,11 @@ use Rattle.sample_model.specs.Judging.{cause_of_line, items_of_lines, judged_lin
 use Rattle.io_edge.specs.Inputs.{Store}
 use Rattle.command_model.specs.Answer.{answer_of}
 use Rattle.command_model.specs.Answer.Answer.{usage, no_such_file, refused, writes}
-use Rattle.command_model.specs.Command.{command_of, counts}
+use Rattle.profile_model.specs.Ways.{to_function, to_body, to_call}
+use Rattle.binary_model.specs.Places.{outside, nameless, no_line, at_way}
+use Rattle.command_model.specs.Command.{address_of as address_asked, command_of, counts, where_}
 use Rattle.command_model.specs.Counts.{counts_text}
+use Rattle.command_model.specs.Where.{where_text}
 
 five_branches : counts_text ((0x401038, 0x401036) ∷ (0x40100c, 0x401020) ∷ (0x401034, 0x401000) ∷ (0x401038, 0x401036) ∷ (0x401004, 0x401010) ∷ [])
     ≡ codes "0x401004 0x401010 1\n0x40100c 0x401020 1\n0x401034 0x401000 1\n0x401038 0x401036 2\n# branches 5\n"
@@ -28,8 +31,35 @@ by_target : counts_text ((7, 9) ∷ (7, 8) ∷ (6, 10) ∷ (7, 8) ∷ []) ≡ co
 unfolding counts_text hex_text digits
 by_target = refl
 
-words : (command_of (codes "counts" ∷ codes "a.txt" ∷ []) ≡ Some (counts (codes "a.txt"))) × (command_of (codes "counts" ∷ []) ≡ None) × (command_of (codes "count" ∷ codes "a.txt" ∷ []) ≡ None)
-words = (refl, refl, refl)
+words : (command_of (codes "counts" ∷ codes "a.txt" ∷ []) ≡ Some (counts (codes "a.txt")))
+    × (command_of (codes "counts" ∷ []) ≡ None)
+    × (command_of (codes "counts" ∷ codes "--x" ∷ []) ≡ None)
+    × (command_of (codes "counts" ∷ codes "--base" ∷ codes "a.txt" ∷ []) ≡ None)
+    × (command_of (codes "count" ∷ codes "a.txt" ∷ []) ≡ None)
+unfolding command_of
+words = (refl, refl, refl, refl, refl)
+
+-- an option stands in front, once
+words_of_where : (command_of (codes "where" ∷ codes "a" ∷ codes "0x1F" ∷ []) ≡ Some (where_ false (codes "a") 0x1f))
+    × (command_of (codes "where" ∷ codes "--base" ∷ codes "a" ∷ codes "1f" ∷ []) ≡ Some (where_ true (codes "a") 0x1f))
+    × (command_of (codes "where" ∷ codes "a" ∷ codes "--base" ∷ codes "1f" ∷ []) ≡ None)
+    × (command_of (codes "where" ∷ codes "--base" ∷ codes "--base" ∷ codes "a" ∷ codes "1f" ∷ []) ≡ None)
+    × (command_of (codes "where" ∷ codes "--bases" ∷ codes "a" ∷ codes "1f" ∷ []) ≡ None)
+    × (command_of (codes "where" ∷ codes "a" ∷ codes "xyz" ∷ []) ≡ None)
+unfolding command_of address_asked number_of
+words_of_where = (refl, refl, refl, refl, refl, refl)
+
+-- one to sixteen digits
+addresses : (address_asked (codes "ffffffffffffffff") ≡ Some 0xffffffffffffffff) × (address_asked (codes "0x0000000000401000") ≡ Some 0x401000)
+    × (address_asked (codes "00000000000401000") ≡ None) × (address_asked (codes "0x") ≡ None) × (address_asked [] ≡ None) × (address_asked (codes "0X1") ≡ None)
+unfolding address_asked number_of
+addresses = (refl, refl, refl, refl, refl, refl)
+
+lines_of_places : (where_text outside ≡ codes "outside\n") × (where_text nameless ≡ codes "nameless\n") × (where_text no_line ≡ codes "noline\n")
+    × (where_text (at_way (to_function (codes "f0000") ∷ to_call 2 1 (codes "g") ∷ to_body 1 0 ∷ [])) ≡ codes "f0000 2.1 g 1\n")
+    × (where_text (at_way (to_function (codes "f0000") ∷ to_body 2 2 ∷ [])) ≡ codes "f0000 2.2\n")
+unfolding digits
+lines_of_places = (refl, refl, refl, refl, refl)
 
 -- as numbers, not as texts, up to the last address
 by_numbers : counts_text ((0x10, 1) ∷ (0xffffffffffffffff, 0) ∷ (9, 0xffffffffffffffff) ∷ (9, 0x10) ∷ (9, 2) ∷ (0, 0) ∷ [])
@@ -47,5 +77,5 @@ answers : (answer_of two_files (codes "counts" ∷ codes "good" ∷ []) ≡ writ
     × (answer_of two_files (codes "counts" ∷ [] ∷ []) ≡ refused (record { file = 1; at = 2; kind = BadLine }))
     × (answer_of two_files (codes "counts" ∷ codes "none" ∷ []) ≡ no_such_file 1)
     × (answer_of two_files (codes "counts" ∷ codes "good" ∷ codes "good" ∷ []) ≡ usage) × (answer_of two_files [] ≡ usage)
-unfolding two_files counts_text hex_text digits lines_of ended_lines_of fields_of number_of prefixed_of address_of is_ip entry_of is_sample is_well_formed branches_of_line cause_of_line items_of_lines judged_lines_of
+unfolding command_of two_files counts_text hex_text digits lines_of ended_lines_of fields_of number_of prefixed_of address_of is_ip entry_of is_sample is_well_formed branches_of_line cause_of_line items_of_lines judged_lines_of
 answers = (refl, refl, refl, refl, refl)

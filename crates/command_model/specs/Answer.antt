@@ -4,8 +4,11 @@ use Rattle.refusal.specs.declared.place.Place.{Place}
 use Rattle.io_edge.specs.Inputs.{Store}
 use Rattle.sample_model.specs.Judging.{first_bad_of_text}
 use Rattle.sample_model.specs.Samples.{branches_of}
-use Rattle.command_model.specs.Command.{Command, counts, command_of}
+use Rattle.binary_model.specs.Binary.{first_bad_of_binary}
+use Rattle.binary_model.specs.Places.{place_of_address}
+use Rattle.command_model.specs.Command.{Command, counts, where_, command_of}
 use Rattle.command_model.specs.Counts.{counts_text}
+use Rattle.command_model.specs.Where.{where_text}
 
 -- What a command comes to.
 pub data Answer : Type 0 where
@@ -36,6 +39,8 @@ with_file files k name judge next = with_looked_up (files name) k judge next
 abbrev pub answer_of_command : Store → Command → Answer
 answer_of_command files (counts perf) =
     with_file files 1 perf (first_bad_of_text 1) (λ text. writes (counts_text (branches_of text)))
+answer_of_command files (where_ base bin address) =
+    with_file files 1 bin first_bad_of_binary (λ binary. writes (where_text (place_of_address binary base address)))
 
 -- The same where the words may spell no command.
 abbrev pub answer_of_words : Store → Option Command → Answer

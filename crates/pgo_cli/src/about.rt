@@ -5,12 +5,17 @@ const HELP: &[u8] = b"\
 pgo builds sample profiles for compilers.
 
 usage:
-  pgo counts PERF   each distinct branch of a branch text, with its count
-  pgo --help        this text
-  pgo --version     the version
+  pgo counts PERF             each distinct branch of a branch text, with its
+                              count
+  pgo where [--base] BIN HEX  the place of an address of a binary, as a profile
+                              names it
+  pgo --help                  this text
+  pgo --version               the version
 
-PERF is what `perf script -F ip,brstack` prints, in a file. Messages count
-file words and lines from 1.
+PERF is what `perf script -F ip,brstack` prints, in a file. BIN is a 64-bit ELF
+file with DWARF 4 or 5, HEX an address in hexadecimal digits. With --base the
+discriminators are taken apart as clang packs them. Messages count file words
+and lines from 1, and places in a binary from 0.
 
 exit status:
   0  done, the whole output was written

@@ -7,9 +7,10 @@ use Rattle.refusal.specs.declared.place.Stop.TheVariants.{Refused, NoMemory}
 use Rattle.text_model.specs.Lines.{lines_of}
 use Rattle.sample_model.specs.Judging.{first_bad_of_lines, first_bad_of_piece, first_bad_of_text}
 use Rattle.sample_model.specs.Limits.{max_text_bytes}
+use Rattle.sample_model.specs.Moves.{LoadMap}
 use Rattle.sample_model.proofs.JudgingLemmas.{bad_places_stay, first_bad_of_text-within}
 use Rattle.branch_stacks.specs.Reader.{Reading, HasRead, new_reading, Feeds, Finishes}
-use Rattle.branch_stacks.specs.Tally.{Tally, TellsOf}
+use Rattle.branch_stacks.specs.Tally.{Tally, Tells, TellsOf}
 use Rattle.branch_stacks.proofs.FeedLemmas.{HasRead-nothing}
 use Rattle.pgo_run.specs.BranchText.{FeedsText, JudgesText}
 use Rattle.pgo_run.specs.Halt.{halt_of_stop}
@@ -32,6 +33,7 @@ pub record ReadSoFar (k : ℕ) (before left : Option (List ℕ)) (reader : Readi
   pub read : List ℕ
   pub consumed : Consumes before left read
   pub file : reader.file ≡ k
+  pub loading : reader.loading ≡ None
   pub size : reader.size ≡ length read
   pub within : reader.size ≤ max_text_bytes
   pub has : HasRead read reader tally
@@ -41,19 +43,21 @@ ReadSoFar-none k left reader tally is tells = subst (λ (r : Reading). ReadSoFar
   read = [];
   consumed = Consumes-nil left;
   file = refl;
+  loading = refl;
   size = refl;
   within = omega arith;
   has = HasRead-nothing k tally tells;
 })
 
 pub ReadSoFar-more : (k : ℕ) (before left next : Option (List ℕ)) (piece : List ℕ) (old new : Reading) (tally after : Tally) → ReadSoFar k before left old tally → Consumes left next piece
-    → Feeds old tally piece (Ok tt) new after → (new.file ≡ old.file) × (new.size ≡ old.size + length piece) × (new.size ≤ max_text_bytes) → ReadSoFar k before next new after
+    → Feeds old tally piece (Ok tt) new after → (new.file ≡ old.file) × (new.loading ≡ old.loading) × (new.size ≡ old.size + length piece) × (new.size ≤ max_text_bytes) → ReadSoFar k before next new after
 ReadSoFar-more k before left next piece old new tally after so_far consumed feeds goes_on = record {
   read = so_far.read ++ piece;
   consumed = Consumes-trans before left next so_far.read piece so_far.consumed consumed;
   file = goes_on.0 ∙ so_far.file;
-  size = omega (arith, goes_on.1, so_far.size, length-append so_far.read piece);
-  within = goes_on.2;
+  loading = goes_on.1 ∙ so_far.loading;
+  size = omega (arith, goes_on.2, so_far.size, length-append so_far.read piece);
+  within = goes_on.3;
   has = (feeds so_far.read so_far.has).0.1;
 }
 
@@ -79,7 +83,7 @@ ReadSoFar-all k (Some text) (Some left) None piece reader tally so_far consumed 
 ReadSoFar-all k (Some text) (Some left) (Some rest) piece reader tally so_far consumed nothing end =
     let none : left ≡ [] = consumed ∙ ap (λ (t : List ℕ). t ++ rest) nothing ∙ end in
     let whole : text ≡ so_far.read = so_far.consumed ∙ ap (λ (t : List ℕ). so_far.read ++ t) none ∙ append-nil so_far.read in
-    (subst (λ (t : List ℕ). HasRead t reader tally) (sym whole) so_far.has, so_far.file, omega (arith, so_far.size, so_far.within, ap (λ (t : List ℕ). length t) whole))
+    (subst (λ (t : List ℕ). HasRead t reader tally) (sym whole) so_far.has, so_far.file, so_far.loading, omega (arith, so_far.size, so_far.within, ap (λ (t : List ℕ). length t) whole))
 
 -- what was fed stops the reading of a text,
 pub JudgesText-stop : (k : ℕ) (left : Option (List ℕ)) (stopped : Halt) (reader : Reading) (tally : Tally) → IfSome left (λ text. FeedsText k text (Err stopped) reader tally) → IfSome left (λ text. JudgesText k text (Err stopped) tally)
@@ -95,7 +99,7 @@ pub JudgesText-end : (k : ℕ) (left : Option (List ℕ)) (old new : Reading) (b
 JudgesText-end k None old new before after stop fed finishes = tt
 JudgesText-end k (Some text) old new before after NoMemory fed finishes = tt
 JudgesText-end k (Some text) old new before after (Refused place) fed finishes =
-    first_bad_of_text-within k text fed.2 ∙ ap (λ (n : ℕ). first_bad_of_lines n (lines_of text)) (sym fed.1) ∙ (finishes text fed.0).0
+    first_bad_of_text-within k text fed.3 ∙ ap (λ (n : ℕ). first_bad_of_lines n (lines_of text)) (sym fed.1) ∙ (finishes text fed.0).0
 
 -- or all of it is good.
 pub JudgesText-all : (k : ℕ) (left : Option (List ℕ)) (old new : Reading) (before after : Tally) → IfSome left (λ text. FeedsText k text (Ok tt) old before) → Finishes old before (Ok tt) new after
@@ -103,4 +107,4 @@ pub JudgesText-all : (k : ℕ) (left : Option (List ℕ)) (old new : Reading) (b
 JudgesText-all k None old new before after fed finishes = tt
 JudgesText-all k (Some text) old new before after fed finishes =
     let end = (finishes text fed.0).0 in
-    (first_bad_of_text-within k text fed.2 ∙ ap (λ (n : ℕ). first_bad_of_lines n (lines_of text)) (sym fed.1) ∙ end.0, end.1.0)
+    (first_bad_of_text-within k text fed.3 ∙ ap (λ (n : ℕ). first_bad_of_lines n (lines_of text)) (sym fed.1) ∙ end.0, subst (λ (l : Option LoadMap). Tells l (lines_of text) after) fed.2 end.1.0)

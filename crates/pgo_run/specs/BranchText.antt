@@ -18,7 +18,8 @@ JudgesText k text (Err NoMemory) tally = ⊤
 
 -- The text was read to its end, where only an open rest is left to judge, or its first bad place is told.
 abbrev pub FeedsText : ℕ → List ℕ → Result (Unit {0}) Halt → Reading → Tally → Type 0
-FeedsText k text (Ok done) reader tally = HasRead text reader tally × (reader.file ≡ k) × (length text ≤ max_text_bytes)
+FeedsText k text (Ok done) reader tally =
+    HasRead text reader tally × (reader.file ≡ k) × (reader.loading ≡ None) × (length text ≤ max_text_bytes)
 FeedsText k text (Err (NoSuchFile j)) reader tally = ⊥
 FeedsText k text (Err (Refused place)) reader tally = first_bad_of_text k text ≡ Some place
 FeedsText k text (Err (ReadFault j)) reader tally = ⊤

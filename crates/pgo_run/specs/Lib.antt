@@ -4,3 +4,4 @@ pub mod Output
 pub mod Run
 pub mod Status
 pub mod Words
+pub mod Where

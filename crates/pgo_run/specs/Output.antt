@@ -1,5 +1,6 @@
 -- What is made before the first write: the output, or what ends the command without it.
 use Rattle.std.specs.Prelude.{◌≡◌, ℕ, ⊤, Bool, true, false, List, Option, None, Some, Result, Ok, Err}
+use Rattle.refusal.specs.Place.{size_item}
 use Rattle.std.specs.Global.{Vec}
 use Rattle.io_edge.specs.Faults.{HasCauseWhere}
 use Rattle.command_model.specs.Answer.{Answer, no_such_file, refused, writes}
@@ -13,6 +14,15 @@ OpensFile file k (Err (NoSuchFile j)) left = (j ≡ k) × (file ≡ None)
 OpensFile file k (Err (Refused place)) left = ⊥
 OpensFile file k (Err (ReadFault j)) left = ⊤
 OpensFile file k (Err NoMemory) left = ⊥
+
+-- The k-th file, if the store has it, was read whole and passes the judgement of its size; or why not.
+abbrev pub ReadsFile : Option (List ℕ) → ℕ → ℕ → Result (Vec ℕ) Halt → Type 0
+ReadsFile file k limit (Ok bytes) = (file ≡ Some bytes.items) × (size_item k limit bytes.items ≡ None)
+ReadsFile file k limit (Err (NoSuchFile j)) = (j ≡ k) × (file ≡ None)
+ReadsFile file k limit (Err (Refused place)) =
+    (bytes : List ℕ) × (file ≡ Some bytes) × (size_item k limit bytes ≡ Some place)
+ReadsFile file k limit (Err (ReadFault j)) = ⊤
+ReadsFile file k limit (Err NoMemory) = ⊤
 
 -- The output is the answer's, or the answer says why there is none; a fault or want of memory may come in its place.
 abbrev pub Makes : Answer → Result (Vec ℕ) Halt → Type 0

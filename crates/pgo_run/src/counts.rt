@@ -12,9 +12,10 @@ ghost use Rattle.pgo_run.specs.Output.{HasFileCause, Makes};
 use crate::branch_text::count_text;
 use crate::halt::Halt;
 use crate::order::open_file;
-use branch_stacks::{Counts, Pair};
+use branch_stacks::Counts;
 use io_edge::Inputs;
 use refusal::NoMemory;
+use sample_model::Pair;
 use std::alloc::Global;
 use text_scan::{push_hex, push_number};
 

@@ -13,6 +13,7 @@ mod program;
 mod status;
 #[cfg(test)]
 mod tests;
+mod where_;
 
 pub use program::run;
 pub use status::{Status, status_line};

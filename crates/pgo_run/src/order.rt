@@ -1,10 +1,12 @@
 // The order of work that all commands share.
-ghost use Rattle.std.specs.Prelude.{◌≡◌, IfSome};
+ghost use Rattle.std.specs.Prelude.{◌≡◌, ◌≤◌, length, IfOk, IfSome};
 ghost use Rattle.io_edge.specs.Faults.{raised};
-ghost use Rattle.pgo_run.specs.Output.{OpensFile, HasFileCause};
+ghost use Rattle.pgo_run.specs.Output.{OpensFile, HasFileCause, ReadsFile};
 
 use crate::halt::Halt;
-use io_edge::Inputs;
+use io_edge::{Inputs, ReadStop, read_whole};
+use refusal::{Kind, Place};
+use std::alloc::Global;
 
 /// Opens the file of the k-th file word.
 ///
@@ -21,5 +23,37 @@ pub(crate) fn open_file<I: Inputs>(inputs: &mut I, k: u8, name: &[u8]) -> Result
         Ok(true) => Ok(()),
         Ok(false) => Err(Halt::NoSuchFile(k)),
         Err(_) => Err(Halt::ReadFault(k)),
+    }
+}
+
+/// The bytes of the file of the k-th file word, at most `limit` of them.
+///
+/// # Errors
+/// `NoSuchFile`, `Refused` with `FileTooLarge` at the limit, `ReadFault` and `NoMemory`.
+pub(crate) fn read_file<I: Inputs>(
+    alloc: Global,
+    inputs: &mut I,
+    k: u8,
+    name: &[u8],
+    limit: u64,
+) -> Result<Vec<u8>, Halt>
+    ensures file { IfSome (I.store inputs.old)
+        (λ files. ReadsFile (files name.now) k limit result) }
+    ensures within { IfOk result (λ bytes. length bytes.items ≤ limit) }
+    ensures store { I.store inputs.new ≡ I.store inputs.old }
+    ensures opens { I.opens inputs.new ≡ raised (I.opens inputs.old) }
+    ensures cause { HasFileCause k (I.faults inputs.old) (I.faults inputs.new) result }
+{
+    open_file(inputs, k, name)?;
+    let mut bytes = Vec::new(alloc);
+    match read_whole(inputs, limit, &mut bytes) {
+        Ok(()) => Ok(bytes),
+        Err(ReadStop::Fault) => Err(Halt::ReadFault(k)),
+        Err(ReadStop::TooLarge) => Err(Halt::Refused(Place {
+            file: k,
+            at: limit,
+            kind: Kind::FileTooLarge,
+        })),
+        Err(ReadStop::NoMemory) => Err(Halt::NoMemory),
     }
 }

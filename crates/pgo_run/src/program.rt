@@ -10,9 +10,9 @@ ghost use Rattle.pgo_run.specs.Output.{HasFileCause, Makes};
 ghost use Rattle.pgo_run.specs.Words.{meaning_of, texts_of};
 
 use crate::command::{Command, parse};
-use crate::counts;
 use crate::halt::Halt;
 use crate::status::Status;
+use crate::{counts, where_};
 use io_edge::{Inputs, Sink, write_all};
 use std::alloc::Global;
 
@@ -92,5 +92,10 @@ fn output<I: Inputs>(alloc: Global, command: Command<'_>, inputs: &mut I) -> Res
 {
     match command {
         Command::Counts(perf) => counts::output(alloc, perf, inputs),
+        Command::Where {
+            base,
+            binary,
+            address,
+        } => where_::output(alloc, base, binary, address, inputs),
     }
 }

@@ -1,5 +1,7 @@
 ghost use Rattle.std.specs.Prelude.{◌<◌};
 
+mod where_;
+
 use crate::{Status, run, status_line};
 use io_edge::{Fail, Items, MemoryInputs, MemorySink, StoredFile};
 use refusal::{Kind, NoMemory, Place};

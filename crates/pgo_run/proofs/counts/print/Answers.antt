@@ -1,7 +1,7 @@
 use Rattle.std.proofs.Common.{◌≡◌, ◌++◌, List, ℕ, ap, ◌∙◌, take, arith}
 use Rattle.std.proofs.lemmas.List.{take_all}
 use Rattle.std.specs.List.{flat_map}
-use Rattle.branch_stacks.specs.declared.pair.Pair.{Pair}
+use Rattle.sample_model.specs.declared.pair.Pair.{Pair}
 use Rattle.command_model.specs.Counts.{total_line}
 use Rattle.pgo_run.proofs.CountsLemmas.{row_line, rows_text}
 use Rattle.pgo_run.proofs.counts.print.Goals as goal

@@ -1,5 +1,7 @@
 use crate::{Block, Bound, Edge, read};
-use refusal::{Kind, Place, Stop};
+use refusal::{Kind, NoMemory, Place, Stop};
+use std::alloc::Global;
+use text_scan::{push_hex, push_number};
 
 #[test]
 fn functions_are_those_that_the_text_spells(rt: HostRuntime) {
@@ -43,7 +45,7 @@ fn edge(from: u32, to: u32, bound: Bound) -> Edge {
 
 #[test]
 fn a_text_is_refused_at_its_first_bad_line(rt: HostRuntime) {
-    let cases: [(&[u8], u64, Kind); 18] = [
+    let cases: [(&[u8], u64, Kind); 19] = [
         (b"func a\nblock 1 0x1 0x2", 2, Kind::BlockOrder),
         (
             b"func a\nblock 0 0x1 0x3\nblock 1 0x2 0x4",
@@ -79,6 +81,11 @@ fn a_text_is_refused_at_its_first_bad_line(rt: HostRuntime) {
         ),
         (b"func a\nblock 0 0x1 0x2\nedge 0 0 ran", 3, Kind::BadLine),
         (
+            b"func a\nblock 0 0x1 0x2\nedge 0 0 lo=3 hi=2",
+            3,
+            Kind::BadBound,
+        ),
+        (
             b"func a\nblock 0 0x1 0x2\nedge 0 0\nblock 1 0x2 0x3",
             4,
             Kind::BadLine,
@@ -93,5 +100,53 @@ fn a_text_is_refused_at_its_first_bad_line(rt: HostRuntime) {
             read(rt.alloc(), text, 2).err(),
             Some(Stop::Refused(refused))
         );
+    }
+}
+
+/// Adds the line of a block that holds the one address behind that of the block before.
+fn push_block(text: &mut Vec<u8>, number: u64) -> Result<(), NoMemory> {
+    text.extend_from_slice(b"\nblock ")?;
+    push_number(text, u128::from(number))?;
+    text.extend_from_slice(b" ")?;
+    push_hex(text, number.saturating_add(1))?;
+    text.extend_from_slice(b" ")?;
+    push_hex(text, number.saturating_add(2))
+}
+
+/// Adds the line of an edge, of which four lead from each block.
+fn push_edge(text: &mut Vec<u8>, place: u64) -> Result<(), NoMemory> {
+    text.extend_from_slice(b"\nedge ")?;
+    push_number(text, u128::from(place / 4))?;
+    text.extend_from_slice(b" ")?;
+    push_number(text, u128::from(place % 4))
+}
+
+/// A function of so many blocks and edges.
+fn large(alloc: Global, blocks: u64, edges: u64) -> Result<Vec<u8>, NoMemory> {
+    let mut text = Vec::with_capacity(alloc, 1 << 23)?;
+    text.extend_from_slice(b"func f")?;
+    for number in 0..blocks {
+        push_block(&mut text, number)?;
+    }
+    for place in 0..edges {
+        push_edge(&mut text, place)?;
+    }
+    text.extend_from_slice(b"\nend")?;
+    Ok(text)
+}
+
+#[test]
+fn the_most_blocks_and_edges_are_read(rt: HostRuntime) {
+    let cases: [(u64, u64, Option<(u64, Kind)>); 3] = [
+        (65_536, 262_144, None),
+        (65_537, 0, Some((65_538, Kind::TooManyBlocks))),
+        (65_536, 262_145, Some((327_682, Kind::TooManyEdges))),
+    ];
+    for (blocks, edges, refused) in cases {
+        let Ok(text) = large(rt.alloc(), blocks, edges) else {
+            panic!(rt; "no memory");
+        };
+        let bad = refused.map(|(at, kind)| Stop::Refused(Place { file: 2, at, kind }));
+        assert_eq!(rt; read(rt.alloc(), &text, 2).err(), bad);
     }
 }

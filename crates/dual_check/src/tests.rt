@@ -129,99 +129,43 @@ fn nodes(alloc: Global, root: bool, ins: [bool; 4], outs: [bool; 4]) -> Result<N
     })
 }
 
+/// Counts of two ways, and prices that fit them.
+const BLOCKS: [u64; 4] = [100, 100, 0, 100];
+
+const EDGES: [u64; 4] = [100, 0, 100, 0];
+
+const INS: [i64; 4] = [0, 0, 0, 10];
+
+const OUTS: [i64; 4] = [0, 10, 10, 0];
+
 #[test]
 fn least_counts_are_accepted_and_others_named(rt: HostRuntime) {
     let alloc = rt.alloc();
     let Ok(net) = two_ways(alloc, 0, None, &known([100, 60, 0, 100]), &unknown()) else {
         panic!(rt; "no memory");
     };
-    let ins = [0, 0, 0, 10];
-    let outs = [0, 10, 10, 0];
-    // Where a difference of 64 bits would lose 2^64, and fit.
-    let far_in = [0, i64::MAX - 4, 0, 10];
-    let far_out = [0, i64::MIN + 5, 10, 0];
-    let cases: [([u64; 4], [u64; 4], [i64; 4], [i64; 4], Option<Spot>); 12] = [
-        ([100, 100, 0, 100], [100, 0, 100, 0], ins, outs, None),
+    // Edges that in 64 bits add up to 100.
+    let around = 9_223_372_036_854_775_858;
+    let most = u64::MAX;
+    let cases: [([u64; 4], [u64; 4], Option<Spot>); 11] = [
+        (BLOCKS, EDGES, None),
+        ([101, 100, 0, 100], EDGES, Some(Spot::Block(0))),
+        ([100, 101, 0, 100], EDGES, Some(Spot::Block(1))),
+        ([100, 100, 1, 100], EDGES, Some(Spot::Block(2))),
+        ([100, 100, 0, 101], EDGES, Some(Spot::Block(3))),
+        (BLOCKS, [101, 0, 100, 0], Some(Spot::Block(0))),
+        (BLOCKS, [100, 1, 100, 0], Some(Spot::Block(0))),
+        (BLOCKS, [100, 0, 99, 0], Some(Spot::Block(1))),
+        (BLOCKS, [100, 0, 100, 1], Some(Spot::Block(2))),
+        (BLOCKS, [around, around, 100, 0], Some(Spot::Block(0))),
         (
-            [101, 100, 0, 100],
-            [100, 0, 100, 0],
-            ins,
-            outs,
+            [most, most, 0, most],
+            [most, 0, most, 0],
             Some(Spot::Block(0)),
-        ),
-        (
-            [100, 101, 0, 100],
-            [100, 0, 100, 0],
-            ins,
-            outs,
-            Some(Spot::Block(1)),
-        ),
-        (
-            [100, 100, 1, 100],
-            [100, 0, 100, 0],
-            ins,
-            outs,
-            Some(Spot::Block(2)),
-        ),
-        (
-            [100, 100, 0, 101],
-            [100, 0, 100, 0],
-            ins,
-            outs,
-            Some(Spot::Block(3)),
-        ),
-        (
-            [100, 100, 0, 100],
-            [101, 0, 100, 0],
-            ins,
-            outs,
-            Some(Spot::Block(0)),
-        ),
-        (
-            [100, 100, 0, 100],
-            [100, 1, 100, 0],
-            ins,
-            outs,
-            Some(Spot::Block(0)),
-        ),
-        (
-            [100, 100, 0, 100],
-            [100, 0, 99, 0],
-            ins,
-            outs,
-            Some(Spot::Block(1)),
-        ),
-        (
-            [100, 100, 0, 100],
-            [100, 0, 100, 1],
-            ins,
-            outs,
-            Some(Spot::Block(2)),
-        ),
-        (
-            [100, 100, 0, 100],
-            [100, 0, 100, 0],
-            ins,
-            [0, 9, 10, 0],
-            Some(Spot::Block(1)),
-        ),
-        (
-            [100, 100, 0, 100],
-            [100, 0, 100, 0],
-            [0, 0, 0, 11],
-            outs,
-            Some(Spot::Edge(2)),
-        ),
-        (
-            [100, 100, 0, 100],
-            [100, 0, 100, 0],
-            far_in,
-            far_out,
-            Some(Spot::Block(1)),
         ),
     ];
-    for (blocks, edges, ins, outs, bad) in cases {
-        let (Ok(flow), Ok(prices)) = (flow(alloc, blocks, edges), prices(alloc, ins, outs)) else {
+    for (blocks, edges, bad) in cases {
+        let (Ok(flow), Ok(prices)) = (flow(alloc, blocks, edges), prices(alloc, INS, OUTS)) else {
             panic!(rt; "no memory");
         };
         assert_eq!(rt; first_bad(&net, &flow, &prices), bad);
@@ -230,45 +174,79 @@ fn least_counts_are_accepted_and_others_named(rt: HostRuntime) {
 }
 
 #[test]
+fn prices_that_do_not_fit_are_named(rt: HostRuntime) {
+    let alloc = rt.alloc();
+    let Ok(net) = two_ways(alloc, 0, None, &known([100, 60, 0, 100]), &unknown()) else {
+        panic!(rt; "no memory");
+    };
+    let Ok(flow) = flow(alloc, BLOCKS, EDGES) else {
+        panic!(rt; "no memory");
+    };
+    // Where a difference of 64 bits would lose 2^64, and fit.
+    let (high, low) = (i64::MAX - 4, i64::MIN + 5);
+    let cases: [([i64; 4], [i64; 4], Option<Spot>); 11] = [
+        ([0, 0, -1, 10], OUTS, None),
+        ([1, 0, 0, 10], OUTS, Some(Spot::Block(0))),
+        (INS, [1, 10, 10, 0], Some(Spot::Edge(0))),
+        ([0, 1, 0, 10], OUTS, Some(Spot::Block(1))),
+        (INS, [0, 9, 10, 0], Some(Spot::Block(1))),
+        ([0, 0, 1, 10], OUTS, Some(Spot::Edge(1))),
+        (INS, [0, 10, 12, 0], Some(Spot::Block(2))),
+        (INS, [0, 10, 9, 0], Some(Spot::Edge(3))),
+        ([0, 0, 0, 11], OUTS, Some(Spot::Edge(2))),
+        (INS, [0, 10, 10, -1], Some(Spot::Block(3))),
+        ([0, high, 0, 10], [0, low, 10, 0], Some(Spot::Block(1))),
+    ];
+    for (ins, outs, bad) in cases {
+        let Ok(prices) = prices(alloc, ins, outs) else {
+            panic!(rt; "no memory");
+        };
+        assert_eq!(rt; first_bad(&net, &flow, &prices), bad);
+        assert_eq!(rt; accepts(&net, &flow, &prices), bad.is_none());
+    }
+}
+
+/// Costs that are worked out by hand, of counts that hand-made prices show to be least.
+#[test]
 fn weights_of_edges_and_bounds_count(rt: HostRuntime) {
     let alloc = rt.alloc();
     let once = known([1, 1, 1, 1]);
     let never = known([0, 0, 0, 0]);
     let cases = [
-        (None, [1, 1, 1, 2], once, [2, 1, 1, 2], [1, 1, 1, 1], 40),
         (
-            None,
-            [100, 60, 0, 100],
-            never,
-            [100, 100, 0, 100],
-            [100, 0, 100, 0],
+            (None, [1, 1, 1, 2], once),
+            ([2, 1, 1, 2], [1, 1, 1, 1]),
+            ([0, 40, 40, 20], [40, 20, 20, 0]),
+            40,
+        ),
+        (
+            (None, [100, 60, 0, 100], never),
+            (BLOCKS, EDGES),
+            ([0, 3, 3, 16], [0, 13, 13, 0]),
             1000,
         ),
         (
-            None,
-            [100, 60, 0, 100],
-            unknown(),
-            [100, 100, 0, 100],
-            [100, 0, 100, 0],
+            (None, [100, 60, 0, 100], unknown()),
+            (BLOCKS, EDGES),
+            (INS, OUTS),
             400,
         ),
         (
-            Some(1),
-            [1, 1, 1, 2],
-            unknown(),
-            [1, 1, 0, 1],
-            [1, 0, 1, 0],
+            (Some(1), [1, 1, 1, 2], unknown()),
+            ([1, 1, 0, 1], [1, 0, 1, 0]),
+            ([0, 20, 20, 0], [20, 0, 0, 0]),
             40,
         ),
     ];
-    for (at_most, weights, edge_weights, blocks, edges, costs) in cases {
+    for ((at_most, weights, edge_weights), (blocks, edges), (ins, outs), costs) in cases {
         let Ok(net) = two_ways(alloc, 0, at_most, &known(weights), &edge_weights) else {
             panic!(rt; "no memory");
         };
-        let Ok(flow) = flow(alloc, blocks, edges) else {
+        let (Ok(flow), Ok(prices)) = (flow(alloc, blocks, edges), prices(alloc, ins, outs)) else {
             panic!(rt; "no memory");
         };
         assert_eq!(rt; cost(&net, &flow), costs);
+        assert!(rt; accepts(&net, &flow, &prices));
     }
 }
 

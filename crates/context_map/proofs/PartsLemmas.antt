@@ -16,9 +16,9 @@ use Rattle.chain_model.proofs.ChainLemmas.{left, taken, passed, step, chain-left
 use Rattle.member_contexts.specs.declared.named.Named.{Named}
 use Rattle.member_contexts.specs.declared.context.Context.{Context}
 use Rattle.member_contexts.specs.Contexts.{place_in, IsContext}
-use Rattle.key_segments.specs.Segments.{Kept, TellBelow}
+use Rattle.key_segments.specs.Segments.{HaveSegments, Kept, TellBelow}
 use Rattle.key_segments.proofs.ToldLemmas.{TellBelow-start, TellBelow-gap, TellBelow-all, AreBetween-wider}
-use Rattle.part_segments.specs.Parts.{line_and_disc, with_factor, factor_of, shown, Extends}
+use Rattle.part_segments.specs.Parts.{line_and_disc, with_factor, factor_of, shown, Extends, KeepUp}
 use Rattle.part_segments.proofs.PartLemmas.{Kept-same, Kept-more}
 use Rattle.row_model.specs.Rows.{Sequence}
 use Rattle.row_table.specs.Told.{told}
@@ -91,6 +91,7 @@ pub record PartsSoFar (rows : ℕ → ℕ → Option LineAndDisc) (base : Bool) 
   pub nameless : (a : ℕ) → a < bound → is_some (owner_at spans a) ≡ is_nameless (place_at rows base members a)
   pub left_ascend : AreBetween bound (2 ^ 64 - 1) left
   pub owners : (a : ℕ) → bound ≤ a → owner_at left a ≡ innermost members a
+  pub used : HaveSegments (length keys) more parts
   pub kept : Kept keys more
   pub room : length keys ≤ most → length more ≤ most
 
@@ -102,6 +103,7 @@ PartsSoFar-none rows base members most cover keys parts spans disjoint owners no
   nameless = λ a below. absurd (omega (arith, below));
   left_ascend = disjoint;
   owners = λ a from. owners a;
+  used = λ n from low. absurd (omega (arith, from, low));
   kept = Kept-same keys;
   room = λ h. h;
 }
@@ -126,9 +128,9 @@ unnamed-owner base (Some named) (Some row) span a low high = sym (lined (row.0 =
 
 pub PartsSoFar-more : (rows : ℕ → ℕ → Option LineAndDisc) (base : Bool) (members : List Member) (most : ℕ) (span : Span) (rest : List Span) (keys more all : List Key) (parts longer : List Seg) (spans wider : List Span) (bound : ℕ) (context : Context)
     → PartsSoFar rows base members most (span ∷ rest) keys more parts spans bound → IsContext members base span.owner context
-    → Extends span.lo span.hi (λ a. shown base context.named (rows context.unit a)) more all parts longer → wider ≡ spans ++ unnamed context.named span → Kept more all → (length more ≤ most → length all ≤ most)
+    → Extends span.lo span.hi (λ a. shown base context.named (rows context.unit a)) more all parts longer → wider ≡ spans ++ unnamed context.named span → KeepUp more all parts longer → Kept more all → (length more ≤ most → length all ≤ most)
     → PartsSoFar rows base members most rest keys all longer wider span.hi
-PartsSoFar-more rows base members most span rest keys more all parts longer spans wider bound context so_far is extended pushed kept room = record {
+PartsSoFar-more rows base members most span rest keys more all parts longer spans wider bound context so_far is extended pushed keep_up kept room = record {
   tell = extended (wanted rows base members)
       (TellBelow-gap bound span.lo more (wanted rows base members) parts so_far.tell low (λ a from below. out-wanted rows base members a (gap a from below)))
       (λ a from below. in-wanted rows base members a span.owner context (inside a from below) is);
@@ -150,6 +152,7 @@ PartsSoFar-more rows base members most span rest keys more all parts longer span
   ];
   left_ascend = so_far.left_ascend.2;
   owners = λ a from. sym (owner-miss span rest a (missed-behind span a from)) ∙ so_far.owners a (omega (arith, low, full, from));
+  used = keep_up (length keys) so_far.used;
   kept = Kept-more keys more all so_far.kept kept;
   room = λ h. room (so_far.room h);
 }

@@ -1,5 +1,5 @@
 ghost use Rattle.std.specs.Prelude.{◌≡◌, ◌≤◌, ◌<◌, ◌+◌, ◌^◌, length, IfOk};
-ghost use Rattle.key_segments.specs.Segments.{Kept};
+ghost use Rattle.key_segments.specs.Segments.{HaveSegments, Kept};
 ghost use Rattle.context_map.specs.Maps.{IsMap, rows_of};
 
 use crate::entrance::{Entrance, entrances_of};
@@ -112,6 +112,7 @@ pub fn make(
 ) -> Result<Map, NoMemory>
     requires { length keys.old < 2 ^ 31 }
     ensures map { IfOk result (λ map. IsMap (rows_of rows.now) base members.now keys.new map) }
+    ensures used { IfOk result (λ map. HaveSegments (length keys.old) keys.new map.segments) }
     ensures kept { Kept keys.old keys.new }
     ensures added { length keys.new ≤ length keys.old + 2 ^ 28 }
 {

@@ -1,7 +1,7 @@
 ghost use Rattle.std.specs.Prelude.{◌≡◌, ◌≤◌, ◌<◌, ◌-◌, ◌^◌, ℕ, length, IfOk};
 ghost use Rattle.address_spans.specs.Spans.{AreDisjoint, owner_at};
 ghost use Rattle.chain_model.specs.Chains.{innermost};
-ghost use Rattle.key_segments.specs.Segments.{Kept};
+ghost use Rattle.key_segments.specs.Segments.{HaveSegments, Kept};
 ghost use Rattle.context_map.specs.Maps.{ArePartsOf, rows_of};
 
 use crate::span::{Parts, push_span};
@@ -30,6 +30,8 @@ pub(crate) fn parts_of(
     requires room { rules.most < 2 ^ 32 - 1 }
     ensures parts { IfOk result (λ parts. ArePartsOf (rows_of rows.now) rules.base members.now
         keys.new parts.segments.items parts.nameless.items) }
+    ensures used { IfOk result (λ parts.
+        HaveSegments (length keys.old) keys.new parts.segments.items) }
     ensures kept { Kept keys.old keys.new }
     ensures most { length keys.old ≤ rules.most → length keys.new ≤ rules.most }
 {

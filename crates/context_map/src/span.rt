@@ -1,7 +1,7 @@
 ghost use Rattle.std.specs.Prelude.{◌≡◌, ◌≤◌, ◌<◌, ◌-◌, ◌^◌, ◌++◌, length, OnOk};
 ghost use Rattle.std.specs.Option.{option_map};
 ghost use Rattle.key_segments.specs.Segments.{Kept};
-ghost use Rattle.part_segments.specs.Parts.{Extends, shown};
+ghost use Rattle.part_segments.specs.Parts.{Extends, KeepUp, shown};
 ghost use Rattle.context_map.specs.Maps.{rows_of, table_of as table_at, unnamed};
 
 use address_spans::Span;
@@ -36,6 +36,8 @@ pub(crate) fn push_span(
         keys.old keys.new parts.old.segments.items parts.new.segments.items) }
     ensures nameless { OnOk result (parts.new.nameless.items
         ≡ parts.old.nameless.items ++ unnamed context.now.named span.now) }
+    ensures used { OnOk result
+        (KeepUp keys.old keys.new parts.old.segments.items parts.new.segments.items) }
     ensures kept { Kept keys.old keys.new }
     ensures most { length keys.old ≤ rules.most → length keys.new ≤ rules.most }
 {

@@ -1,3 +1,4 @@
 pub mod EntryLemmas
 pub mod Items
 pub mod Texts
+pub mod Segments

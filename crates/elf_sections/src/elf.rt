@@ -6,12 +6,13 @@ use crate::entries::Entries;
 use crate::file_header::FileHeader;
 use crate::judgement::judge_sections;
 use crate::names::Names;
-use crate::program_header::{ProgramHeader, judge_program_headers};
+use crate::program_header::{ProgramHeader, first_code, is_loaded, judge_program_headers};
 use crate::section_header::SectionHeader;
 use crate::section_table::SectionTable;
 use byte_view::Part;
 use load_model::LoadSegment;
-use refusal::{Kind, Place, refuse_if};
+use refusal::{Kind, NoMemory, Place, refuse_if};
+use std::alloc::Global;
 use std::marker::Model;
 
 /// An ELF64 file whose headers are good: its sections, and the ranges of addresses that hold its
@@ -22,6 +23,8 @@ use std::marker::Model;
 pub struct Elf<'a> {
     file: &'a [u8],
     segments: Entries<'a, ProgramHeader>,
+    /// The first segment of code, in which most code lies.
+    code: Option<LoadSegment>,
     sections: SectionTable<'a>,
     names: Names<'a>,
 }
@@ -54,16 +57,18 @@ pub fn read(file: &[u8]) -> Result<Elf<'_>, Place>
     let sections = SectionTable::judge(&header)?;
     let names = sections.judge_names(file)?;
     judge_sections(&sections, file, &names)?;
+    let code = first_code(&segments);
     Ok(Elf {
         file,
         segments,
+        code,
         sections,
         names,
     })
 }
 
 impl<'a> Elf<'a> {
-    ghost use Rattle.std.specs.Prelude.{◌≡◌, ◌&&◌, None, IfSome, slice_get};
+    ghost use Rattle.std.specs.Prelude.{◌≡◌, ◌&&◌, None, IfOk, IfSome, slice_get};
     ghost use Rattle.std.specs.List.{list_any};
     ghost use Rattle.refusal.specs.Place.{Judges};
     ghost use Rattle.elf_model.specs.Tables.{program_headers};
@@ -123,12 +128,36 @@ impl<'a> Elf<'a> {
         None
     }
 
+    /// All loaded executable segments, in the order of the headers.
+    ///
+    /// # Errors
+    /// `NoMemory`.
+    ///
+    /// Source: System V gABI, "Program Header".
+    #[tactic(auto, unfolding(elf_model::specs::Segments::code_loads))]
+    pub fn loads(&self, alloc: Global) -> Result<Vec<LoadSegment>, NoMemory>
+        ensures { IfOk result (λ loads. loads.items ≡ code_loads self.now) }
+    {
+        let mut loads = Vec::new(alloc);
+        for header in self.segments.iter() {
+            if header.is_code() {
+                loads.push(header.load())?;
+            }
+        }
+        Ok(loads)
+    }
+
     /// Whether one loaded executable segment holds the addresses from `lo` up to `hi`.
     fn has_code(&self, lo: u64, hi: u64) -> bool
         ensures { result
             ≡ list_any (λ segment. is_code segment && holds lo hi segment)
             (program_headers self.now) }
     {
+        if let Some(first) = &self.code
+            && is_loaded(first, lo, hi)
+        {
+            return true;
+        }
         for segment in self.segments.iter() {
             if segment.is_code() && segment.holds(lo, hi) {
                 return true;

@@ -1,7 +1,8 @@
-ghost use Rattle.std.specs.Prelude.{◌≡◌};
+ghost use Rattle.std.specs.Prelude.{◌≡◌, ◌+◌, ◌&&◌, nat_le, filter, map, slice_get};
 ghost use Rattle.refusal.specs.Place.{Judges, first_bad};
 ghost use Rattle.elf_model.specs.Tables.{program_headers};
 ghost use Rattle.elf_model.specs.Items.{program_table_items};
+ghost use Rattle.elf_model.specs.Segments.{is_code as is_code_segment, load_of as loaded};
 
 use crate::entries::{Entries, Entry};
 use crate::fields::{passes_end, u32_at, u64_at};
@@ -113,4 +114,24 @@ pub(crate) fn judge_program_headers<'a>(
     let passes = passes_end(header.file, at, size);
     refuse_if(passes, Place::in_binary(E_PHOFF, Kind::BadHeader))?;
     Ok(Entries::new(header.file, at as usize, usize::from(count)))
+}
+
+/// The first segment of code among some, as it is loaded.
+pub(crate) fn first_code(segments: &Entries<'_, ProgramHeader>) -> Option<LoadSegment>
+    ensures { result ≡ slice_get (map loaded (filter is_code_segment segments.now)) 0 }
+{
+    for segment in segments.iter() {
+        if segment.is_code() {
+            return Some(segment.load());
+        }
+    }
+    None
+}
+
+/// Whether a loaded segment holds each address from `lo` up to `hi`, `hi` left out.
+pub(crate) fn is_loaded(segment: &LoadSegment, lo: u64, hi: u64) -> bool
+    ensures { result
+        ≡ nat_le segment.now.vaddr lo && nat_le hi (segment.now.vaddr + segment.now.size) }
+{
+    segment.vaddr <= lo && u128::from(hi) <= u128::from(segment.vaddr) + u128::from(segment.size)
 }

@@ -6,6 +6,7 @@ ghost use Rattle.chain_model.specs.Chains.{numbered};
 ghost use Rattle.inline_cover.specs.Levels.{IsLevel, next_in};
 ghost use Rattle.inline_cover.specs.Owners.{owned};
 
+use crate::frame::push_framed;
 use crate::pieces::push_pieces;
 use address_spans::{Span, disjoint, framed};
 use chain_model::Member;
@@ -82,6 +83,11 @@ fn push_cover(
 {
     if inner.is_empty() {
         return push_pieces(spans, member, number);
+    }
+    if let [(lo, hi)] = member.pieces.as_slice() {
+        let (lo, hi) = (*lo, *hi);
+        let owner = number;
+        return push_framed(spans, &Span { lo, hi, owner }, inner);
     }
     let mut pieces = Vec::new(alloc);
     push_pieces(&mut pieces, member, number)?;

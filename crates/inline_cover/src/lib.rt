@@ -5,6 +5,7 @@
 //! it, so the cover of a depth is made of those of the depth below.
 #![tactic(auto)]
 
+mod frame;
 mod functions;
 mod level;
 mod pieces;

@@ -1,5 +1,5 @@
 -- Segments, and what they tell of an address.
-use Rattle.std.specs.Prelude.{◌≡◌, ℕ, ◌<◌, List, map, find, slice_get, Option, Some, IsSome, option_and_then}
+use Rattle.std.specs.Prelude.{◌≡◌, ℕ, ◌<◌, ◌≤◌, List, length, map, Contains, find, slice_get, Option, Some, IsSome, option_and_then}
 use Rattle.std.specs.Option.{option_map}
 use Rattle.std.specs.List.{AllByRecursion}
 use Rattle.address_spans.specs.declared.span.Span.{Span}
@@ -39,6 +39,14 @@ Kept keys more = (n : ℕ) (key : Key) → slice_get keys n ≡ Some key → sli
 -- The number of a segment's key is that of a key.
 abbrev pub IsGiven : List Key → Seg → Type 0
 IsGiven keys segment = IsSome (slice_get keys segment.key.0)
+
+-- One of the segments has the key of this number.
+abbrev pub HasSegment : List Seg → ℕ → Type 0
+HasSegment segments n = Contains (map (λ segment. segment.key.0) segments) n
+
+-- Each key from a number on has a segment.
+abbrev pub HaveSegments : ℕ → List Key → List Seg → Type 0
+HaveSegments first keys segments = (n : ℕ) → first ≤ n → n < length keys → HasSegment segments n
 
 -- Segments tell the keys and factors of all addresses below a bound, also when more keys are added.
 pub record TellBelow (bound : ℕ) (keys : List Key) (wanted : ℕ → Option (Key × ℕ)) (segments : List Seg) : Type 0 where

@@ -73,6 +73,13 @@ impl Keys {
         self.keys.len() as u32
     }
 
+    /// No key has two numbers. Nothing is done: this is for a proof that rests on it.
+    pub fn each_once(&self)
+        ensures { IsNumbered self.now }
+    {
+        let _len = self.keys.len();
+    }
+
     /// Whether no key has a number.
     pub fn is_empty(&self) -> bool
         ensures { IsTrue result ↔ (self.now ≡ []) }

@@ -73,6 +73,13 @@ impl<'a> Names<'a> {
         self.names.len() as u32
     }
 
+    /// No name has two numbers. Nothing is done: this is for a proof that rests on it.
+    pub fn each_once(&self)
+        ensures { IsNumbered self.now }
+    {
+        let _len = self.names.len();
+    }
+
     /// Whether no name has a number.
     pub fn is_empty(&self) -> bool
         ensures { IsTrue result ↔ (self.now ≡ []) }

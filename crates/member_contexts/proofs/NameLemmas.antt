@@ -1,53 +1,68 @@
--- The names and frames along a path.
-use Rattle.std.proofs.Common.{◌≡◌, ℕ, Bool, List, [], ◌∷◌, ◌++◌, Option, None, Some, refl, sym, ap, ◌∙◌, map, append_assoc, append-nil}
-use Rattle.std.specs.Prelude.{option_and_then}
+-- The names and frames along a path, which is climbed from its end.
+use Rattle.std.proofs.Common.{◌≡◌, ℕ, ◌<◌, Bool, true, false, List, [], ◌∷◌, ◌++◌, Option, None, Some, refl, sym, ap, ◌∙◌, arith, map, length, reverse, append_assoc, append-nil}
+use Rattle.std.specs.Prelude.{option_and_then, ◌&&◌, slice_get}
 use Rattle.std.specs.Option.{option_map}
+use Rattle.std.proofs.lemmas.List.{reverse-append}
 use Rattle.key_types.specs.declared.ids.NameId.{NameId}
 use Rattle.key_types.specs.declared.key.Frame.{Frame}
 use Rattle.chain_model.specs.declared.member.Member.{Member}
-use Rattle.chain_model.specs.Places.{nameless, LineAndDisc, frame, frames, last_start, place_by, place_of}
+use Rattle.chain_model.specs.Chains.{path}
+use Rattle.chain_model.specs.Places.{nameless, LineAndDisc, frame, frames, last_start, place_by, place_of, row_of}
+use Rattle.member_contexts.specs.declared.context.Context.{Context}
 use Rattle.member_contexts.specs.declared.named.Named.{Named}
-use Rattle.member_contexts.specs.Paths.{member_at}
-use Rattle.member_contexts.specs.Contexts.{place_in}
+use Rattle.member_contexts.specs.Paths.{member_at, numbered_at, parent_at, AreParents}
+use Rattle.member_contexts.specs.Contexts.{place_in, told, IsContext}
+use Rattle.member_contexts.proofs.ParentLemmas.{climb-more, climb-end, climb-before, members-of}
 
 abbrev pub calls_at : List Member → List ℕ → List Member
 calls_at members numbers = map (member_at members) numbers
 
--- how far the calls were taken: those that were have frames, and the last of them starts in a line
-pub record NamesSoFar (members : List Member) (base : Bool) (first : ℕ) (numbers left : List ℕ) (start : ℕ) (made : List Frame) : Type 0 where
-  pub framed : frames base first (calls_at members numbers) ≡ option_map (λ rest. made ++ rest) (frames base start (calls_at members left))
-  pub last : last_start first (calls_at members numbers) ≡ last_start start (calls_at members left)
+-- how far a path was climbed: the members below the one that is reached, and their frames, the innermost first
+pub record ClimbedSoFar (members : List Member) (base : Bool) (number at : ℕ) (made : List Frame) (all_named : Bool) : Type 0 where
+  pub below : List ℕ
+  pub here : at < length members
+  pub way : path members number ≡ path members at ++ map (numbered_at members) below
+  pub framed : frames base (member_at members at).start (calls_at members below) ≡ told all_named (reverse made)
+  pub last : last_start (member_at members at).start (calls_at members below) ≡ (member_at members number).start
 
-keep : (o : Option (List Frame)) → o ≡ option_map (λ rest. [] ++ rest) o
-keep None = refl
-keep (Some xs) = refl
-
-pub NamesSoFar-none : (members : List Member) (base : Bool) (first start : ℕ) (numbers : List ℕ) (made : List Frame) → start ≡ first → made ≡ [] → NamesSoFar members base first numbers numbers start made
-NamesSoFar-none members base first start numbers made same empty = record {
-  framed = keep (frames base first (calls_at members numbers)) ∙ ap (λ m. option_map (λ rest. m ++ rest) (frames base first (calls_at members numbers))) (sym empty)
-      ∙ ap (λ s. option_map (λ rest. made ++ rest) (frames base s (calls_at members numbers))) (sym same);
-  last = ap (λ s. last_start s (calls_at members numbers)) (sym same);
+pub ClimbedSoFar-none : (members : List Member) (base : Bool) (number : ℕ) (made : List Frame) → number < length members → made ≡ [] → ClimbedSoFar members base number number made true
+ClimbedSoFar-none members base number made within none = record {
+  below = [];
+  here = within;
+  way = sym (append-nil (path members number));
+  framed = ap (λ fs. Some (reverse fs)) (sym none);
+  last = refl;
 }
 
-one_more : (made : List Frame) (f : Frame) (o : Option (List Frame)) → option_map (λ rest. made ++ rest) (option_map (λ rest. f ∷ rest) o) ≡ option_map (λ rest. (made ++ f ∷ []) ++ rest) o
-one_more made f None = refl
-one_more made f (Some xs) = ap Some (sym (append_assoc made (f ∷ []) xs))
+-- a call comes before those that were inlined into it
+one_more : (named all_named : Bool) (made more : List Frame) (f : NameId → Frame) (name : Option NameId) → told named more ≡ option_map (λ n. made ++ f n ∷ []) name
+    → option_and_then (λ n. option_map (λ rest. f n ∷ rest) (told all_named (reverse made))) name ≡ told (named && all_named) (reverse more)
+one_more false all_named made more f None is = refl
+one_more true all_named made more f None is = absurd cc
+one_more false all_named made more f (Some n) is = absurd cc
+one_more true false made more f (Some n) is = refl
+one_more true true made more f (Some n) is =
+    let e : more ≡ made ++ f n ∷ [] = cc in
+    ap Some (sym (ap reverse e ∙ reverse-append made (f n ∷ [])))
 
-frames-named : (base : Bool) (start : ℕ) (call : Member) (calls : List Member) (name : NameId) → call.name ≡ Some name → frames base start (call ∷ calls) ≡ option_map (λ rest. frame base start call name ∷ rest) (frames base call.start calls)
-frames-named base start call calls name is = ap (λ o. option_and_then (λ n. option_map (λ rest. frame base start call n ∷ rest) (frames base call.start calls)) o) is
-
-frames-nameless : (base : Bool) (start : ℕ) (call : Member) (calls : List Member) → call.name ≡ None → frames base start (call ∷ calls) ≡ None
-frames-nameless base start call calls is = ap (λ o. option_and_then (λ n. option_map (λ rest. frame base start call n ∷ rest) (frames base call.start calls)) o) is
-
-pub NamesSoFar-more : (members : List Member) (base : Bool) (first n : ℕ) (numbers left : List ℕ) (start : ℕ) (made more : List Frame) (call : Member) (name : NameId) → NamesSoFar members base first numbers (n ∷ left) start made
-    → call ≡ member_at members n → call.name ≡ Some name → more ≡ made ++ frame base start call name ∷ [] → NamesSoFar members base first numbers left call.start more
-NamesSoFar-more members base first n numbers left start made more call name so_far is named pushed = record {
-  framed = so_far.framed
-      ∙ ap (λ m. option_map (λ rest. made ++ rest) (frames base start (m ∷ calls_at members left))) (sym is)
-      ∙ ap (option_map (λ rest. made ++ rest)) (frames-named base start call (calls_at members left) name named)
-      ∙ one_more made (frame base start call name) (frames base call.start (calls_at members left))
-      ∙ ap (λ m. option_map (λ rest. m ++ rest) (frames base call.start (calls_at members left))) (sym pushed);
-  last = so_far.last ∙ ap (λ (m : Member). last_start m.start (calls_at members left)) (sym is);
+pub ClimbedSoFar-more : (members : List Member) (parents : List (Option ℕ)) (base : Bool) (number at p start : ℕ) (made more : List Frame) (all_named named next : Bool) (call : Member)
+    → ClimbedSoFar members base number at made all_named → AreParents members parents → parent_at parents at ≡ Some p → call ≡ member_at members at → start ≡ (member_at members p).start
+    → told named more ≡ option_map (λ name. made ++ frame base start call name ∷ []) call.name → next ≡ named && all_named
+    → ClimbedSoFar members base number p more next
+ClimbedSoFar-more members parents base number at p start made more all_named named next call so_far all is call_is start_is pushed next_is = record {
+  below = at ∷ so_far.below;
+  here = omega (arith, so_far.here, climb-before members parents at p all so_far.here is);
+  way = so_far.way
+      ∙ ap (λ ms. ms ++ map (numbered_at members) so_far.below) (climb-more members parents at p all so_far.here is)
+      ∙ append_assoc (path members p) (numbered_at members at ∷ []) (map (numbered_at members) so_far.below);
+  framed =
+      ap (λ s. frames base s (member_at members at ∷ calls_at members so_far.below)) (sym start_is)
+      ∙ ap (λ m. frames base start (m ∷ calls_at members so_far.below)) (sym call_is)
+      ∙ ap (λ o. option_and_then (λ n. option_map (λ rest. frame base start call n ∷ rest) o) call.name) (
+      ap (λ (m : Member). frames base m.start (calls_at members so_far.below)) call_is ∙ so_far.framed)
+      ∙ one_more named all_named made more (frame base start call) call.name pushed
+      ∙ ap (λ b. told b (reverse more)) (sym next_is);
+  last = so_far.last;
 }
 
 -- the places that names give
@@ -55,38 +70,33 @@ place-nameless : (base : Bool) (start : ℕ) (name : Option NameId) (row : Optio
 place-nameless base start None row = refl
 place-nameless base start (Some root) row = refl
 
-pub NamesSoFar-nameless : (members : List Member) (base : Bool) (f n : ℕ) (numbers left : List ℕ) (start : ℕ) (made : List Frame) (call : Member) (row : Option LineAndDisc) → NamesSoFar members base (member_at members f).start numbers (n ∷ left) start made
-    → call ≡ member_at members n → call.name ≡ None → place_of base (calls_at members (f ∷ numbers)) row ≡ place_in base None row
-NamesSoFar-nameless members base f n numbers left start made call row so_far is none =
-    let nothing : frames base (member_at members f).start (calls_at members numbers) ≡ None =
-    so_far.framed
-    ∙ ap (λ m. option_map (λ rest. made ++ rest) (frames base start (m ∷ calls_at members left))) (sym is)
-    ∙ ap (option_map (λ rest. made ++ rest)) (frames-nameless base start call (calls_at members left) none)
-    in
-    ap (λ o. place_by base (last_start (member_at members f).start (calls_at members numbers)) (member_at members f).name o row) nothing
-    ∙ place-nameless base (last_start (member_at members f).start (calls_at members numbers)) (member_at members f).name row
+pub named-not : (base : Bool) (start : ℕ) (name : Option NameId) (row : Option LineAndDisc) → place_by base start name None row ≡ place_in base None row
+named-not base start name row = place-nameless base start name row
 
-pub function-nameless : (members : List Member) (base : Bool) (f : ℕ) (numbers : List ℕ) (function : Member) (row : Option LineAndDisc) → function ≡ member_at members f → function.name ≡ None
-    → place_of base (calls_at members (f ∷ numbers)) row ≡ place_in base None row
-function-nameless members base f numbers function row is none =
-    ap (λ o. place_by base (last_start (member_at members f).start (calls_at members numbers)) o (frames base (member_at members f).start (calls_at members numbers)) row) (ap (λ (m : Member). m.name) (sym is) ∙ none)
+pub named-all : (base : Bool) (named : Named) (row : Option LineAndDisc) → place_by base named.start (Some named.root) (Some named.calls.items) row ≡ place_in base (Some named) row
+named-all base named None = refl
+named-all base named (Some row) = refl
 
-by_row : (base : Bool) (named : Named) (start : ℕ) (name : Option NameId) (calls : Option (List Frame)) (row : Option LineAndDisc) → start ≡ named.start → name ≡ Some named.root → calls ≡ Some named.calls.items
-    → place_by base start name calls row ≡ place_in base (Some named) row
-by_row base named start name calls row s n c =
-    ap (λ k. place_by base k name calls row) s
-    ∙ ap (λ o. place_by base named.start o calls row) n
-    ∙ ap (λ o. place_by base named.start (Some named.root) o row) c
-    ∙ by row
-  where
-    by : (row : Option LineAndDisc) → place_by base named.start (Some named.root) (Some named.calls.items) row ≡ place_in base (Some named) row
-    by None = refl
-    by (Some r) = refl
-
-pub NamesSoFar-all : (members : List Member) (base : Bool) (f : ℕ) (numbers left : List ℕ) (named : Named) (function : Member) (row : Option LineAndDisc) → NamesSoFar members base (member_at members f).start numbers left named.start named.calls.items
-    → left ≡ [] → function ≡ member_at members f → function.name ≡ Some named.root → place_of base (calls_at members (f ∷ numbers)) row ≡ place_in base (Some named) row
-NamesSoFar-all members base f numbers left named function row so_far none is root =
-    by_row base named (last_start (member_at members f).start (calls_at members numbers)) (member_at members f).name (frames base (member_at members f).start (calls_at members numbers)) row
-    (so_far.last ∙ ap (λ ns. last_start named.start (calls_at members ns)) none)
-    (ap (λ (m : Member). m.name) (sym is) ∙ root)
-    (so_far.framed ∙ ap (λ ns. option_map (λ rest. named.calls.items ++ rest) (frames base named.start (calls_at members ns))) none ∙ ap Some (append-nil named.calls.items))
+-- the context of a member from which a function was reached
+pub ClimbedSoFar-all : (members : List Member) (parents : List (Option ℕ)) (base : Bool) (number start : ℕ) (made calls : List Frame) (all_named : Bool) (function : Member) (context : Context)
+    → ClimbedSoFar members base number context.function made all_named → AreParents members parents → parent_at parents context.function ≡ None
+    → function ≡ member_at members context.function → start ≡ (member_at members number).start → context.unit ≡ function.unit → calls ≡ reverse made
+    → ((base : Bool) (row : Option LineAndDisc) → place_by base start function.name (told all_named calls) row ≡ place_in base context.named row)
+    → IsContext members base number context
+ClimbedSoFar-all members parents base number start made calls all_named function context so_far all is function_is start_is unit_is calls_is named =
+    let at = context.function in
+    let below = so_far.below in
+    let way : path members number ≡ map (numbered_at members) (at ∷ below) =
+    so_far.way ∙ ap (λ ms. ms ++ map (numbered_at members) below) (climb-end members parents at all so_far.here is)
+    in record {
+      function = ap (λ (ms : List (ℕ × Member)). option_map (λ m. m.0) (slice_get ms 0)) way;
+      row = λ rows a. ap (λ (ms : List (ℕ × Member)). row_of rows (map (λ m. m.1) ms) a) way
+          ∙ ap (λ (m : Member). rows m.unit a) (sym function_is) ∙ ap (λ u. rows u a) (sym unit_is);
+      place = λ row.
+          ap (λ (ms : List (ℕ × Member)). place_of base (map (λ m. m.1) ms) row) way
+          ∙ ap (λ (ms : List Member). place_of base ms row) (members-of members (at ∷ below))
+          ∙ ap (λ s. place_by base s (member_at members at).name (frames base (member_at members at).start (calls_at members below)) row) (so_far.last ∙ sym start_is)
+          ∙ ap (λ o. place_by base start (member_at members at).name o row) (so_far.framed ∙ ap (told all_named) (sym calls_is))
+          ∙ ap (λ (m : Member). place_by base start m.name (told all_named calls) row) (sym function_is)
+          ∙ named base row;
+    }

@@ -1,7 +1,6 @@
 -- The parents of members, and the paths that they lead along.
 use Rattle.std.proofs.Common.{◌≡◌, ℕ, zero, suc, ◌+◌, ◌-◌, ◌<◌, ◌⊎◌, inl, inr, Bool, true, false, List, [], ◌∷◌, ◌++◌, Option, None, Some, refl, sym, ap, ◌∙◌, arith, subst, length, take, get_or, map, add-one, length-append}
 use Rattle.std.specs.Prelude.{slice_get, nat_lt}
-use Rattle.std.specs.List.{AllByRecursion}
 use Rattle.std.proofs.Math.Seq.{take-suc, take-length, get_or-append_seam}
 use Rattle.std.proofs.Math.ListN.{get_or-append, get_or-map}
 use Rattle.std.proofs.lemmas.Bool.Decides.{nat_tests}
@@ -170,11 +169,6 @@ get_or-within (x ∷ xs) (suc k) d e within = get_or-within xs k d e (omega (ari
 
 pub member-is : (members : List Member) (n : ℕ) (m : Member) → n < length members → m ≡ get_or members n m → m ≡ member_at members n
 member-is members n m within is = is ∙ get_or-within members n m nobody within
-
-pub all-at : (ns : List ℕ) (bound i : ℕ) → AllByRecursion (λ n. n < bound) ns → i < length ns → get_or ns i 0 < bound
-all-at [] bound i all within = absurd (omega (arith, within))
-all-at (n ∷ ns) bound zero all within = all.0
-all-at (n ∷ ns) bound (suc i) all within = all-at ns bound i all.1 (omega (arith, within))
 
 pub members-of : (members : List Member) (ns : List ℕ) → map (λ (m : ℕ × Member). m.1) (map (numbered_at members) ns) ≡ map (member_at members) ns
 members-of members [] = refl

@@ -1,6 +1,7 @@
 -- What all addresses have in common whose chain ends with the same member.
 use Rattle.std.specs.Prelude.{◌≡◌, ℕ, Bool, ◌==◌, List, map, slice_get, Option, None, Some, if◌then◌else◌}
 use Rattle.std.specs.Option.{option_map}
+use Rattle.key_types.specs.declared.key.Frame.{Frame}
 use Rattle.chain_model.specs.declared.member.Member.{Member}
 use Rattle.chain_model.specs.Chains.{path}
 use Rattle.chain_model.specs.Places.{Place, nameless, no_line, has_key, LineAndDisc, key, place_of, row_of}
@@ -13,6 +14,10 @@ place_in base None row = nameless
 place_in base (Some named) None = no_line
 place_in base (Some named) (Some row) =
     if row.0 == 0 then no_line else has_key (key base named.root named.calls.items named.start row)
+
+-- The frames of calls, told where all of them have a name.
+abbrev pub told : Bool → List Frame → Option (List Frame)
+told named calls = if named then Some calls else None
 
 -- A context of the chains that end with a member: they begin with its function, have their rows in its unit, and their
 -- places are those of its names.

@@ -1,9 +1,8 @@
-ghost use Rattle.std.specs.Prelude.{◌<◌, IfOk, length};
+ghost use Rattle.std.specs.Prelude.{◌≡◌, ◌<◌, IfOk, length};
 ghost use Rattle.member_contexts.specs.Paths.{AreParents};
 ghost use Rattle.member_contexts.specs.Contexts.{IsContext};
 
-use crate::named::{Named, names_on};
-use crate::path::path_to;
+use crate::named::{Named, named_by, push_frame};
 use chain_model::Member;
 use refusal::NoMemory;
 use std::alloc::Global;
@@ -35,11 +34,22 @@ pub fn context_of(
     requires there { number < length members.now }
     ensures { IfOk result (λ context. IsContext members.now base number context) }
 {
-    let path = path_to(alloc, members, parents, number)?;
-    let named = names_on(alloc, members, &path, base)?;
+    let member = &members[number];
+    let mut calls = Vec::with_capacity(alloc, usize::from(member.depth))?;
+    let mut all_named = true;
+    let mut function = number;
+    while let Some(parent) = parents[function] {
+        let start = members[parent].start;
+        let named = push_frame(&mut calls, base, start, &members[function])?;
+        all_named = named && all_named;
+        function = parent;
+    }
+    calls.reverse();
+    let named = named_by(members[function].name, all_named, calls, member.start);
+    let unit = members[function].unit;
     Ok(Context {
-        function: path.function,
-        unit: members[path.function].unit,
+        function,
+        unit,
         named,
     })
 }

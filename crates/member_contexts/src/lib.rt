@@ -9,7 +9,6 @@ mod context;
 mod named;
 mod offset;
 mod parent;
-mod path;
 #[cfg(test)]
 mod tests;
 

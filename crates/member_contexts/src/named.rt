@@ -1,15 +1,12 @@
-ghost use Rattle.std.specs.Prelude.{◌≡◌, ◌<◌, ◌∷◌, IfOk, Option, length, map};
-ghost use Rattle.std.specs.List.{AllByRecursion};
-ghost use Rattle.chain_model.specs.Places.{LineAndDisc, frame as frame_of, place_of};
-ghost use Rattle.member_contexts.specs.Paths.{member_at};
-ghost use Rattle.member_contexts.specs.Contexts.{place_in};
+ghost use Rattle.std.specs.Prelude.{◌≡◌, ◌++◌, ◌∷◌, [], Bool, IfOk, Option};
+ghost use Rattle.std.specs.Option.{option_map};
+ghost use Rattle.chain_model.specs.Places.{LineAndDisc, frame as frame_of, place_by};
+ghost use Rattle.member_contexts.specs.Contexts.{place_in, told};
 
 use crate::offset::{kept, line_offset};
-use crate::path::Path;
 use chain_model::Member;
 use key_types::{Frame, NameId};
 use refusal::NoMemory;
-use std::alloc::Global;
 
 /// The names on the way from a function to a call in it.
 #[derive(Debug, Drop)]
@@ -22,43 +19,44 @@ pub struct Named {
     pub start: u64,
 }
 
-/// The names on a path, or `None` where a member of it has no name.
-pub(crate) fn names_on(
-    alloc: Global,
-    members: &[Member],
-    path: &Path,
+/// Appends the frame of a call, inlined into a function that starts in a line, if it has a name,
+/// and says whether it has.
+pub(crate) fn push_frame(
+    calls: &mut Vec<Frame>,
     base: bool,
-) -> Result<Option<Named>, NoMemory>
-    requires { AllByRecursion (λ n. n < length members.now)
-        (path.now.function ∷ path.now.calls.items) }
-    ensures { IfOk result (λ named. (row : Option LineAndDisc) →
-        place_of base (map (member_at members.now) (path.now.function ∷ path.now.calls.items)) row
-        ≡ place_in base named row) }
+    start: u64,
+    call: &Member,
+) -> Result<bool, NoMemory>
+    ensures { IfOk result (λ named. told named calls.new.items
+        ≡ option_map (λ name. calls.old.items ++ frame_of base start call.now name ∷ []) call.now.name) }
 {
-    let function = &members[path.function];
-    let Some(root) = function.name else {
-        return Ok(None);
+    let Some(name) = call.name else {
+        return Ok(false);
     };
-    let mut start = function.start;
-    let mut calls = Vec::new(alloc);
-    for number in &path.calls {
-        let call = &members[*number];
-        let Some(name) = call.name else {
-            return Ok(None);
-        };
-        calls.push(frame(base, start, call, name))?;
-        start = call.start;
-    }
-    Ok(Some(Named { root, calls, start }))
-}
-
-/// The frame of a call of this name inlined into a function that starts in a line.
-fn frame(base: bool, start: u64, call: &Member, name: NameId) -> Frame
-    ensures { result ≡ frame_of base start call.now name }
-{
-    Frame {
+    calls.push(Frame {
         name,
         offset: line_offset(start, call.line),
         disc: kept(base, call.disc),
+    })?;
+    Ok(true)
+}
+
+/// The names of a function and of calls in it, if all of them are named.
+pub(crate) fn named_by(
+    root: Option<NameId>,
+    all_named: bool,
+    calls: Vec<Frame>,
+    start: u64,
+) -> Option<Named>
+    ensures { (base : Bool) (row : Option LineAndDisc)
+        → place_by base start root (told all_named calls.items) row ≡ place_in base result row }
+{
+    let Some(root) = root else {
+        return None;
+    };
+    if all_named {
+        Some(Named { root, calls, start })
+    } else {
+        None
     }
 }

@@ -11,7 +11,7 @@ use Rattle.chain_model.specs.Places.{no_line, has_key, key}
 use Rattle.member_contexts.specs.declared.named.Named.{Named}
 use Rattle.key_segments.specs.Segments.{Kept}
 use Rattle.key_segments.proofs.ToldLemmas.{TellBelow-keys, TellBelow-gap, TellBelow-push}
-use Rattle.part_segments.specs.Parts.{line_and_disc, factor_of, with_factor, shown, IsSame, IsCutUp, Extends}
+use Rattle.part_segments.specs.Parts.{line_and_disc, factor_of, with_factor, shown, IsSame, IsCutUp, Extends, KeepUp}
 
 pub Kept-same : (keys : List Key) → Kept keys keys
 Kept-same keys n key is = is
@@ -66,6 +66,7 @@ pub record SoFar (answer : ℕ → Option RowData) (base : Bool) (named : Named)
   pub here : answer at ≡ row
   pub cut : IsCutUp answer at hi left
   pub extended : Extends first lo (show answer base named) keys more segments longer
+  pub used : KeepUp keys more segments longer
   pub kept : Kept keys more
   pub room : length keys ≤ most → length more ≤ most
 
@@ -77,6 +78,7 @@ SoFar-none answer base named first hi most left row keys segments cut is = recor
   here = sym is;
   cut = cut;
   extended = Extends-empty first (show answer base named) keys segments;
+  used = λ first have. have;
   kept = Kept-same keys;
   room = λ h. h;
 }
@@ -100,14 +102,15 @@ SoFar-on answer base named first hi most cut left lo row next keys more segments
   here = sym is ∙ equal;
   cut = so_far.cut.2;
   extended = so_far.extended;
+  used = so_far.used;
   kept = so_far.kept;
   room = so_far.room;
 }
 
 pub SoFar-more : (answer : ℕ → Option RowData) (base : Bool) (named : Named) (first hi most cut : ℕ) (left : List ℕ) (lo : ℕ) (row next : Option RowData) (keys more all : List Key) (segments longer whole : List Seg) (at : ℕ)
-    → SoFar answer base named first hi most (cut ∷ left) lo row keys more segments longer at → next ≡ answer cut → Extends lo cut (λ _. shown base (Some named) (option_map line_and_disc row)) more all longer whole → Kept more all
+    → SoFar answer base named first hi most (cut ∷ left) lo row keys more segments longer at → next ≡ answer cut → Extends lo cut (λ _. shown base (Some named) (option_map line_and_disc row)) more all longer whole → KeepUp more all longer whole → Kept more all
     → (length more ≤ most → length all ≤ most) → SoFar answer base named first hi most left cut next keys all segments whole cut
-SoFar-more answer base named first hi most cut left lo row next keys more all segments longer whole at so_far is part kept room = record {
+SoFar-more answer base named first hi most cut left lo row next keys more all segments longer whole at so_far is part keep_up kept room = record {
   up = omega (arith, so_far.up, so_far.reached, so_far.cut.0);
   reached = omega arith;
   same = λ a low high. absurd (omega (arith, low, high));
@@ -115,6 +118,7 @@ SoFar-more answer base named first hi most cut left lo row next keys more all se
   cut = so_far.cut.2;
   extended = Extends-then first lo cut (show answer base named) (shown base (Some named) (option_map line_and_disc row)) keys more all segments longer whole so_far.up (omega (arith, so_far.reached, so_far.cut.0)) so_far.extended
       (shows answer base named lo cut row (same_up answer lo at cut row so_far.same so_far.here so_far.cut.1)) part;
+  used = λ first have. keep_up first (so_far.used first have);
   kept = Kept-more keys more all so_far.kept kept;
   room = λ h. room (so_far.room h);
 }

@@ -8,7 +8,7 @@ use Rattle.row_table.specs.declared.row_data.RowData.{RowData}
 use Rattle.chain_model.specs.Places.{Place, has_key, LineAndDisc}
 use Rattle.member_contexts.specs.declared.named.Named.{Named}
 use Rattle.member_contexts.specs.Contexts.{place_in}
-use Rattle.key_segments.specs.Segments.{TellBelow}
+use Rattle.key_segments.specs.Segments.{HaveSegments, TellBelow}
 
 -- Line and discriminator of a row.
 abbrev pub line_and_disc : RowData → LineAndDisc
@@ -43,3 +43,7 @@ abbrev pub Extends : ℕ → ℕ → (ℕ → Option (Key × ℕ)) → List Key 
 Extends lo hi show keys more segments longer = (wanted : ℕ → Option (Key × ℕ))
     → TellBelow lo keys wanted segments → ((address : ℕ) → lo ≤ address → address < hi → wanted address ≡ show address)
     → TellBelow hi more wanted longer
+
+-- Where each key from a number on had a segment, each has one after keys and segments were added.
+abbrev pub KeepUp : List Key → List Key → List Seg → List Seg → Type 0
+KeepUp keys more segments longer = (first : ℕ) → HaveSegments first keys segments → HaveSegments first more longer

@@ -1,4 +1,4 @@
-ghost use Rattle.std.specs.Prelude.{◌≡◌, ◌≤◌, ◌<◌, ◌-◌, ◌^◌, Some, length, slice_get, IfOk};
+ghost use Rattle.std.specs.Prelude.{◌≡◌, ◌⊎◌, ◌≤◌, ◌<◌, ◌-◌, ◌^◌, ℕ, Some, length, slice_get, IfOk};
 ghost use Rattle.chain_model.specs.Places as places;
 ghost use Rattle.key_segments.specs.Segments.{Kept};
 ghost use Rattle.row_table.specs.declared.row_data.RowData.{RowData};
@@ -26,6 +26,8 @@ pub(crate) fn key_of(
     ensures number { IfOk result (λ id. slice_get keys.new id.0 ≡ Some (places.key rules.base
         named.now.root named.now.calls.items named.now.start (line_and_disc row))) }
     ensures kept { Kept keys.old keys.new }
+    ensures new { IfOk result (λ id. (n : ℕ) → n < length keys.new
+        → n < length keys.old ⊎ n ≡ id.0) }
     ensures room { length keys.old ≤ rules.most → length keys.new ≤ rules.most }
 {
     if keys.len() >= rules.most {

@@ -1,7 +1,7 @@
 ghost use Rattle.std.specs.Prelude.{◌≡◌, ◌≤◌, ◌<◌, ◌^◌, ◌-◌, Some, length, OnOk};
 ghost use Rattle.std.specs.Option.{option_map};
 ghost use Rattle.key_segments.specs.Segments.{Kept};
-ghost use Rattle.part_segments.specs.Parts.{Extends, line_and_disc, shown};
+ghost use Rattle.part_segments.specs.Parts.{Extends, KeepUp, line_and_disc, shown};
 
 use crate::key::{factor, key_of};
 use crate::rules::Rules;
@@ -27,6 +27,8 @@ pub(crate) fn push_part(
     ensures told { OnOk result (Extends part.now.lo part.now.hi
         (λ _. shown rules.base (Some named.now) (option_map line_and_disc row))
         keys.old keys.new segments.old.items segments.new.items) }
+    ensures used { OnOk result
+        (KeepUp keys.old keys.new segments.old.items segments.new.items) }
     ensures kept { Kept keys.old keys.new }
     ensures most { length keys.old ≤ rules.most → length keys.new ≤ rules.most }
 {

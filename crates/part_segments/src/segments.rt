@@ -2,7 +2,7 @@ ghost use Rattle.std.specs.Prelude.{◌≡◌, ◌≤◌, ◌<◌, ◌^◌, ◌-
 ghost use Rattle.std.specs.Option.{option_map};
 ghost use Rattle.row_table.specs.Told.{told};
 ghost use Rattle.key_segments.specs.Segments.{Kept};
-ghost use Rattle.part_segments.specs.Parts.{Extends, line_and_disc, shown};
+ghost use Rattle.part_segments.specs.Parts.{Extends, KeepUp, line_and_disc, shown};
 
 use crate::cuts::cuts_between;
 use crate::part::push_part;
@@ -34,6 +34,8 @@ pub fn push_segments(
         (λ address. shown rules.base (Some named.now)
         (option_map line_and_disc (told table.now address)))
         keys.old keys.new segments.old.items segments.new.items) }
+    ensures used { OnOk result
+        (KeepUp keys.old keys.new segments.old.items segments.new.items) }
     ensures kept { Kept keys.old keys.new }
     ensures most { length keys.old ≤ rules.most → length keys.new ≤ rules.most }
 {

@@ -27,8 +27,11 @@ loop-span-preserved c =
     let so_far = subst (λ (left : List Span). PartsSoFar (rows_of c.args.rows.now) c.args.rules.base c.args.members.now c.args.rules.most left c.args.keys.now c.loop-span.keys c.loop-span.parts.segments.items c.loop-span.parts.nameless.items c.loop-span.invariant.0) next c.loop-span.invariant.1 in
     rw add-one (
       (get_or cover i none).hi,
-      PartsSoFar-more _ _ _ _ _ _ _ _ _ _ _ _ _ _ c.in_ok-context.context so_far c.in_ok-context.ensures c.in_ok-push_span.ensures.told c.in_ok-push_span.ensures.nameless c.in_ok-push_span.ensures.kept c.in_ok-push_span.ensures.most,
+      PartsSoFar-more _ _ _ _ _ _ _ _ _ _ _ _ _ _ c.in_ok-context.context so_far c.in_ok-context.ensures c.in_ok-push_span.ensures.told c.in_ok-push_span.ensures.nameless c.in_ok-push_span.ensures.used c.in_ok-push_span.ensures.kept c.in_ok-push_span.ensures.most,
     )
 
 pub returns-clause-parts : goal.returns-clause-parts
 returns-clause-parts c = PartsSoFar-all _ _ _ _ _ _ _ _ _ _ c.loop-span.invariant.1 (drop_all _ _ c.loop-span-test.false)
+
+pub returns-clause-used : goal.returns-clause-used
+returns-clause-used c = c.loop-span.invariant.1.used

@@ -1,22 +1,43 @@
-use Rattle.std.proofs.Common.{◌∷◌, ℕ, List, ap, ◌∙◌, map}
-use Rattle.std.specs.Prelude.{slice_get}
-use Rattle.std.specs.Option.{option_map}
+use Rattle.std.proofs.Common.{◌<◌, arith, ap, get_or, refl}
 use Rattle.chain_model.specs.declared.member.Member.{Member}
-use Rattle.chain_model.specs.Places.{place_of, row_of}
 use Rattle.member_contexts.specs.Paths.{nobody}
-use Rattle.member_contexts.proofs.ParentLemmas.{get_or-within, members-of}
+use Rattle.member_contexts.proofs.ParentLemmas.{climb-before, get_or-within, member-is}
+use Rattle.member_contexts.proofs.NameLemmas.{ClimbedSoFar-more, ClimbedSoFar-all}
 use Rattle.member_contexts.proofs.context.context_of.Goals as goal
+
+pub loop-function-preserved-then-named : goal.loop-function-preserved-then-named
+loop-function-preserved-then-named c =
+    let members = c.args.members.now in
+    let function = c.loop-function.function in
+    let parent = c.in-Some.parent in
+    let before : parent < function = climb-before members c.args.parents.now function parent c.requires.parents c.loop-function.invariant.here c.in-Some.is in
+    let start = get_or-within members parent c.index-members-parent.result nobody (omega (arith, before, c.loop-function.invariant.here)) in
+    let call = member-is members function c.index-members-function.result c.loop-function.invariant.here c.index-members-function.is in
+    ClimbedSoFar-more members c.args.parents.now c.args.base c.args.number function parent _ _ _ c.loop-function.all_named _ _ _
+    c.loop-function.invariant c.requires.parents c.in-Some.is call (ap (λ (m : Member). m.start) start) c.in_ok-named.ensures
+    (rw c.if-named.true refl)
+
+pub loop-function-preserved : goal.loop-function-preserved
+loop-function-preserved c =
+    let members = c.args.members.now in
+    let function = c.loop-function.function in
+    let parent = c.in-Some.parent in
+    let before : parent < function = climb-before members c.args.parents.now function parent c.requires.parents c.loop-function.invariant.here c.in-Some.is in
+    let start = get_or-within members parent c.index-members-parent.result nobody (omega (arith, before, c.loop-function.invariant.here)) in
+    let call = member-is members function c.index-members-function.result c.loop-function.invariant.here c.index-members-function.is in
+    ClimbedSoFar-more members c.args.parents.now c.args.base c.args.number function parent _ _ _ c.loop-function.all_named _ _ _
+    c.loop-function.invariant c.requires.parents c.in-Some.is call (ap (λ (m : Member). m.start) start) c.in_ok-named.ensures
+    (rw c.if-named.false refl)
 
 pub returns : goal.returns
 returns c =
     let members = c.args.members.now in
-    let function = c.in_ok-path.path.function in
-    let way = c.in_ok-path.ensures.path in
-    let head = get_or-within members function nobody c.index-members-path.result c.in_ok-path.ensures.there.0 in record {
-      function = ap (λ (ms : List (ℕ × Member)). option_map (λ m. m.0) (slice_get ms 0)) way;
-      row = λ rows a. ap (λ (ms : List (ℕ × Member)). row_of rows (map (λ m. m.1) ms) a) way ∙ ap (λ (m : Member). rows m.unit a) head;
-      place = λ row.
-          ap (λ (ms : List (ℕ × Member)). place_of c.args.base (map (λ m. m.1) ms) row) way
-          ∙ ap (λ (ms : List Member). place_of c.args.base ms row) (members-of members (function ∷ c.in_ok-path.path.calls.items))
-          ∙ c.in_ok-named.ensures row;
-    }
+    let function = c.loop-function.function in
+    let here = c.loop-function.invariant.here in
+    ClimbedSoFar-all members c.args.parents.now c.args.base c.args.number c.index-members-number.result.start _ _ _
+    (get_or members function c.index-members-function-2.result) _
+    c.loop-function.invariant c.requires.parents c.in_default.is
+    (get_or-within members function c.index-members-function-2.result nobody here)
+    (ap (λ (m : Member). m.start) (member-is members c.args.number c.index-members-number.result c.requires.there c.index-members-number.is))
+    (ap (λ (m : Member). m.unit) (get_or-within members function c.index-members-function-3.result c.index-members-function-2.result here))
+    c.reverse.ensures.items c.named_by-named.ensures

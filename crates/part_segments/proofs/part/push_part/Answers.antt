@@ -5,6 +5,7 @@ use Rattle.row_table.specs.declared.row_data.RowData.{RowData}
 use Rattle.chain_model.specs.Places.{key}
 use Rattle.part_segments.specs.Parts.{line_and_disc, shown}
 use Rattle.part_segments.proofs.PartLemmas.{Extends-none, Extends-one, shown-row, shown-no_line}
+use Rattle.part_segments.proofs.UsedLemmas.{KeepUp-push, KeepUp-same}
 use Rattle.part_segments.proofs.part.push_part.Goals as goal
 
 pub returns-in_default-clause-told : goal.returns-in_default-clause-told
@@ -33,3 +34,12 @@ returns-clause-told c =
     ∙ ap (λ (f : ℕ). Some (the_key, f)) (sym c.factor.ensures)
     in
     Extends-one _ _ _ _ _ the_key (λ _. shown c.args.rules.base (Some named) (option_map line_and_disc c.args.row)) c.requires.full c.in_ok-key.ensures.kept c.in_ok-key.ensures.number c.in_ok-push.ensures.items (λ a. here)
+
+pub returns-in_default-clause-used : goal.returns-in_default-clause-used
+returns-in_default-clause-used c = KeepUp-same _ _
+
+pub returns-then-row-eq0-clause-used : goal.returns-then-row-eq0-clause-used
+returns-then-row-eq0-clause-used c = KeepUp-same _ _
+
+pub returns-clause-used : goal.returns-clause-used
+returns-clause-used c = KeepUp-push _ _ _ _ _ c.in_ok-key.ensures.new c.in_ok-push.ensures.items

@@ -2,3 +2,4 @@ pub mod Sections
 pub mod LinePrograms
 pub mod Binary
 pub mod Places
+pub mod Addresses

@@ -19,15 +19,15 @@ use Rattle.profile_model.proofs.OrderedLemmas.{Above, ordered_is_in_order, has-h
 use Rattle.profile_laws.specs.Totals.{EndsInBody, IsKeyWay, HasKeyWays, is_next, right_below, number_by, number_of, IsAbove, TotalsAddUp}
 
 -- tests of steps
-and_first : (a b : Bool) → (a && b) ≡ true → a ≡ true
+pub and_first : (a b : Bool) → (a && b) ≡ true → a ≡ true
 and_first true b e = refl
 and_first false b e = e
 
-and_second : (a b : Bool) → (a && b) ≡ true → b ≡ true
+pub and_second : (a b : Bool) → (a && b) ≡ true → b ≡ true
 and_second true b e = e
 and_second false b e = absurd (true≢false (sym e))
 
-and_both : (a b : Bool) → a ≡ true → b ≡ true → (a && b) ≡ true
+pub and_both : (a b : Bool) → a ≡ true → b ≡ true → (a && b) ≡ true
 and_both true b e f = f
 and_both false b e f = e
 
@@ -48,7 +48,7 @@ kinds_same call function e = absurd (omega arith)
 kinds_same call body e = absurd (omega arith)
 kinds_same call call e = refl
 
-same_steps : (s t : Step) → same_step s t ≡ true → s ≡ t
+pub same_steps : (s t : Step) → same_step s t ≡ true → s ≡ t
 same_steps s t e =
     let kind : s.kind ≡ t.kind = kinds_same s.kind t.kind (nat_same _ _ (and_first _ _ e)) in
     let behind_kind = and_second _ _ e in
@@ -58,7 +58,7 @@ same_steps s t e =
     let name : s.name ≡ t.name = (bytes_decides s.name t.name).0 (and_second _ _ behind_offset) in
     λ i. record { kind = kind i; offset = offset i; disc = disc i; name = name i }
 
-step_itself : (s : Step) → same_step s s ≡ true
+pub step_itself : (s : Step) → same_step s s ≡ true
 step_itself s =
     and_both _ _ (nat_refl (kind_rank s.kind)) (and_both _ _ (nat_refl s.offset) (and_both _ _ (nat_refl s.disc) ((bytes_decides s.name s.name).1 refl)))
 
@@ -99,26 +99,26 @@ take_length (suc n) [] h = absurd (omega arith)
 take_length (suc n) (t ∷ k) h = ap suc (take_length n k (omega arith))
 
 -- membership in a list, item by item
-Among : {T : Type 0} → T → List T → Type 0
+unfoldable pub Among : {T : Type 0} → T → List T → Type 0
 Among x [] = ⊥
 Among x (y ∷ ys) = (x ≡ y) ⊎ Among x ys
 
-among_append_left : {T : Type 0} (x : T) (xs ys : List T) → Among x xs → Among x (xs ++ ys)
+pub among_append_left : {T : Type 0} (x : T) (xs ys : List T) → Among x xs → Among x (xs ++ ys)
 unfolding Among
 among_append_left x [] ys h = absurd h
 among_append_left x (y ∷ xs) ys h = elim h as (λ _. (x ≡ y) ⊎ Among x (xs ++ ys)) [ inl e ↦ inl e | inr r ↦ inr (among_append_left x xs ys r) ]
 
-among_append_right : {T : Type 0} (x : T) (xs ys : List T) → Among x ys → Among x (xs ++ ys)
+pub among_append_right : {T : Type 0} (x : T) (xs ys : List T) → Among x ys → Among x (xs ++ ys)
 unfolding Among
 among_append_right x [] ys h = h
 among_append_right x (y ∷ xs) ys h = inr (among_append_right x xs ys h)
 
-among_map : {S T : Type 0} (f : S → T) (x : S) (xs : List S) → Among x xs → Among (f x) (map f xs)
+pub among_map : {S T : Type 0} (f : S → T) (x : S) (xs : List S) → Among x xs → Among (f x) (map f xs)
 unfolding Among
 among_map f x [] h = absurd h
 among_map f x (y ∷ xs) h = elim h as (λ _. (f x ≡ f y) ⊎ Among (f x) (map f xs)) [ inl e ↦ inl (ap f e) | inr r ↦ inr (among_map f x xs r) ]
 
-among_flat : {S T : Type 0} (f : S → List T) (x : T) (y : S) (ys : List S) → Among y ys → Among x (f y) → Among x (flat_map f ys)
+pub among_flat : {S T : Type 0} (f : S → List T) (x : T) (y : S) (ys : List S) → Among y ys → Among x (f y) → Among x (flat_map f ys)
 unfolding Among
 among_flat f x y [] h g = absurd h
 among_flat f x y (z ∷ ys) h g = elim h as (λ _. Among x (f z ++ flat_map f ys)) [
@@ -126,7 +126,7 @@ among_flat f x y (z ∷ ys) h g = elim h as (λ _. Among x (f z ++ flat_map f ys
   | inr r ↦ among_append_right x (f z) (flat_map f ys) (among_flat f x y ys r g)
 ]
 
-among_filter : {T : Type 0} (p : T → Bool) (x : T) (xs : List T) → p x ≡ true → Among x xs → Among x (filter p xs)
+pub among_filter : {T : Type 0} (p : T → Bool) (x : T) (xs : List T) → p x ≡ true → Among x xs → Among x (filter p xs)
 unfolding Among
 among_filter p x [] t h = absurd h
 among_filter {T} p x (y ∷ xs) t h = elim h as (λ _. Among x (cond (p y) (y ∷ filter p xs) (filter p xs))) [
@@ -140,7 +140,7 @@ among_beginnings n [] h = absurd (omega arith)
 among_beginnings zero (t ∷ k) h = inl refl
 among_beginnings (suc n) (t ∷ k) h = inr (among_map (λ x. t ∷ x) (take (suc n) k) (beginnings k) (among_beginnings n k (omega arith)))
 
-has_from_among : {T : Type 0} (cmp : T → T → Ordering) → TellsApart cmp → (x : T) (xs : List T) → Among x xs → has cmp x xs ≡ true
+pub has_from_among : {T : Type 0} (cmp : T → T → Ordering) → TellsApart cmp → (x : T) (xs : List T) → Among x xs → has cmp x xs ≡ true
 unfolding Among
 has_from_among cmp t x [] h = absurd h
 has_from_among cmp t x (y ∷ xs) h = elim h as (λ _. (eq_by_cmp cmp x y || has cmp x xs) ≡ true) [
@@ -152,7 +152,7 @@ has_from_among cmp t x (y ∷ xs) h = elim h as (λ _. (eq_by_cmp cmp x y || has
     or_right true b e = refl
     or_right false b e = e
 
-among_from_has : {T : Type 0} (cmp : T → T → Ordering) → TellsApart cmp → (x : T) (xs : List T) → has cmp x xs ≡ true → Among x xs
+pub among_from_has : {T : Type 0} (cmp : T → T → Ordering) → TellsApart cmp → (x : T) (xs : List T) → has cmp x xs ≡ true → Among x xs
 unfolding Among
 among_from_has cmp t x [] h = absurd (true≢false (sym h))
 among_from_has cmp t x (y ∷ xs) h =
@@ -163,11 +163,11 @@ among_from_has cmp t x (y ∷ xs) h =
     ] refl h
 
 -- sums
-sum_same : {T : Type 0} (f g : T → ℕ) (xs : List T) → AllByRecursion (λ x. f x ≡ g x) xs → sum_by f xs ≡ sum_by g xs
+pub sum_same : {T : Type 0} (f g : T → ℕ) (xs : List T) → AllByRecursion (λ x. f x ≡ g x) xs → sum_by f xs ≡ sum_by g xs
 sum_same f g [] all = refl
 sum_same f g (x ∷ xs) all = sum_by-cons f x xs ∙ (λ i. all.0 i + sum_same f g xs all.1 i) ∙ sym (sum_by-cons g x xs)
 
-sum_both : {T : Type 0} (f g : T → ℕ) (xs : List T) → sum_by (λ x. f x + g x) xs ≡ sum_by f xs + sum_by g xs
+pub sum_both : {T : Type 0} (f g : T → ℕ) (xs : List T) → sum_by (λ x. f x + g x) xs ≡ sum_by f xs + sum_by g xs
 sum_both f g [] = refl
 sum_both f g (x ∷ xs) =
     let a = sum_by-cons f x xs in
@@ -176,7 +176,7 @@ sum_both f g (x ∷ xs) =
     let d = sum_both f g xs in
     omega arith
 
-sum_none : {T : Type 0} (xs : List T) → sum_by (λ _. 0) xs ≡ 0
+pub sum_none : {T : Type 0} (xs : List T) → sum_by (λ _. 0) xs ≡ 0
 sum_none [] = refl
 sum_none (x ∷ xs) = sum_by-cons (λ _. 0) x xs ∙ zero-add (sum_by (λ _. 0) xs) ∙ sum_none xs
 
@@ -209,7 +209,7 @@ all_lack x k (w ∷ xs) all lacks e n =
     ] refl in
     sum_by-cons (λ v. cond (leads_to v k) n 0) w xs ∙ (λ i. none i + rest i)
 
-not_among_above : {T : Type 0} (cmp : T → T → Ordering) → TellsApart cmp → (x : T) (xs : List T) → Above cmp x xs → Among x xs → ⊥
+pub not_among_above : {T : Type 0} (cmp : T → T → Ordering) → TellsApart cmp → (x : T) (xs : List T) → Above cmp x xs → Among x xs → ⊥
 unfolding Among
 not_among_above cmp t x [] above h = h
 not_among_above cmp t x (y ∷ xs) above h = elim h as (λ _. ⊥) [

@@ -1,6 +1,7 @@
-//! What follows from how a profile is defined: a total is the sum of what stands below it.
+//! What follows from how a profile is defined: a total is the sum of what stands below it, and the
+//! lines are those of the counts alone.
 #![tactic(auto)]
 
 mod laws;
 
-pub use laws::totals_add_up;
+pub use laws::{lines_are_by_counts, totals_add_up};

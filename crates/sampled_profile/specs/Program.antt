@@ -1,0 +1,41 @@
+-- What is told of a program's addresses.
+use Rattle.std.specs.Prelude.{ℕ, Bool, List, Option, None, Some}
+use Rattle.key_types.specs.declared.places.Where.{Where}
+use Rattle.key_types.specs.declared.places.Where.TheVariants.{Outside, Nameless, NoLine, At}
+use Rattle.profile_model.specs.Ways.{Way}
+use Rattle.binary_model.specs.Addresses.{entered_at, factor_of_address, function_of_address}
+use Rattle.binary_model.specs.Places.{Place, outside, nameless, no_line, at_way, place_of_address}
+
+-- Of each address: its place, the number of the function that holds it, the name of the function that is entered
+-- there, and how often its code was copied.
+pub record Program : Type 0 where
+  pub place : ℕ → Place
+  pub function : ℕ → Option ℕ
+  pub entered : ℕ → Option (List ℕ)
+  pub factor : ℕ → ℕ
+
+-- The program in a good binary, with bases in place of discriminators or not.
+abbrev pub program_of : List ℕ → Bool → Program
+program_of binary base = record {
+  place = place_of_address binary base;
+  function = function_of_address binary;
+  entered = entered_at binary;
+  factor = factor_of_address binary base;
+}
+
+-- The way of a place, where it is one.
+abbrev pub way_of_place : Place → Option Way
+way_of_place outside = None
+way_of_place nameless = None
+way_of_place no_line = None
+way_of_place (at_way way) = Some way
+
+abbrev pub way_at : Program → ℕ → Option Way
+way_at program address = way_of_place (program.place address)
+
+-- A place as far as classes tell places apart: to them all ways are one, for which the number 0 stands.
+abbrev pub where_of : Place → Where
+where_of outside = Outside
+where_of nameless = Nameless
+where_of no_line = NoLine
+where_of (at_way way) = At (record { 0 = 0 })

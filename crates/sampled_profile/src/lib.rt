@@ -1,0 +1,5 @@
+//! The profile of a program and the report on its samples, by what a binary tells of its addresses.
+//!
+//! Definitions in `specs/`, with examples in `proofs/`: classes of branches and sampled ranges,
+//! hits, counts over all addresses, and what is written of them.
+#![tactic(auto)]

@@ -19,10 +19,11 @@ use std::alloc::Global;
 /// Where a program's function begins.
 const START: u64 = 0x401000;
 
-/// Eight addresses of a function, and the call of `g` that was inlined there.
+/// Eight addresses of a function, and the calls of `g` that were inlined there, one in the other.
 #[derive(Clone, Copy)]
 struct Place {
     call: Option<(u16, u32)>,
+    inner: Option<(u16, u32)>,
     offset: u16,
     disc: u32,
 }
@@ -31,6 +32,7 @@ struct Place {
 fn own(offset: u16, disc: u32) -> Place {
     Place {
         call: None,
+        inner: None,
         offset,
         disc,
     }
@@ -40,6 +42,17 @@ fn own(offset: u16, disc: u32) -> Place {
 fn inlined(offset: u16, disc: u32, line: u16) -> Place {
     Place {
         call: Some((offset, disc)),
+        inner: None,
+        offset: line,
+        disc: 0,
+    }
+}
+
+/// A line of a call that was inlined into an inlined call.
+fn nested(offset: u16, inner: u16, line: u16) -> Place {
+    Place {
+        call: Some((offset, 0)),
+        inner: Some((inner, 0)),
         offset: line,
         disc: 0,
     }
@@ -61,13 +74,25 @@ fn calls_to(alloc: Global, place: &Place, names: u32) -> Result<Vec<Frame>, NoMe
     requires { 0 < names }
     ensures { IfOk result (λ calls. AllByRecursion (λ frame. frame.name.0 < names) calls.items) }
 {
-    Ok(match place.call {
-        None => Vec::new(alloc),
-        Some((offset, disc)) => {
-            let name = NameId(1 % names);
-            Vec::from_array(alloc, [Frame { name, offset, disc }])?
+    Ok(match (place.call, place.inner) {
+        (None, _) => Vec::new(alloc),
+        (Some(call), None) => Vec::from_array(alloc, [frame_of(call, names)])?,
+        (Some(call), Some(inner)) => {
+            Vec::from_array(alloc, [frame_of(call, names), frame_of(inner, names)])?
         }
     })
+}
+
+/// A call of `g`.
+fn frame_of(at: (u16, u32), names: u32) -> Frame
+    requires { 0 < names }
+    ensures { result.name.0 < names }
+{
+    Frame {
+        name: NameId(1 % names),
+        offset: at.0,
+        disc: at.1,
+    }
 }
 
 /// The key of a place.
@@ -141,22 +166,23 @@ fn made_heads(alloc: Global, names: &Names, times: u8) -> Result<Vec<Head>, NoMe
     Ok(heads)
 }
 
-/// The text of a program whose function was called so often from its last key.
+/// The text of a program whose function was called so often from its last key, and entered.
 fn profile(
     alloc: Global,
     root: &'static [u8],
     places: &[Place; 8],
     ranges: &[RanRange],
-    times: u8,
+    times: (u8, u8),
 ) -> Result<Vec<u8>, NoMemory>
     requires ranges { AreRanges ranges.now }
     requires times { times_of ranges.now < 2 ^ 32 }
 {
+    let (called, entered) = times;
     let names = names_of(alloc, root)?;
     let laid = lay_places(alloc, &names, places)?;
     let hits = hits_of(alloc, ranges)?;
-    let calls = made_calls(alloc, &laid.keys, &names, times)?;
-    let heads = made_heads(alloc, &names, times)?;
+    let calls = made_calls(alloc, &laid.keys, &names, called)?;
+    let heads = made_heads(alloc, &names, entered)?;
     let tree = build(
         alloc,
         &laid.segments,
@@ -199,6 +225,20 @@ fn with_two_calls() -> [Place; 8] {
     ]
 }
 
+/// A function whose one inlined call has an inlined call alone.
+fn with_calls_in_calls() -> [Place; 8] {
+    [
+        nested(5, 1, 4),
+        own(6, 0),
+        own(7, 0),
+        own(8, 0),
+        own(9, 0),
+        own(10, 0),
+        own(11, 0),
+        own(12, 0),
+    ]
+}
+
 /// Addresses that ran so often.
 fn ran(lo: u64, hi: u64, times: u64) -> RanRange
     requires { lo ≤ hi }
@@ -215,7 +255,7 @@ fn five_branches(rt: HostRuntime) {
         ran(0x401000, 0x40100c, 1),
         ran(0x401010, 0x401038, 1),
     ];
-    let text = profile(rt.alloc(), b"f0000", &with_a_call(), &ranges, 1).ok();
+    let text = profile(rt.alloc(), b"f0000", &with_a_call(), &ranges, (1, 1)).ok();
     let expected = b"f0000:7:1\n 0: 1\n 1: 1\n 2.2: 2\n 3: 2 f0000:1\n 2.1: g:1\n  1: 1\n";
     assert_eq!(rt; text.as_deref(), Some(expected.as_slice()));
 }
@@ -223,27 +263,44 @@ fn five_branches(rt: HostRuntime) {
 #[test]
 fn one_address(rt: HostRuntime) {
     let ranges = [ran(0x401004, 0x401004, 1)];
-    let text = profile(rt.alloc(), b"f0000", &with_a_call(), &ranges, 0).ok();
+    let text = profile(rt.alloc(), b"f0000", &with_a_call(), &ranges, (0, 0)).ok();
     assert_eq!(rt; text.as_deref(), Some(b"f0000:1:0\n 0: 1\n".as_slice()));
 }
 
 #[test]
 fn the_largest_of_a_key_counts(rt: HostRuntime) {
     let ranges = [ran(0x401030, 0x401033, 7), ran(0x401038, 0x40103b, 4)];
-    let text = profile(rt.alloc(), b"f0000", &with_a_call(), &ranges, 0).ok();
+    let text = profile(rt.alloc(), b"f0000", &with_a_call(), &ranges, (0, 0)).ok();
     assert_eq!(rt; text.as_deref(), Some(b"f0000:7:0\n 3: 7\n".as_slice()));
 }
 
 #[test]
 fn calls_at_one_line(rt: HostRuntime) {
     let ranges = [ran(0x401000, 0x401007, 3), ran(0x401008, 0x40100f, 4)];
-    let text = profile(rt.alloc(), b"main", &with_two_calls(), &ranges, 0).ok();
+    let text = profile(rt.alloc(), b"main", &with_two_calls(), &ranges, (0, 0)).ok();
     let expected = b"main:7:0\n 5: g:3\n  1: 3\n 5.2: g:4\n  1: 4\n";
     assert_eq!(rt; text.as_deref(), Some(expected.as_slice()));
 }
 
 #[test]
+fn a_call_without_lines_of_its_own(rt: HostRuntime) {
+    let ranges = [ran(0x401000, 0x401007, 3)];
+    let text = profile(rt.alloc(), b"main", &with_calls_in_calls(), &ranges, (0, 0)).ok();
+    let expected = b"main:3:0\n 5: g:3\n  1: g:3\n   4: 3\n";
+    assert_eq!(rt; text.as_deref(), Some(expected.as_slice()));
+}
+
+#[test]
 fn nothing_ran(rt: HostRuntime) {
-    let text = profile(rt.alloc(), b"f0000", &with_a_call(), &[], 0).ok();
-    assert_eq!(rt; text.as_deref(), Some(b"".as_slice()));
+    // How often the function was called from its last key, how often it was entered, and the text.
+    let cases = [
+        (0, 0, b"".as_slice()),
+        (1, 0, b"f0000:0:0\n 3: 0 f0000:1\n".as_slice()),
+        (0, 2, b"f0000:0:2\n".as_slice()),
+    ];
+    for (called, entered, expected) in cases {
+        let counted = (called, entered);
+        let text = profile(rt.alloc(), b"f0000", &with_a_call(), &[], counted).ok();
+        assert_eq!(rt; text.as_deref(), Some(expected));
+    }
 }

@@ -6,6 +6,8 @@ use Rattle.key_types.specs.declared.key.Key.{Key}
 use Rattle.profile_model.specs.Profile.{Line as told_line, function_line, body_line, call_line, count_of, head_of, targets_of, total_of, line_by, line_at, lines_of}
 use Rattle.name_ranks.specs.Ranks.{AreRanks}
 use Rattle.profile_model.specs.Ways.{to_function}
+use Rattle.profile_tree.proofs.ItemLemmas.{permuted_back}
+use Rattle.std.proofs.lemmas.List.Sorted.{IsPermutation-sym, IsPermutation-trans}
 use Rattle.profile_tree.proofs.ListLemmas.{SomeAll, all_among, all_places, among_map_back, among_filter_back}
 use Rattle.profile_tree.proofs.RowLemmas.{fronts, fronts_named, key_of_row, last_named, last_of, last_ranked, last_is_named, rows_are, total_of_row, written_is}
 use Rattle.profile_tree.proofs.SumLemmas.{ByName, Given, all_to_each, count_is, head_is, rank_back, rank_low, root_is}
@@ -177,14 +179,16 @@ pub all_told_from :
     (names : List (List ℕ)) (keys : List Key) (calls : List Call) (heads : List Head) (parts : Parts)
     → Given names keys calls heads → n ≡ length names → AreEach n (root_total keys parts.counts.now) totals → lent_totals ≡ totals
     → AreRanks names (map (λ t. 2 ^ 64 - 1 - t) lent_totals) tr parts.by_total.now.ids → AreRanks names (replicate (length names) 0) nr parts.by_name.now.ids
-    → lent_tr ≡ tr → lent_nr ≡ nr → map told_item items ≡ map (ranked_source lent_tr lent_nr) (sources keys parts.counts.now calls heads)
+    → lent_tr ≡ tr → lent_nr ≡ nr → IsPermutation (map told_item items) (map (ranked_source lent_tr lent_nr) (sources keys parts.counts.now calls heads))
     → IsPermutation items sorted → lent_items ≡ sorted → AreRowsOf lent_items rows → lent_rows ≡ rows
     → own_nr ≡ nr → AreTargets own_nr calls parts.targets.now → m ≡ length names → AreEach m (entries_of heads) sums → parts.heads.now ≡ sums
     → length parts.counts.now ≡ length keys → TellAll names parts lent_rows (lines_of (said names keys parts.counts.now calls heads))
 all_told_from {n} {m} {totals} {lent_totals} {tr} {lent_tr} {nr} {lent_nr} {own_nr} {sums} {items} {sorted} {lent_items} {rows} {lent_rows} names keys calls heads parts g size total_each totals_is by_total by_name tr_is nr_is told_is permuted items_is rows_is rows_lent own_is targets_is heads_size head_each heads_is counts_each =
-    all_told names keys calls heads parts n totals tr nr items sorted lent_rows g size total_each
+    let in_order = permuted_back told_item items (map (ranked_source lent_tr lent_nr) (sources keys parts.counts.now calls heads)) told_is in
+    all_told names keys calls heads parts n totals tr nr in_order.0 sorted lent_rows g size total_each
     (subst (λ ts. AreRanks names (map (λ t. 2 ^ 64 - 1 - t) ts) tr parts.by_total.now.ids) totals_is by_total) by_name
-    (told_is ∙ (λ i. map (ranked_source (tr_is i) (nr_is i)) (sources keys parts.counts.now calls heads))) permuted
+    (in_order.1 ∙ (λ i. map (ranked_source (tr_is i) (nr_is i)) (sources keys parts.counts.now calls heads)))
+    (IsPermutation-trans in_order.0 items sorted (IsPermutation-sym items in_order.0 in_order.2) permuted)
     (subst (λ xs. AreRowsOf xs lent_rows) items_is (subst (AreRowsOf lent_items) (sym rows_lent) rows_is))
     (subst (λ xs. AreTargets xs calls parts.targets.now) own_is targets_is)
     (subst (λ k. AreEach k (entries_of heads) parts.heads.now) heads_size (subst (AreEach m (entries_of heads)) (sym heads_is) head_each)) counts_each

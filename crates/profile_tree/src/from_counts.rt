@@ -47,8 +47,6 @@ pub fn build(
     requires segments { AreSegments 0 segments.now }
     requires fit { AllFit (length keys.now) segments.now }
     requires hits { (a : ℕ) → hits_by hits.now a < 2 ^ 32 }
-    requires keys { IsNumbered keys.now }
-    requires names { IsNumbered names.now }
     requires key_names { All (HasNames (length names.now)) keys.now }
     requires calls { All (IsGiven (length keys.now) (length names.now)) calls.now }
     requires heads { All (λ head. head.name.0 < length names.now) heads.now }
@@ -61,6 +59,8 @@ pub fn build(
         AreCountsOfPlaces segments.now (hits_by hits.now) tree.counts) }
     ensures len { IfOk result (λ tree. length tree.counts ≡ length keys.now) }
 {
+    keys.each_once();
+    names.each_once();
     let counts = counts_of(alloc, segments, hits, keys.len())?;
     let lines = lines_of_counts(alloc, &counts, calls, heads, keys, names)?;
     Ok(Tree {

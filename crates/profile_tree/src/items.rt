@@ -1,16 +1,16 @@
 // The ways that lead to a line, with the ranks of their functions.
-ghost use Rattle.std.specs.Prelude.{◌≡◌, ◌<◌, ◌++◌, All, IfOk, OnOk, length, map};
-ghost use Rattle.std.specs.List.{AllByRecursion};
-ghost use Rattle.profile_tree.specs.Items.{called, counted, entered, ranked, ranked_source, sources, told_item};
+ghost use Rattle.std.specs.Prelude.{◌≡◌, ◌<◌, ◌++◌, [], All, IfOk, IsPermutation, OnOk, filter, length, map};
+ghost use Rattle.std.specs.List.{AllByRecursion, range_with_len};
+ghost use Rattle.profile_tree.specs.Items.{called, entered, has_count, of_count, ranked, ranked_source, sources, told_item};
 ghost use Rattle.profile_tree.specs.Known.{HasNames, IsGiven};
 ghost use Rattle.profile_tree.specs.Steps.{at_function, frame_step, steps_at, steps_of};
 
 use crate::head::Head;
 use key_types::{Frame, Key, KeyId, Keys, NameId};
 use refusal::NoMemory;
-use std::alloc::Global;
+use std::alloc::{AllocError, Global};
 use target_lists::Call;
-use way_rows::{Item, Kind, Step};
+use way_rows::{Item, Kind, Step, sort_items};
 
 /// Ranks of functions: by total, and by name alone.
 #[derive(Clone, Copy)]
@@ -19,8 +19,17 @@ pub struct RankedBy<'r> {
     pub name: &'r [u32],
 }
 
+/// A key that has a count, with the rank of its function.
+#[derive(Clone, Copy, Debug, PartialEq, Eq, PartialOrd, Ord)]
+pub struct Counted {
+    pub rank: u32,
+    pub id: u32,
+}
+
 /// An item for each key with a count, for each call that was made from another key, and for each
 /// function that was entered.
+///
+/// Keys go function by function, so that ways that are compared lie together in memory.
 pub fn items_of(
     alloc: Global,
     keys: &Keys,
@@ -34,38 +43,113 @@ pub fn items_of(
     requires calls { All (IsGiven (length keys.now) (length ranks.now.name.now)) calls.now }
     requires heads { All (λ head. head.name.0 < length ranks.now.total.now) heads.now }
     requires len { length counts.now ≡ length keys.now }
-    ensures { IfOk result (λ items. map told_item items.items
-        ≡ map (ranked_source ranks.now.total.now ranks.now.name.now)
-        (sources keys.now counts.now calls.now heads.now)) }
+    ensures { IfOk result (λ items. IsPermutation (map told_item items.items)
+        (map (ranked_source ranks.now.total.now ranks.now.name.now)
+        (sources keys.now counts.now calls.now heads.now))) }
 {
+    let counted = counted_of(alloc, keys, counts, ranks)?;
     let mut items = Vec::new(alloc);
-    push_counted(alloc, &mut items, keys, counts, ranks)?;
+    push_counted(alloc, &mut items, keys, counts, &counted, ranks)?;
     push_called(alloc, &mut items, keys, counts, calls, ranks)?;
     push_entered(alloc, &mut items, heads, ranks)?;
     Ok(items)
 }
 
-/// Appends the keys that have a count.
+/// The keys that have a count, by the ranks of their functions.
+fn counted_of(
+    alloc: Global,
+    keys: &Keys,
+    counts: &[u64],
+    ranks: &RankedBy,
+) -> Result<Vec<Counted>, NoMemory>
+    requires names { All (HasNames (length ranks.now.total.now)) keys.now }
+    requires len { length counts.now ≡ length keys.now }
+    ensures { IfOk result (λ made. IsPermutation (map (λ c. c.id) made.items)
+        (filter (has_count counts.now) (range_with_len 0 (length keys.now)))) }
+{
+    let mut counted = numbered(alloc, keys, counts, ranks)?;
+    sort_counted(&mut counted)?;
+    Ok(counted)
+}
+
+/// The keys that have a count, by number.
+fn numbered(
+    alloc: Global,
+    keys: &Keys,
+    counts: &[u64],
+    ranks: &RankedBy,
+) -> Result<Vec<Counted>, NoMemory>
+    requires names { All (HasNames (length ranks.now.total.now)) keys.now }
+    requires len { length counts.now ≡ length keys.now }
+    ensures { IfOk result (λ made. map (λ c. c.id) made.items
+        ≡ filter (has_count counts.now) (range_with_len 0 (length keys.now))) }
+{
+    let mut made = Vec::new(alloc);
+    for id in 0..keys.len() {
+        if counts[id as usize] > 0 {
+            made.push(Counted {
+                rank: root_rank(keys.get(KeyId(id)), ranks),
+                id,
+            })?;
+        }
+    }
+    Ok(made)
+}
+
+/// The rank of the function of a key.
+fn root_rank(key: &Key, ranks: &RankedBy) -> u32
+    requires { HasNames (length ranks.now.total.now) key.now }
+{
+    ranks.total[key.root.0 as usize]
+}
+
+/// Puts keys into the order of their functions.
+fn sort_counted(counted: &mut Vec<Counted>) -> Result<(), AllocError>
+    ensures { OnOk result (IsPermutation counted.old.items counted.new.items) }
+{
+    counted.sort()
+}
+
+/// Appends these keys with their counts, those of each function in the order of their ways.
+///
+/// Sorting few ways that lie together leaves the sort of all items almost nothing to do.
 fn push_counted(
     alloc: Global,
     items: &mut Vec<Item>,
     keys: &Keys,
     counts: &[u64],
+    counted: &[Counted],
     ranks: &RankedBy,
 ) -> Result<(), NoMemory>
     requires names { All (HasNames (length ranks.now.total.now)) keys.now }
     requires callees { All (HasNames (length ranks.now.name.now)) keys.now }
     requires len { length counts.now ≡ length keys.now }
-    ensures { OnOk result (map told_item items.new.items ≡ map told_item items.old.items
-        ++ map (ranked_source ranks.now.total.now ranks.now.name.now)
-        (counted keys.now counts.now (length keys.now))) }
+    requires given { All (λ c. c.id < length keys.now) counted.now }
+    ensures { OnOk result (IsPermutation (map told_item items.new.items)
+        (map told_item items.old.items ++ map (ranked_source ranks.now.total.now ranks.now.name.now)
+        (map (of_count keys.now counts.now) (map (λ c. c.id) counted.now)))) }
 {
-    for id in 0..keys.len() {
-        let count = counts[id as usize];
-        if count > 0 {
-            items.push(item_of(alloc, keys, KeyId(id), count, ranks)?)?;
+    let mut group = Vec::new(alloc);
+    let mut rank = 0;
+    for key in counted {
+        if key.rank != rank {
+            append_sorted(items, &mut group)?;
+            rank = key.rank;
         }
+        let count = counts[key.id as usize];
+        group.push(item_of(alloc, keys, KeyId(key.id), count, ranks)?)?;
     }
+    append_sorted(items, &mut group)
+}
+
+/// Moves the items of a function behind the others, in the order of their ways.
+fn append_sorted(items: &mut Vec<Item>, group: &mut Vec<Item>) -> Result<(), NoMemory>
+    ensures same { OnOk result
+        (IsPermutation (items.old.items ++ group.old.items) items.new.items) }
+    ensures empty { OnOk result (group.new.items ≡ []) }
+{
+    sort_items(group)?;
+    items.append(group)?;
     Ok(())
 }
 

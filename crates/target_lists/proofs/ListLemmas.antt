@@ -1,13 +1,14 @@
 -- Targets in order, and those of a key.
-use Rattle.std.proofs.Common.{◌≡◌, ◌≤◌, ◌<◌, ℕ, zero, suc, ◌+◌, ◌-◌, ◌==◌, nat_lt, nat_le, Bool, true, false, cond, ◌&&◌, ◌||◌, List, [], ◌∷◌, map, filter, length, get_or, drop, take, refl, sym, ap, subst, ◌∙◌, arith, All, IsPermutation, IsSorted}
+use Rattle.std.proofs.Common.{◌≡◌, ◌≤◌, ◌<◌, ℕ, zero, suc, ◌+◌, ◌-◌, ◌==◌, nat_lt, Bool, true, false, cond, ◌&&◌, ◌||◌, List, [], ◌∷◌, map, filter, length, get_or, drop, take, refl, sym, ap, subst, ◌∙◌, arith, All, IsPermutation, IsSorted}
 use Rattle.std.proofs.lemmas.Bool.{true≢false}
 use Rattle.std.proofs.lemmas.Bool.Decides.{nat_tests}
 use Rattle.std.proofs.lemmas.Cmp.{nat_cmp_total, on_total, then_total, back_total}
 use Rattle.std.proofs.lemmas.List.{length-drop, get_or-drop, take_rest}
-use Rattle.std.proofs.lemmas.List.Sorted.{All-permutation, sum_by-IsPermutation, list_any-IsPermutation, IsNonDecreasingBy-from_all_adjacent, IsNonDecreasingBy-drop, IsPartitionedBy-leb, IsPartitionedBy-ltb}
+use Rattle.std.proofs.lemmas.List.Sums.{take_while-cons}
+use Rattle.std.proofs.lemmas.List.Sorted.{All-permutation, sum_by-IsPermutation, list_any-IsPermutation, IsNonDecreasingBy-from_all_adjacent, IsNonDecreasingBy-drop, IsPartitionedBy-ltb}
 use Rattle.std.proofs.lemmas.Map.Keys.{apart_from_distinct, IsDistinct-IsPermutation, sorted_from_all_adjacent}
 use Rattle.std.specs.Cmp.{IsTotalOrder}
-use Rattle.std.specs.List.{AllByRecursion, IsDistinct, list_any}
+use Rattle.std.specs.List.{AllByRecursion, IsDistinct, list_any, take_while}
 use Rattle.std.specs.List.Sorted.{IsNonDecreasingBy, IsPartitionPoint, IsPartitionedBy, IsStrictlySortedBy}
 use Rattle.std.specs.Ordering.{is_lt, nat_cmp, ordering_then, ordering_reverse}
 use Rattle.std.specs.declared.cmp.Ordering.{Ordering}
@@ -19,22 +20,6 @@ use Rattle.target_lists.specs.declared.lists.Target.{Target}
 use Rattle.target_lists.specs.declared.pairs.Call.{Call}
 use Rattle.target_lists.specs.declared.pairs.Pair.{Pair}
 
--- the part of a list that passes, between parts that do not
-filter_part : {T : Type 0} (p : T → Bool) (xs : List T) (s l : ℕ) → s + l ≤ length xs → ((k : ℕ) (d : T) → k < s → p (get_or xs k d) ≡ false) → ((k : ℕ) (d : T) → s ≤ k → k < s + l → p (get_or xs k d) ≡ true) → ((k : ℕ) (d : T) → s + l ≤ k → k < length xs → p (get_or xs k d) ≡ false) → take l (drop s xs) ≡ filter p xs
-filter_part p [] zero zero h a b c = refl
-filter_part p [] zero (suc l) h a b c = refl
-filter_part p [] (suc s) zero h a b c = refl
-filter_part p [] (suc s) (suc l) h a b c = refl
-filter_part p (x ∷ xs) (suc s) l h a b c =
-    filter_part p xs s l (omega arith) (λ k d g. a (suc k) d (omega arith)) (λ k d g f. b (suc k) d (omega arith) (omega arith)) (λ k d g f. c (suc k) d (omega arith) (omega arith))
-    ∙ sym (ap (λ v. cond v (x ∷ filter p xs) (filter p xs)) (a 0 x (omega arith)))
-filter_part p (x ∷ xs) zero (suc l) h a b c =
-    ap (λ ys. x ∷ ys) (filter_part p xs zero l (omega arith) (λ k d g. absurd (omega arith)) (λ k d g f. b (suc k) d (omega arith) (omega arith)) (λ k d g f. c (suc k) d (omega arith) (omega arith)))
-    ∙ sym (ap (λ v. cond v (x ∷ filter p xs) (filter p xs)) (b 0 x (omega arith) (omega arith)))
-filter_part p (x ∷ xs) zero zero h a b c =
-    filter_part p xs zero zero (omega arith) (λ k d g. absurd (omega arith)) (λ k d g f. absurd (omega arith)) (λ k d g f. c (suc k) d (omega arith) (omega arith))
-    ∙ sym (ap (λ v. cond v (x ∷ filter p xs) (filter p xs)) (c 0 x (omega arith) (omega arith)))
-
 -- keys do not fall
 not_lower : (s t : Target) → is_lt (target_cmp t s) ≡ false → s.key ≤ t.key
 not_lower s t n = grind (arith, nat_tests)
@@ -45,31 +30,49 @@ keys_rise xs s = IsNonDecreasingBy-from_all_adjacent (λ t. t.key) xs (λ k d h.
 pub lower_parted : (key : ℕ) (xs : List Target) → IsSorted target_cmp xs → IsPartitionedBy (λ t. nat_lt t.key key) xs
 lower_parted key xs s = IsPartitionedBy-ltb (λ t. t.key) xs key (keys_rise xs s)
 
-pub upto_parted : (key start : ℕ) (xs : List Target) → IsSorted target_cmp xs → IsPartitionedBy (λ t. nat_le t.key key) (take (length xs - start) (drop start xs))
-upto_parted key start xs s =
-    subst (IsPartitionedBy (λ t. nat_le t.key key)) (sym (take_rest xs start)) (IsPartitionedBy-leb (λ t. t.key) (drop start xs) key (IsNonDecreasingBy-drop (λ t. t.key) start xs (keys_rise xs s)))
-
 lower_differs : (key : ℕ) (t : Target) → nat_lt t.key key ≡ true → (t.key == key) ≡ false
 lower_differs key t e = grind (arith, nat_tests)
 
-between_same : (key : ℕ) (t : Target) → nat_lt t.key key ≡ false → nat_le t.key key ≡ true → (t.key == key) ≡ true
-between_same key t e f = grind (arith, nat_tests)
+-- what stands before the first that passes can go
+filter_behind : {T : Type 0} (p : T → Bool) (xs : List T) (s : ℕ) → s ≤ length xs → ((k : ℕ) (d : T) → k < s → p (get_or xs k d) ≡ false) → filter p (drop s xs) ≡ filter p xs
+filter_behind p xs zero h a = refl
+filter_behind p [] (suc s) h a = refl
+filter_behind p (x ∷ xs) (suc s) h a =
+    filter_behind p xs s (omega arith) (λ k d g. a (suc k) d (omega arith))
+    ∙ sym (ap (λ v. cond v (x ∷ filter p xs) (filter p xs)) (a 0 x (omega arith)))
 
-higher_differs : (key : ℕ) (t : Target) → nat_le t.key key ≡ false → (t.key == key) ≡ false
-higher_differs key t e = grind (arith, nat_tests)
+filter_none : {T : Type 0} (p : T → Bool) (xs : List T) → ((k : ℕ) (d : T) → k < length xs → p (get_or xs k d) ≡ false) → filter p xs ≡ []
+filter_none p [] a = refl
+filter_none p (x ∷ xs) a =
+    ap (λ v. cond v (x ∷ filter p xs) (filter p xs)) (a 0 x (omega arith)) ∙ filter_none p xs (λ k d g. a (suc k) d (omega arith))
 
-pub of_key : (key : ℕ) (xs : List Target) (start len : ℕ) → start ≤ length xs → len ≤ length (take (length xs - start) (drop start xs)) → IsPartitionPoint (λ t. nat_lt t.key key ≡ true) (λ t. nat_lt t.key key ≡ false) xs start → IsPartitionPoint (λ t. nat_le t.key key ≡ true) (λ t. nat_le t.key key ≡ false) (take (length xs - start) (drop start xs)) len → take len (take (length xs - start) (drop start xs)) ≡ filter (λ t. t.key == key) xs
-of_key key xs start len h g low high =
-    let whole : take (length xs - start) (drop start xs) ≡ drop start xs = take_rest xs start in
+above_differs : (key n : ℕ) → key ≤ n → (n == key) ≡ false → (m : ℕ) → n ≤ m → (m == key) ≡ false
+above_differs key n low e m up = grind (arith, nat_tests)
+
+not_below : (key n : ℕ) → nat_lt n key ≡ false → key ≤ n
+not_below key n e = grind (arith, nat_tests)
+
+front_by : (b : Bool) (x : Target) (front passing : List Target) → (b ≡ true → front ≡ passing) → (b ≡ false → passing ≡ []) → cond b (x ∷ front) [] ≡ cond b (x ∷ passing) passing
+front_by true x front passing same none = ap (λ ys. x ∷ ys) (same refl)
+front_by false x front passing same none = sym (none refl)
+
+-- those of a key stand in front, where no lesser key is
+front_of_key : (key : ℕ) (xs : List Target) → IsNonDecreasingBy (λ t. t.key) xs → ((k : ℕ) (d : Target) → k < length xs → key ≤ (get_or xs k d).key) → take_while (λ t. t.key == key) xs ≡ filter (λ t. t.key == key) xs
+front_of_key key [] rise low = refl
+front_of_key key (x ∷ xs) rise low =
+    let rest = front_of_key key xs (λ i j d h g. rise (suc i) (suc j) d (omega arith) (omega arith)) (λ k d h. low (suc k) d (omega arith)) in
+    take_while-cons (λ t. t.key == key) x xs
+    ∙ front_by (x.key == key) x (take_while (λ t. t.key == key) xs) (filter (λ t. t.key == key) xs) (λ _. rest)
+    (λ e. filter_none (λ t. t.key == key) xs (λ k d h. above_differs key x.key (low 0 x (omega arith)) e (get_or xs k d).key (rise 0 (suc k) d (omega arith) (omega arith))))
+
+pub of_key : (key : ℕ) (xs : List Target) (start : ℕ) → IsSorted target_cmp xs → start ≤ length xs → IsPartitionPoint (λ t. nat_lt t.key key ≡ true) (λ t. nat_lt t.key key ≡ false) xs start → take_while (λ t. t.key == key) (take (length xs - start) (drop start xs)) ≡ filter (λ t. t.key == key) xs
+of_key key xs start s h low =
     let size : length (drop start xs) ≡ length xs - start = length-drop start xs in
-    let long : len ≤ length (drop start xs) = subst (λ ys. len ≤ length ys) whole g in
-    let point : IsPartitionPoint (λ t. nat_le t.key key ≡ true) (λ t. nat_le t.key key ≡ false) (drop start xs) len = subst (λ ys. IsPartitionPoint (λ t. nat_le t.key key ≡ true) (λ t. nat_le t.key key ≡ false) ys len) whole high in
-    let at : (k : ℕ) (d : Target) → start ≤ k → get_or (drop start xs) (k - start) d ≡ get_or xs k d = λ k d f. let e : start + (k - start) ≡ k = omega arith in get_or-drop start xs (k - start) d ∙ ap (λ m. get_or xs m d) e in
-    ap (take len) whole
-    ∙ filter_part (λ t. t.key == key) xs start len (omega arith)
-    (λ k d f. lower_differs key (get_or xs k d) (low.0 k d (omega arith) f))
-    (λ k d f b. between_same key (get_or xs k d) (low.1 k d f (omega arith)) (ap (λ t. nat_le t.key key) (sym (at k d f)) ∙ point.0 (k - start) d (omega arith) (omega arith)))
-    (λ k d f b. higher_differs key (get_or xs k d) (ap (λ t. nat_le t.key key) (sym (at k d (omega arith))) ∙ point.1 (k - start) d (omega arith) (omega arith)))
+    ap (take_while (λ t. t.key == key)) (take_rest xs start)
+    ∙ front_of_key key (drop start xs) (IsNonDecreasingBy-drop (λ t. t.key) start xs (keys_rise xs s))
+    (λ k d g.
+    not_below key (get_or (drop start xs) k d).key (ap (λ t. nat_lt t.key key) (get_or-drop start xs k d) ∙ low.1 (start + k) d (omega arith) (omega (arith, size, g))))
+    ∙ filter_behind (λ t. t.key == key) xs start h (λ k d g. lower_differs key (get_or xs k d) (low.0 k d (omega arith) g))
 
 -- what was made
 made_pairs : (ranks : List ℕ) (calls : List Call) → AllByRecursion (λ p. 0 < p.times) (map (pair_of ranks) (filter was_made calls))

@@ -1,5 +1,5 @@
 // The targets of all keys, in order.
-ghost use Rattle.std.specs.Prelude.{◌≡◌, ◌==◌, ◌<◌, ◌^◌, All, IfOk, IsPermutation, IsSorted, OnOk, ℕ, filter, length, map};
+ghost use Rattle.std.specs.Prelude.{◌≡◌, ◌==◌, ◌<◌, ◌^◌, All, IfOk, IsPermutation, IsSorted, OnOk, ℕ, filter, length, map, take_while};
 ghost use Rattle.target_lists.specs.Lists.{AreTargets, entry_of, target_cmp};
 ghost use Rattle.target_lists.specs.Pairs.{pair_of, sum_at, was_made};
 
@@ -43,10 +43,19 @@ impl Targets {
         ensures { result.now ≡ filter (λ target. target.key == key) self.now }
     {
         let start = self.targets.partition_point(|target| target.key < key);
-        let rest = &self.targets[start..];
-        let len = rest.partition_point(|target| target.key <= key);
-        &rest[..len]
+        first_of(&self.targets[start..], key)
     }
+}
+
+/// The targets of a key that stand in front. They are few, so they are counted and not searched.
+fn first_of(targets: &[Target], key: u32) -> &[Target]
+    ensures { result.now ≡ take_while (λ target. target.key == key) targets.now }
+{
+    let mut len = 0;
+    while len < targets.len() && targets[len].key == key {
+        len += 1;
+    }
+    &targets[..len]
 }
 
 /// The targets that calls make, where the callees have ranks. What was called 0 times is no target.

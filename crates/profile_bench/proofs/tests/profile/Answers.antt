@@ -10,11 +10,5 @@ build-requires-clause-segments c =
 pub build-requires-clause-fit : goal.build-requires-clause-fit
 build-requires-clause-fit c = subst (AllFit (length c.in_ok-laid.laid.keys)) (sym c.deref.ensures.value) c.in_ok-laid.ensures.fit
 
-pub build-requires-clause-keys : goal.build-requires-clause-keys
-build-requires-clause-keys c = c.in_ok-laid.ensures.numbered
-
-pub build-requires-clause-names : goal.build-requires-clause-names
-build-requires-clause-names c = c.in_ok-names.ensures.numbered
-
 pub build-requires-clause-key_names : goal.build-requires-clause-key_names
 build-requires-clause-key_names c = c.in_ok-laid.ensures.named

@@ -1,7 +1,7 @@
-use Rattle.std.proofs.Common.{◌≡◌, ◌==◌, ◌-◌, ap, sym, subst, ◌∙◌, arith, filter, nat_lt, nat_le, true, false, length, take, drop, IsSorted, rules}
+use Rattle.std.proofs.Common.{◌≡◌, ◌==◌, ap, sym, subst, ◌∙◌, arith, filter, nat_lt, true, false, length, IsSorted, rules}
 use Rattle.std.proofs.lemmas.List.Sorted.{IsPartitionPoint-from_clause}
 use Rattle.std.specs.List.Sorted.{IsPartitionPoint, IsPartitionedBy}
-use Rattle.target_lists.proofs.ListLemmas.{lower_parted, upto_parted, of_key}
+use Rattle.target_lists.proofs.ListLemmas.{lower_parted, of_key}
 use Rattle.target_lists.specs.Lists.{target_cmp}
 use Rattle.target_lists.proofs.lists.Targets.of_key.Goals as goal
 
@@ -18,8 +18,7 @@ returns c =
     let parted : IsPartitionedBy (λ t. nat_lt t.key key) xs = subst (IsPartitionedBy (λ t. nat_lt t.key key)) (sym same) (lower_parted key ys sorted) in
     let low : IsPartitionPoint (λ t. nat_lt t.key key ≡ true) (λ t. nat_lt t.key key ≡ false) xs start =
     IsPartitionPoint-from_clause (λ t. nat_lt t.key key) _ _ c.partition_point-start.ensures.partitioned parted (λ a r q k. search rules) in
-    let high : IsPartitionPoint (λ t. nat_le t.key key ≡ true) (λ t. nat_le t.key key ≡ false) (take (length ys - start) (drop start ys)) c.partition_point-len.result =
-    IsPartitionPoint-from_clause (λ t. nat_le t.key key) _ _ c.partition_point-len.ensures.partitioned (upto_parted key start ys sorted) (λ a r q k. search rules) in
-    of_key key ys start c.partition_point-len.result (omega (arith, ap length same, c.partition_point-start.ensures.bound)) c.partition_point-len.ensures.bound
-    (subst (λ zs. IsPartitionPoint (λ t. nat_lt t.key key ≡ true) (λ t. nat_lt t.key key ≡ false) zs start) same low) high
+    c.first_of.ensures
+    ∙ of_key key ys start sorted (omega (arith, ap length same, c.partition_point-start.ensures.bound))
+    (subst (λ zs. IsPartitionPoint (λ t. nat_lt t.key key ≡ true) (λ t. nat_lt t.key key ≡ false) zs start) same low)
     ∙ ap (filter (λ t. t.key == key)) (c.deref-2.ensures.value ∙ view)

@@ -35,6 +35,12 @@ refuses P bad place (Ok x) is stops = absurd stops
 refuses P bad place (Err NoMemory) is stops = tt
 refuses P bad place (Err (Refused other)) is stops = let same : other ≡ place = cc in is ∙ ap (λ p. Some p) (sym same)
 
+-- want of memory is handed on
+pub lacks : {T : Type 0} (P : T → Type 0) (bad : Option Place) (r : Result T Stop) → IsErrAnd r (λ s. s ≡ NoMemory) → JudgesUnlessNoMemory bad r P
+lacks P bad (Ok x) stops = absurd stops
+lacks P bad (Err NoMemory) stops = tt
+lacks P bad (Err (Refused other)) stops = absurd (cc)
+
 -- a stop is handed on
 pub stops_with : {T U : Type 0} (P : T → Type 0) (Q : U → Type 0) (bad part : Option Place) (why : Stop) (r : Result T Stop)
     → ((place : Place) → part ≡ Some place → bad ≡ Some place) → JudgesUnlessNoMemory {T = U} part (Err why) Q → IsErrAnd r (λ s. s ≡ why) → JudgesUnlessNoMemory bad r P

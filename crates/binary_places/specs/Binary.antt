@@ -1,23 +1,28 @@
 -- What is known of a binary that was read.
 use Rattle.std.specs.Prelude.{◌≡◌, ◌<◌, ℕ, Bool, List, length, slice_get, Some, ⊤}
 use Rattle.std.specs.List.{All}
+use Rattle.elf_model.specs.Segments.{code_loads}
 use Rattle.key_types.specs.declared.key.Key.{Key}
 use Rattle.key_types.specs.declared.ids.KeyId.{KeyId}
 use Rattle.key_types.specs.declared.places.Where.{Where}
 use Rattle.key_types.specs.declared.places.Where.TheVariants.{Outside, Nameless, NoLine, At}
 use Rattle.chain_model.specs.declared.member.Member.{Member}
 use Rattle.inline_tree.specs.Told.{AreTold}
+use Rattle.key_segments.specs.Segments.{HaveSegments}
 use Rattle.context_map.specs.Maps.{IsMap, place_told, rows_of}
 use Rattle.profile_model.specs.Ways.{Way}
 use Rattle.binary_model.specs.Binary.{members_in, tables_in, units_or_none, units_read}
 use Rattle.binary_model.specs.Places.{Place, outside, nameless, no_line, at_way, way_of}
 use Rattle.binary_places.specs.declared.binary.Binary.{Binary}
 
--- The map is that of the binary's members, whose names have numbers among the names.
+-- The map is that of the binary's members, whose names have numbers among the names, and each key has a segment in it;
+-- the segments of code are those of its headers, and so many units were read and passed over.
 pub record IsBinary (file : List ℕ) (base : Bool) (binary : Binary) : Type 0 where
   pub members : List Member
   pub told : AreTold binary.names (members_in file) members
   pub map : IsMap (rows_of (tables_in file)) base members binary.keys binary.map
+  pub used : HaveSegments 0 binary.keys binary.map.segments
+  pub loads_are : binary.loads.items ≡ code_loads file
   pub read_are : binary.read ≡ length (units_or_none (units_read file)).units
   pub passed_are : binary.passed ≡ length (units_or_none (units_read file)).skipped
 

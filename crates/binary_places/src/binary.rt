@@ -9,6 +9,7 @@ use context_map::Map;
 use dwarf_info::read_units;
 use inline_tree::Source;
 use key_types::{Keys, Names};
+use load_model::LoadSegment;
 use refusal::Stop;
 use std::alloc::Global;
 
@@ -21,6 +22,8 @@ pub struct Binary<'a> {
     pub keys: Keys,
     /// The place of every address.
     pub map: Map,
+    /// The loaded executable segments, in the order of their headers.
+    pub loads: Vec<LoadSegment>,
     /// How many units were read.
     pub read: usize,
     /// How many units were passed over.
@@ -49,6 +52,7 @@ pub fn read(alloc: Global, file: &[u8], base: bool) -> Result<Binary<'_>, Stop>
         units: &units,
         parts: &sections.ranges,
     };
+    let loads = elf.loads(alloc)?;
     let mut names = Names::new(alloc)?;
     let members = inline_tree::make(alloc, &source, &mut names)?;
     let mut keys = Keys::new(alloc)?;
@@ -57,6 +61,7 @@ pub fn read(alloc: Global, file: &[u8], base: bool) -> Result<Binary<'_>, Stop>
         names,
         keys,
         map,
+        loads,
         read: units.units().len(),
         passed: units.skipped().len(),
     })

@@ -1,11 +1,13 @@
 use Rattle.std.proofs.Common.{◌≡◌, ◌∙◌, ap, refl, sym, subst, length, None}
 use Rattle.std.specs.Result.{result_err}
 use Rattle.refusal.specs.Place.{first_bad}
+use Rattle.elf_model.specs.Segments.{code_loads}
 use Rattle.placed_view.specs.Reader.{refused_at}
+use Rattle.key_segments.specs.Segments.{HaveSegments}
 use Rattle.context_map.specs.Maps.{IsMap, rows_of}
 use Rattle.binary_model.specs.Binary.{tables_in}
 use Rattle.binary_places.proofs.Items.{in_headers, in_members, in_rows, in_sections, in_units}
-use Rattle.binary_places.proofs.ReadLemmas.{found_same, made_told, members_same, refuses, rows_same, source_same, stops_with, tables_same, told_same, units_same}
+use Rattle.binary_places.proofs.ReadLemmas.{found_same, lacks, made_told, members_same, refuses, rows_same, source_same, stops_with, tables_same, told_same, units_same}
 use Rattle.binary_places.proofs.binary.read.Goals as goal
 
 pub returns-in_err-elf : goal.returns-in_err-elf
@@ -52,6 +54,9 @@ returns-in_err-members c =
     ∙ sym (ap result_err (members_same _ _ same _ source)) ∙ is)
     c.in_err-members.ensures c.from_residual-in_err-members.ensures.1
 
+pub returns-in_err-map : goal.returns-in_err-map
+returns-in_err-map c = lacks _ _ c.from_residual-in_err-map.result c.from_residual-in_err-map.ensures.1
+
 pub returns : goal.returns
 returns c =
     let same = c.in_ok-elf.ensures.1 in
@@ -70,6 +75,8 @@ returns c =
         told = made_told _ _ same _ _ _ source c.in_ok-members.ensures.1;
         map = subst (λ ts. IsMap (rows_of ts) c.args.base c.in_ok-members.members.items c.make-2.new.keys c.in_ok-map.map) tables
             (subst (λ ms. IsMap (rows_of c.deref-2.result.now) c.args.base ms c.make-2.new.keys c.in_ok-map.map) c.deref.ensures.value c.in_ok-map.ensures.map);
+        used = subst (λ ks. HaveSegments (length ks) c.make-2.new.keys c.in_ok-map.map.segments) c.in_ok-keys.ensures c.in_ok-map.ensures.used;
+        loads_are = c.in_ok-loads.ensures ∙ ap code_loads same;
         read_are = ap length (c.units-2.ensures.units ∙ ap (λ u. u.units) told);
         passed_are = ap length (c.skipped.ensures ∙ ap (λ u. u.skipped) told);
       },

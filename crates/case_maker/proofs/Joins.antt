@@ -10,7 +10,7 @@ use Rattle.case_model.specs.Bytes.{u16_bytes, u32_bytes, for_each_function}
 use Rattle.case_model.specs.Info.{front, function_entry, debug_info}
 use Rattle.case_model.specs.Line.{header_fields, sequence, debug_line}
 use Rattle.case_model.specs.Elf.{empty_header, section_header, section_headers, line_at, shstrtab_at}
-use Rattle.case_model.specs.Samples.{branch, call_sample}
+use Rattle.case_model.specs.Samples.{branch, often_sample, once_sample}
 use Rattle.case_model.proofs.EachLemmas.{for_each_function-more, length-for_each_function}
 use Rattle.case_model.proofs.SizeLemmas.{length-debug_abbrev, length-front, length-function_entry, length-header_fields, length-sequence}
 
@@ -63,11 +63,17 @@ line_more start before after line k done pushed =
     ∙ ap (λ rest. start ++ rest) (sym (ap concat (replicate_next k line) ∙ concat-append (replicate k line) (line ∷ []) ∙ ap (λ last. concat (replicate k line) ++ last) (append-nil line)))
 
 -- a sample with the 0x that its first number has not
-pub call_sample-is : (here there from to : ℕ)
-    → hex_text (there + 0x36) ++ branch (here + 0x38, there + 0x36) ++ branch (here + from, here + to) ++ branch (there + 0x34, here) ++ 10 ∷ []
-    ≡ codes "0x" ++ call_sample here there from to
-unfolding call_sample hex_text
-call_sample-is here there from to = simp append_assoc refl
+often_sample-is : (here there : ℕ)
+    → hex_text (there + 0x36) ++ branch (here + 0x38, there + 0x36) ++ branch (here + 0xc, here + 0x20) ++ branch (there + 0x34, here) ++ 10 ∷ []
+    ≡ codes "0x" ++ often_sample here there
+unfolding often_sample hex_text
+often_sample-is here there = simp append_assoc refl
+
+once_sample-is : (here there : ℕ)
+    → hex_text (there + 0x36) ++ branch (here + 0x38, there + 0x36) ++ branch (here + 0x4, here + 0x10) ++ 10 ∷ []
+    ≡ codes "0x" ++ once_sample here there
+unfolding once_sample hex_text
+once_sample-is here there = simp append_assoc refl
 
 joined_4 : (old a b c d : List ℕ) → old ++ a ++ b ++ c ++ d ≡ old ++ (a ++ (b ++ (c ++ d)))
 joined_4 old a b c d = simp append_assoc
@@ -79,13 +85,22 @@ joined_5 old a b c d e = simp append_assoc
 pub tail_of : (text : List ℕ) → take (length text - 2) (drop 2 text) ≡ drop 2 text
 tail_of text = take_all (length text - 2) (drop 2 text) (omega (arith, length-drop 2 text))
 
-pub call-written : (here there from to : ℕ) (l0 l1 l2 l3 l4 l5 : List ℕ)
-    → l0 ≡ [] → l1 ≡ l0 ++ hex_text (there + 0x36) → l2 ≡ l1 ++ branch (here + 0x38, there + 0x36) → l3 ≡ l2 ++ branch (here + from, here + to)
+pub often-written : (here there : ℕ) (l0 l1 l2 l3 l4 l5 : List ℕ)
+    → l0 ≡ [] → l1 ≡ l0 ++ hex_text (there + 0x36) → l2 ≡ l1 ++ branch (here + 0x38, there + 0x36) → l3 ≡ l2 ++ branch (here + 0xc, here + 0x20)
     → l4 ≡ l3 ++ branch (there + 0x34, here) → l5 ≡ l4 ++ 10 ∷ []
-    → l5 ≡ codes "0x" ++ call_sample here there from to
-call-written here there from to l0 l1 l2 l3 l4 l5 a b c d e f =
+    → l5 ≡ codes "0x" ++ often_sample here there
+often-written here there l0 l1 l2 l3 l4 l5 a b c d e f =
     let start : l1 ≡ hex_text (there + 0x36) = b ∙ ap (λ front. front ++ hex_text (there + 0x36)) a in
-    let put = call_sample-is here there from to in
+    let put = often_sample-is here there in
+    cc
+
+pub once-written : (here there : ℕ) (l0 l1 l2 l3 l4 : List ℕ)
+    → l0 ≡ [] → l1 ≡ l0 ++ hex_text (there + 0x36) → l2 ≡ l1 ++ branch (here + 0x38, there + 0x36) → l3 ≡ l2 ++ branch (here + 0x4, here + 0x10)
+    → l4 ≡ l3 ++ 10 ∷ []
+    → l4 ≡ codes "0x" ++ once_sample here there
+once-written here there l0 l1 l2 l3 l4 a b c d e =
+    let start : l1 ≡ hex_text (there + 0x36) = b ∙ ap (λ front. front ++ hex_text (there + 0x36)) a in
+    let put = once_sample-is here there in
     cc
 
 pub info-written : (old sized fronted filled out : List ℕ) (n k size : ℕ)

@@ -10,7 +10,7 @@ use Rattle.case_model.specs.Info.{front, debug_info, function_entry, abstract_at
 use Rattle.case_model.specs.Line.{header_fields, debug_line, sequence, extended}
 use Rattle.case_model.specs.Elf.{file_header, e_ident, program_fields, count_fields, program_header, shstrtab, section_header, empty_header, section_headers, binary}
 use Rattle.case_model.specs.Elf.{abbrev_at, info_at, line_at, shstrtab_at, headers_at}
-use Rattle.case_model.specs.Samples.{branch, call_sample, samples_of, branch_text}
+use Rattle.case_model.specs.Samples.{branch, often_sample, once_sample, samples_of, branch_text}
 use Rattle.case_model.specs.Blocks.{extent, block_line, edge_line, blocks_of, block_text}
 
 -- The number of GNU's attribute takes two digits.
@@ -124,18 +124,18 @@ length_of_1 = refl
 
 branch_text_of_1 : branch_text 1
     ≡ codes "401036 0x401038/0x401036/P/-/-/1 0x40100c/0x401020/P/-/-/1 0x401034/0x401000/P/-/-/1\n"
-    ++ codes "401036 0x401038/0x401036/P/-/-/1 0x401004/0x401010/P/-/-/1 0x401034/0x401000/P/-/-/1\n"
-unfolding branch_text samples_of call_sample hex_text digits for_each_function branch
+    ++ codes "401036 0x401038/0x401036/P/-/-/1 0x401004/0x401010/P/-/-/1\n"
+unfolding branch_text samples_of often_sample once_sample hex_text digits for_each_function branch
 branch_text_of_1 = refl
 
 -- of two functions the first is called by the second, once, and the second by the first, twice
 branch_text_of_2 : branch_text 2
     ≡ codes "401076 0x401038/0x401076/P/-/-/1 0x40100c/0x401020/P/-/-/1 0x401074/0x401000/P/-/-/1\n"
-    ++ codes "401076 0x401038/0x401076/P/-/-/1 0x401004/0x401010/P/-/-/1 0x401074/0x401000/P/-/-/1\n"
+    ++ codes "401076 0x401038/0x401076/P/-/-/1 0x401004/0x401010/P/-/-/1\n"
     ++ codes "401036 0x401078/0x401036/P/-/-/1 0x40104c/0x401060/P/-/-/1 0x401034/0x401040/P/-/-/1\n"
     ++ codes "401036 0x401078/0x401036/P/-/-/1 0x40104c/0x401060/P/-/-/1 0x401034/0x401040/P/-/-/1\n"
-    ++ codes "401036 0x401078/0x401036/P/-/-/1 0x401044/0x401050/P/-/-/1 0x401034/0x401040/P/-/-/1\n"
-unfolding branch_text samples_of call_sample hex_text digits for_each_function branch
+    ++ codes "401036 0x401078/0x401036/P/-/-/1 0x401044/0x401050/P/-/-/1\n"
+unfolding branch_text samples_of often_sample once_sample hex_text digits for_each_function branch
 branch_text_of_2 = refl
 
 block_text_of_1 : block_text 1

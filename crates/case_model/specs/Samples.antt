@@ -13,18 +13,23 @@ branch ends = codes " " ++ hex_text ends.0 ++ codes "/" ++ hex_text ends.1 ++ co
 abbrev pub sample : ℕ → List (ℕ × ℕ) → List ℕ
 sample ip branches = drop 2 (hex_text ip) ++ flat_map branch branches ++ codes "\n"
 
--- A call of the function at `here` from the one at `there`: it comes in at the start, takes one branch inside, and
--- returns.
-unfoldable pub call_sample : ℕ → ℕ → ℕ → ℕ → List ℕ
-call_sample here there from to =
-    sample (there + 0x36) ((here + 0x38, there + 0x36) ∷ (here + from, here + to) ∷ (there + 0x34, here) ∷ [])
+-- A sample of the function at `here`, which has returned to the one at `there`, with what stands before that return.
+abbrev pub return_sample : ℕ → ℕ → List (ℕ × ℕ) → List ℕ
+return_sample here there before = sample (there + 0x36) ((here + 0x38, there + 0x36) ∷ before)
 
--- The samples of function k of n: as often as its weight says past the block from 0x10 on, and once past that from
--- 0x8 on.
+-- Past the block from 0x10 on: the call comes in at the start, takes one branch inside, and returns.
+unfoldable pub often_sample : ℕ → ℕ → List ℕ
+often_sample here there = return_sample here there ((here + 0xc, here + 0x20) ∷ (there + 0x34, here) ∷ [])
+
+-- Past that from 0x8 on, where the call itself is not among the branches any more.
+unfoldable pub once_sample : ℕ → ℕ → List ℕ
+once_sample here there = return_sample here there ((here + 0x4, here + 0x10) ∷ [])
+
+-- The samples of function k of n: as often as its weight says the one way through it, and once the other.
 unfoldable pub samples_of : ℕ → ℕ → List ℕ
 samples_of n k =
-    concat (replicate (weight k) (call_sample (address k) (address (caller n k)) 0xc 0x20))
-    ++ call_sample (address k) (address (caller n k)) 0x4 0x10
+    concat (replicate (weight k) (often_sample (address k) (address (caller n k))))
+    ++ once_sample (address k) (address (caller n k))
 
 -- The branch text of n functions.
 unfoldable pub branch_text : ℕ → List ℕ

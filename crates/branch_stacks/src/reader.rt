@@ -135,6 +135,7 @@ impl Reader {
         ensures stops { IfErr result (λ stop. self.new.stop ≡ Some stop) }
         ensures again { (stop : Stop) → self.old.stop ≡ Some stop →
             (result ≡ Err stop) × (self.new ≡ self.old) × (counts.new ≡ counts.old) }
+        ensures ranged { counts.new.with_ranges ≡ counts.old.with_ranges }
     {
         if let Some(stop) = self.stop {
             return Err(stop);
@@ -157,6 +158,7 @@ impl Reader {
         ensures stops { IfErr result (λ stop. self.new.stop ≡ Some stop) }
         ensures again { (stop : Stop) → self.old.stop ≡ Some stop →
             (result ≡ Err stop) × (self.new ≡ self.old) × (counts.new ≡ counts.old) }
+        ensures ranged { counts.new.with_ranges ≡ counts.old.with_ranges }
     {
         if let Some(stop) = self.stop {
             return Err(stop);
@@ -172,6 +174,7 @@ impl Reader {
         ensures goes_on { OnOk result ((self.new.file ≡ self.old.file)
             × (self.new.loading ≡ self.old.loading)
             × (self.new.size ≡ self.old.size + length piece.now)) }
+        ensures ranged { counts.new.with_ranges ≡ counts.old.with_ranges }
     {
         let room = self.room();
         let too_large = Place {
@@ -200,6 +203,7 @@ impl Reader {
         ensures goes_on { OnOk result ((self.new.file ≡ self.old.file)
             × (self.new.loading ≡ self.old.loading)
             × (self.new.size ≡ self.old.size)) }
+        ensures ranged { counts.new.with_ranges ≡ counts.old.with_ranges }
     {
         let mut rest = part;
         while let Some(end) = memchr(b'\n', rest) {
@@ -218,6 +222,7 @@ impl Reader {
         ensures judged { EndsLine self.old counts.old (self.old.held ++ last.now) result
             self.new counts.new }
         ensures err { OnErr result (counts.new ≡ counts.old) }
+        ensures ranged { counts.new.with_ranges ≡ counts.old.with_ranges }
     {
         if self.held.is_empty() {
             return self.end_whole_line(last, counts);
@@ -235,6 +240,7 @@ impl Reader {
             (λ _. AddsLine self.old.loading self.old.met counts.old counts.new line.now
             × (self.new ≡ behind_line self.old line.now)) }
         ensures err { OnErr result (counts.new ≡ counts.old) }
+        ensures ranged { counts.new.with_ranges ≡ counts.old.with_ranges }
     {
         let line = Line {
             number: self.ended_lines + 1,
@@ -250,6 +256,7 @@ impl Reader {
         requires { 0 < length self.old.held }
         ensures judged { EndsLine self.old counts.old self.old.held result self.new counts.new }
         ensures err { OnErr result (counts.new ≡ counts.old) }
+        ensures ranged { counts.new.with_ranges ≡ counts.old.with_ranges }
     {
         let line = Line {
             number: self.ended_lines + 1,
@@ -277,6 +284,7 @@ impl Reader {
         ensures goes_on { OnOk result ((self.new.file ≡ self.old.file)
             × (self.new.loading ≡ self.old.loading)
             × (self.new.size ≡ self.old.size)) }
+        ensures ranged { counts.new.with_ranges ≡ counts.old.with_ranges }
     {
         if self.held.is_empty() {
             return Ok(());

@@ -58,6 +58,7 @@ pub(crate) fn count_line(
         ≡ met_of loads.old ++ met_in (map_of loads.old) (line.entry.bytes.now ∷ [])) }
     ensures same { OnOk result (map_of loads.new ≡ map_of loads.old) }
     ensures err { OnErr result (counts.new ≡ counts.old) }
+    ensures ranged { counts.new.with_ranges ≡ counts.old.with_ranges }
     ensures capacity { vec_capacity branches.new ≡ vec_capacity branches.old }
 {
     if let Err(kind) = read_line(line.bytes, branches) {
@@ -88,6 +89,7 @@ fn count_branches(
     ensures too_many { IsErrOf result CountsStop.TooMany
         → max_branches < total_of counts.old + length branches.now }
     ensures err { OnErr result (counts.new ≡ counts.old) }
+    ensures ranged { counts.new.with_ranges ≡ counts.old.with_ranges }
 {
     match loads {
         None => counts.add_stack(branches),

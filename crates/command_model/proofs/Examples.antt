@@ -14,7 +14,7 @@ use Rattle.command_model.specs.Answer.{answer_of}
 use Rattle.command_model.specs.Answer.Answer.{usage, no_such_file, refused, writes}
 use Rattle.profile_model.specs.Ways.{to_function, to_body, to_call}
 use Rattle.binary_model.specs.Places.{outside, nameless, no_line, at_way}
-use Rattle.command_model.specs.Command.{address_of as address_asked, command_of, counts, where_}
+use Rattle.command_model.specs.Command.{address_of as address_asked, command_of, counts, where_, profile, map_name, sampling_of}
 use Rattle.command_model.specs.Counts.{counts_text}
 use Rattle.command_model.specs.Where.{where_text}
 
@@ -48,6 +48,18 @@ words_of_where : (command_of (codes "where" ∷ codes "a" ∷ codes "0x1F" ∷ [
     × (command_of (codes "where" ∷ codes "a" ∷ codes "xyz" ∷ []) ≡ None)
 unfolding command_of address_asked number_of
 words_of_where = (refl, refl, refl, refl, refl, refl)
+
+-- options in any order, each once, and a name that is not empty
+words_of_profile : (command_of (codes "profile" ∷ codes "a" ∷ codes "p" ∷ []) ≡ Some (profile None false (codes "a") (codes "p")))
+    × (command_of (codes "profile" ∷ codes "--base" ∷ codes "--map=/bin/x" ∷ codes "a" ∷ codes "p" ∷ []) ≡ Some (profile (Some (codes "/bin/x")) true (codes "a") (codes "p")))
+    × (command_of (codes "profile" ∷ codes "--map=y" ∷ codes "a" ∷ codes "p" ∷ []) ≡ Some (profile (Some (codes "y")) false (codes "a") (codes "p")))
+    × (command_of (codes "profile" ∷ codes "--map=" ∷ codes "a" ∷ codes "p" ∷ []) ≡ None)
+    × (command_of (codes "profile" ∷ codes "--map=y" ∷ codes "--map=y" ∷ codes "a" ∷ codes "p" ∷ []) ≡ None)
+    × (command_of (codes "profile" ∷ codes "--base" ∷ codes "--base" ∷ codes "a" ∷ codes "p" ∷ []) ≡ None)
+    × (command_of (codes "profile" ∷ codes "--edges" ∷ codes "a" ∷ codes "p" ∷ []) ≡ None)
+    × (command_of (codes "profile" ∷ codes "a" ∷ []) ≡ None)
+unfolding command_of map_name sampling_of
+words_of_profile = (refl, refl, refl, refl, refl, refl, refl, refl)
 
 -- one to sixteen digits
 addresses : (address_asked (codes "ffffffffffffffff") ≡ Some 0xffffffffffffffff) × (address_asked (codes "0x0000000000401000") ≡ Some 0x401000)

@@ -6,7 +6,8 @@ use Rattle.sample_model.specs.Judging.{first_bad_of_text}
 use Rattle.sample_model.specs.Samples.{branches_of}
 use Rattle.binary_model.specs.Binary.{first_bad_of_binary}
 use Rattle.binary_model.specs.Places.{place_of_address}
-use Rattle.command_model.specs.Command.{Command, counts, where_, command_of}
+use Rattle.sampled_profile.specs.Output.{profile_output}
+use Rattle.command_model.specs.Command.{Command, counts, where_, profile, command_of}
 use Rattle.command_model.specs.Counts.{counts_text}
 use Rattle.command_model.specs.Where.{where_text}
 
@@ -18,6 +19,8 @@ pub data Answer : Type 0 where
   no_such_file : ℕ → Answer
   -- The first bad place of the files, in the order of their words.
   refused : Place → Answer
+  -- All files are there and good, and this line of the second is the first that fails a check. No command has one yet.
+  fails_check : ℕ → Answer
   -- All files are there and good, and this is to be written.
   writes : List ℕ → Answer
 
@@ -41,6 +44,10 @@ answer_of_command files (counts perf) =
     with_file files 1 perf (first_bad_of_text 1) (λ text. writes (counts_text (branches_of text)))
 answer_of_command files (where_ base bin address) =
     with_file files 1 bin first_bad_of_binary (λ binary. writes (where_text (place_of_address binary base address)))
+answer_of_command files (profile map base bin perf) =
+    with_file files 1 bin first_bad_of_binary (λ binary.
+    with_file files 2 perf (first_bad_of_text 2) (λ text.
+    writes (profile_output map base binary text)))
 
 -- The same where the words may spell no command.
 abbrev pub answer_of_words : Store → Option Command → Answer

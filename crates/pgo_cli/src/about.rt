@@ -9,13 +9,17 @@ usage:
                               count
   pgo where [--base] BIN HEX  the place of an address of a binary, as a profile
                               names it
+  pgo profile [--map=NAME] [--base] BIN PERF
+                              the sample profile that a branch text gives of a
+                              binary, then a report on it
   pgo --help                  this text
   pgo --version               the version
 
 PERF is what `perf script -F ip,brstack` prints, in a file. BIN is a 64-bit ELF
 file with DWARF 4 or 5, HEX an address in hexadecimal digits. With --base the
-discriminators are taken apart as clang packs them. Messages count file words
-and lines from 1, and places in a binary from 0.
+discriminators are taken apart as clang packs them. With --map=NAME addresses
+are moved by the load lines of the branch text, in which the binary has this
+name. Messages count file words and lines from 1, and places in a binary from 0.
 
 exit status:
   0  done, the whole output was written

@@ -9,9 +9,9 @@ use Rattle.sample_model.specs.Judging.{first_bad_of_lines, first_bad_of_piece, f
 use Rattle.sample_model.specs.Limits.{max_text_bytes}
 use Rattle.sample_model.specs.Moves.{LoadMap}
 use Rattle.sample_model.proofs.JudgingLemmas.{bad_places_stay, first_bad_of_text-within}
-use Rattle.branch_stacks.specs.Reader.{Reading, HasRead, new_reading, Feeds, Finishes}
+use Rattle.branch_stacks.specs.Reader.{Reading, HasRead, new_reading_by, Feeds, Finishes}
 use Rattle.branch_stacks.specs.Tally.{Tally, Tells, TellsOf}
-use Rattle.branch_stacks.proofs.FeedLemmas.{HasRead-nothing}
+use Rattle.branch_stacks.proofs.FeedLemmas.{HasRead-start}
 use Rattle.pgo_run.specs.BranchText.{FeedsText, JudgesText}
 use Rattle.pgo_run.specs.Halt.{halt_of_stop}
 use Rattle.pgo_run.specs.declared.halt.Halt.{Halt}
@@ -29,82 +29,87 @@ Consumes-trans (Some x) (Some y) None bs cs p q = absurd q
 Consumes-trans (Some x) (Some y) (Some z) bs cs p q = p ∙ ap (λ l. bs ++ l) q ∙ sym (append_assoc bs cs z)
 
 -- This was read of what was left, and the reader goes on.
-pub record ReadSoFar (k : ℕ) (before left : Option (List ℕ)) (reader : Reading) (tally : Tally) : Type 0 where
+pub record ReadSoFar (loading : Option LoadMap) (k : ℕ) (before left : Option (List ℕ)) (reader : Reading) (tally : Tally) : Type 0 where
   pub read : List ℕ
   pub consumed : Consumes before left read
-  pub file : reader.file ≡ k
-  pub loading : reader.loading ≡ None
+  pub file_is : reader.file ≡ k
+  pub moved_by : reader.loading ≡ loading
   pub size : reader.size ≡ length read
   pub within : reader.size ≤ max_text_bytes
   pub has : HasRead read reader tally
 
-pub ReadSoFar-none : (k : ℕ) (left : Option (List ℕ)) (reader : Reading) (tally : Tally) → reader ≡ new_reading k → TellsOf [] tally → ReadSoFar k left left reader tally
-ReadSoFar-none k left reader tally is tells = subst (λ (r : Reading). ReadSoFar k left left r tally) (sym is) (record {
+-- A reader that is new by something that moves addresses is new by its own.
+pub new_by : (reader : Reading) (k : ℕ) → (loading : Option LoadMap) × (reader ≡ new_reading_by loading k)
+    → reader ≡ new_reading_by reader.loading k
+new_by reader k (loading, is) = is ∙ ap (λ l. new_reading_by l k) (sym (ap (λ (r : Reading). r.loading) is))
+
+pub ReadSoFar-none : (loading : Option LoadMap) (k : ℕ) (left : Option (List ℕ)) (reader : Reading) (tally : Tally) → reader ≡ new_reading_by loading k → TellsOf [] tally → ReadSoFar loading k left left reader tally
+ReadSoFar-none loading k left reader tally is tells = subst (λ (r : Reading). ReadSoFar loading k left left r tally) (sym is) (record {
   read = [];
   consumed = Consumes-nil left;
-  file = refl;
-  loading = refl;
+  file_is = refl;
+  moved_by = refl;
   size = refl;
   within = omega arith;
-  has = HasRead-nothing k tally tells;
+  has = HasRead-start loading k tally tells;
 })
 
-pub ReadSoFar-more : (k : ℕ) (before left next : Option (List ℕ)) (piece : List ℕ) (old new : Reading) (tally after : Tally) → ReadSoFar k before left old tally → Consumes left next piece
-    → Feeds old tally piece (Ok tt) new after → (new.file ≡ old.file) × (new.loading ≡ old.loading) × (new.size ≡ old.size + length piece) × (new.size ≤ max_text_bytes) → ReadSoFar k before next new after
-ReadSoFar-more k before left next piece old new tally after so_far consumed feeds goes_on = record {
+pub ReadSoFar-more : (loading : Option LoadMap) (k : ℕ) (before left next : Option (List ℕ)) (piece : List ℕ) (old new : Reading) (tally after : Tally) → ReadSoFar loading k before left old tally → Consumes left next piece
+    → Feeds old tally piece (Ok tt) new after → (new.file ≡ old.file) × (new.loading ≡ old.loading) × (new.size ≡ old.size + length piece) × (new.size ≤ max_text_bytes) → ReadSoFar loading k before next new after
+ReadSoFar-more loading k before left next piece old new tally after so_far consumed feeds goes_on = record {
   read = so_far.read ++ piece;
   consumed = Consumes-trans before left next so_far.read piece so_far.consumed consumed;
-  file = goes_on.0 ∙ so_far.file;
-  loading = goes_on.1 ∙ so_far.loading;
+  file_is = goes_on.0 ∙ so_far.file_is;
+  moved_by = goes_on.1 ∙ so_far.moved_by;
   size = omega (arith, goes_on.2, so_far.size, length-append so_far.read piece);
   within = goes_on.3;
   has = (feeds so_far.read so_far.has).0.1;
 }
 
-pub ReadSoFar-stop : (k : ℕ) (before left next : Option (List ℕ)) (piece : List ℕ) (old new : Reading) (tally after : Tally) (stop : Stop) → ReadSoFar k before left old tally → Consumes left next piece
-    → Feeds old tally piece (Err stop) new after → IfSome before (λ text. FeedsText k text (Err (halt_of_stop stop)) new after)
-ReadSoFar-stop k None left next piece old new tally after stop so_far consumed feeds = tt
-ReadSoFar-stop k (Some text) None next piece old new tally after stop so_far consumed feeds = absurd so_far.consumed
-ReadSoFar-stop k (Some text) (Some left) None piece old new tally after stop so_far consumed feeds = absurd consumed
-ReadSoFar-stop k (Some text) (Some left) (Some rest) piece old new tally after NoMemory so_far consumed feeds = tt
-ReadSoFar-stop k (Some text) (Some left) (Some rest) piece old new tally after (Refused place) so_far consumed feeds =
+pub ReadSoFar-stop : (loading : Option LoadMap) (k : ℕ) (before left next : Option (List ℕ)) (piece : List ℕ) (old new : Reading) (tally after : Tally) (stop : Stop) → ReadSoFar loading k before left old tally → Consumes left next piece
+    → Feeds old tally piece (Err stop) new after → IfSome before (λ text. FeedsText loading k text (Err (halt_of_stop stop)) new after)
+ReadSoFar-stop loading k None left next piece old new tally after stop so_far consumed feeds = tt
+ReadSoFar-stop loading k (Some text) None next piece old new tally after stop so_far consumed feeds = absurd so_far.consumed
+ReadSoFar-stop loading k (Some text) (Some left) None piece old new tally after stop so_far consumed feeds = absurd consumed
+ReadSoFar-stop loading k (Some text) (Some left) (Some rest) piece old new tally after NoMemory so_far consumed feeds = tt
+ReadSoFar-stop loading k (Some text) (Some left) (Some rest) piece old new tally after (Refused place) so_far consumed feeds =
     let bad = (feeds so_far.read so_far.has).0 in
     let room : max_text_bytes - old.size ≡ max_text_bytes - length so_far.read = ap (λ (n : ℕ). max_text_bytes - n) so_far.size in
     let here : first_bad_of_piece k so_far.read (max_text_bytes - length so_far.read) piece ≡ Some place =
-    ap (λ (n : ℕ). first_bad_of_piece k so_far.read n piece) (sym room) ∙ ap (λ (n : ℕ). first_bad_of_piece n so_far.read (max_text_bytes - old.size) piece) (sym so_far.file) ∙ bad in
+    ap (λ (n : ℕ). first_bad_of_piece k so_far.read n piece) (sym room) ∙ ap (λ (n : ℕ). first_bad_of_piece n so_far.read (max_text_bytes - old.size) piece) (sym so_far.file_is) ∙ bad in
     let whole : text ≡ so_far.read ++ (piece ++ rest) = so_far.consumed ∙ ap (λ (t : List ℕ). so_far.read ++ t) consumed in
     ap (first_bad_of_text k) whole ∙ bad_places_stay k so_far.read piece rest place (omega (arith, so_far.size, so_far.within)) here
 
-pub ReadSoFar-all : (k : ℕ) (before left next : Option (List ℕ)) (piece : List ℕ) (reader : Reading) (tally : Tally) → ReadSoFar k before left reader tally → Consumes left next piece → piece ≡ [] → IsAtEnd next
-    → IfSome before (λ text. FeedsText k text (Ok tt) reader tally)
-ReadSoFar-all k None left next piece reader tally so_far consumed nothing end = tt
-ReadSoFar-all k (Some text) None next piece reader tally so_far consumed nothing end = absurd so_far.consumed
-ReadSoFar-all k (Some text) (Some left) None piece reader tally so_far consumed nothing end = absurd consumed
-ReadSoFar-all k (Some text) (Some left) (Some rest) piece reader tally so_far consumed nothing end =
+pub ReadSoFar-all : (loading : Option LoadMap) (k : ℕ) (before left next : Option (List ℕ)) (piece : List ℕ) (reader : Reading) (tally : Tally) → ReadSoFar loading k before left reader tally → Consumes left next piece → piece ≡ [] → IsAtEnd next
+    → IfSome before (λ text. FeedsText loading k text (Ok tt) reader tally)
+ReadSoFar-all loading k None left next piece reader tally so_far consumed nothing end = tt
+ReadSoFar-all loading k (Some text) None next piece reader tally so_far consumed nothing end = absurd so_far.consumed
+ReadSoFar-all loading k (Some text) (Some left) None piece reader tally so_far consumed nothing end = absurd consumed
+ReadSoFar-all loading k (Some text) (Some left) (Some rest) piece reader tally so_far consumed nothing end =
     let none : left ≡ [] = consumed ∙ ap (λ (t : List ℕ). t ++ rest) nothing ∙ end in
     let whole : text ≡ so_far.read = so_far.consumed ∙ ap (λ (t : List ℕ). so_far.read ++ t) none ∙ append-nil so_far.read in
-    (subst (λ (t : List ℕ). HasRead t reader tally) (sym whole) so_far.has, so_far.file, so_far.loading, omega (arith, so_far.size, so_far.within, ap (λ (t : List ℕ). length t) whole))
+    (subst (λ (t : List ℕ). HasRead t reader tally) (sym whole) so_far.has, so_far.file_is, so_far.moved_by, omega (arith, so_far.size, so_far.within, ap (λ (t : List ℕ). length t) whole))
 
 -- what was fed stops the reading of a text,
-pub JudgesText-stop : (k : ℕ) (left : Option (List ℕ)) (stopped : Halt) (reader : Reading) (tally : Tally) → IfSome left (λ text. FeedsText k text (Err stopped) reader tally) → IfSome left (λ text. JudgesText k text (Err stopped) tally)
-JudgesText-stop k None stopped reader tally fed = tt
-JudgesText-stop k (Some text) (NoSuchFile j) reader tally fed = fed
-JudgesText-stop k (Some text) (halt.Refused place) reader tally fed = fed
-JudgesText-stop k (Some text) (ReadFault j) reader tally fed = tt
-JudgesText-stop k (Some text) halt.NoMemory reader tally fed = tt
+pub JudgesText-stop : (loading : Option LoadMap) (k : ℕ) (left : Option (List ℕ)) (stopped : Halt) (reader : Reading) (tally : Tally) → IfSome left (λ text. FeedsText loading k text (Err stopped) reader tally) → IfSome left (λ text. JudgesText loading k text (Err stopped) tally)
+JudgesText-stop loading k None stopped reader tally fed = tt
+JudgesText-stop loading k (Some text) (NoSuchFile j) reader tally fed = fed
+JudgesText-stop loading k (Some text) (halt.Refused place) reader tally fed = fed
+JudgesText-stop loading k (Some text) (ReadFault j) reader tally fed = tt
+JudgesText-stop loading k (Some text) halt.NoMemory reader tally fed = tt
 
 -- or its end does,
-pub JudgesText-end : (k : ℕ) (left : Option (List ℕ)) (old new : Reading) (before after : Tally) (stop : Stop) → IfSome left (λ text. FeedsText k text (Ok tt) old before) → Finishes old before (Err stop) new after
-    → IfSome left (λ text. JudgesText k text (Err (halt_of_stop stop)) after)
-JudgesText-end k None old new before after stop fed finishes = tt
-JudgesText-end k (Some text) old new before after NoMemory fed finishes = tt
-JudgesText-end k (Some text) old new before after (Refused place) fed finishes =
+pub JudgesText-end : (loading : Option LoadMap) (k : ℕ) (left : Option (List ℕ)) (old new : Reading) (before after : Tally) (stop : Stop) → IfSome left (λ text. FeedsText loading k text (Ok tt) old before) → Finishes old before (Err stop) new after
+    → IfSome left (λ text. JudgesText loading k text (Err (halt_of_stop stop)) after)
+JudgesText-end loading k None old new before after stop fed finishes = tt
+JudgesText-end loading k (Some text) old new before after NoMemory fed finishes = tt
+JudgesText-end loading k (Some text) old new before after (Refused place) fed finishes =
     first_bad_of_text-within k text fed.3 ∙ ap (λ (n : ℕ). first_bad_of_lines n (lines_of text)) (sym fed.1) ∙ (finishes text fed.0).0
 
 -- or all of it is good.
-pub JudgesText-all : (k : ℕ) (left : Option (List ℕ)) (old new : Reading) (before after : Tally) → IfSome left (λ text. FeedsText k text (Ok tt) old before) → Finishes old before (Ok tt) new after
-    → IfSome left (λ text. JudgesText k text (Ok tt) after)
-JudgesText-all k None old new before after fed finishes = tt
-JudgesText-all k (Some text) old new before after fed finishes =
+pub JudgesText-all : (loading : Option LoadMap) (k : ℕ) (left : Option (List ℕ)) (old new : Reading) (before after : Tally) → IfSome left (λ text. FeedsText loading k text (Ok tt) old before) → Finishes old before (Ok tt) new after
+    → IfSome left (λ text. JudgesText loading k text (Ok tt) after)
+JudgesText-all loading k None old new before after fed finishes = tt
+JudgesText-all loading k (Some text) old new before after fed finishes =
     let end = (finishes text fed.0).0 in
     (first_bad_of_text-within k text fed.3 ∙ ap (λ (n : ℕ). first_bad_of_lines n (lines_of text)) (sym fed.1) ∙ end.0, subst (λ (l : Option LoadMap). Tells l (lines_of text) after) fed.2 end.1.0)

@@ -1,5 +1,5 @@
--- What `where` answers for a binary that was not read.
-use Rattle.std.proofs.Common.{◌≡◌, ℕ, Bool, List, ◌∷◌, Option, None, Some, Result, Ok, Err, ap, subst, sym, ◌∙◌}
+-- What a command on a binary comes to where the binary was not read.
+use Rattle.std.proofs.Common.{◌≡◌, ℕ, List, ◌∷◌, Option, None, Some, Result, Ok, Err, ap, subst, sym, ◌∙◌}
 use Rattle.std.specs.Prelude.{IfSome}
 use Rattle.std.specs.Global.{Vec}
 use Rattle.std.specs.Result.{IsErrAnd}
@@ -7,8 +7,7 @@ use Rattle.refusal.specs.declared.place.Place.{Place}
 use Rattle.refusal.specs.Place.{first_bad, size_item}
 use Rattle.io_edge.specs.Inputs.{Store}
 use Rattle.binary_model.specs.Binary.{first_bad_of_binary, items_behind_size, max_binary_bytes}
-use Rattle.command_model.specs.Answer.{Answer, answer_of_command, no_such_file, unless_bad, with_looked_up}
-use Rattle.command_model.specs.Command.{where_}
+use Rattle.command_model.specs.Answer.{Answer, no_such_file, unless_bad, with_file, with_looked_up}
 use Rattle.pgo_run.specs.Output.{Makes, ReadsFile}
 use Rattle.pgo_run.specs.declared.halt.Halt.{Halt}
 use Rattle.pgo_run.specs.declared.halt.Halt.TheVariants.{NoSuchFile, Refused, ReadFault, NoMemory}
@@ -27,10 +26,10 @@ unread-by file next (Refused place) is =
 unread-by file next (ReadFault j) is = tt
 unread-by file next NoMemory is = tt
 
-pub unread : (store : Option Store) (name : List ℕ) (base : Bool) (address : ℕ) (h : Halt) (r : Result (Vec ℕ) Halt)
+pub unread : (store : Option Store) (name : List ℕ) (next : Store → List ℕ → Answer) (h : Halt) (r : Result (Vec ℕ) Halt)
     → IfSome store (λ files. ReadsFile (files name) 1 max_binary_bytes (Err h)) → IsErrAnd r (λ x. x ≡ h)
-    → IfSome store (λ files. Makes (answer_of_command files (where_ base name address)) r)
-unread None name base address h r reads stops = tt
-unread (Some files) name base address h (Ok text) reads stops = absurd stops
-unread (Some files) name base address h (Err other) reads stops =
-    subst (λ x. Makes (answer_of_command files (where_ base name address)) (Err x)) (sym stops) (unread-by (files name) _ h reads)
+    → IfSome store (λ files. Makes (with_file files 1 name first_bad_of_binary (next files)) r)
+unread None name next h r reads stops = tt
+unread (Some files) name next h (Ok text) reads stops = absurd stops
+unread (Some files) name next h (Err other) reads stops =
+    subst (λ x. Makes (with_file files 1 name first_bad_of_binary (next files)) (Err x)) (sym stops) (unread-by (files name) (next files) h reads)

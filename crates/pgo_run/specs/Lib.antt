@@ -1,6 +1,8 @@
 pub mod BranchText
 pub mod Halt
+pub mod Options
 pub mod Output
+pub mod Profile
 pub mod Run
 pub mod Status
 pub mod Words

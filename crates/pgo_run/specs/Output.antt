@@ -1,9 +1,12 @@
 -- What is made before the first write: the output, or what ends the command without it.
-use Rattle.std.specs.Prelude.{◌≡◌, ℕ, ⊤, Bool, true, false, List, Option, None, Some, Result, Ok, Err}
+use Rattle.std.specs.Prelude.{◌≡◌, ℕ, ◌+◌, ◌-◌, ◌^◌, ◌<◌, ◌≤◌, ⊤, Bool, true, false, min, List, length, take, Option, None, Some, Result, Ok, Err}
 use Rattle.refusal.specs.Place.{size_item}
 use Rattle.std.specs.Global.{Vec}
 use Rattle.io_edge.specs.Faults.{HasCauseWhere}
+use Rattle.io_edge.specs.Inputs.{Store}
 use Rattle.command_model.specs.Answer.{Answer, no_such_file, refused, writes}
+use Rattle.command_model.specs.Command.{Command}
+use Rattle.command_model.specs.Files.{AreGood, files_of}
 use Rattle.pgo_run.specs.declared.halt.Halt.{Halt}
 use Rattle.pgo_run.specs.declared.halt.Halt.TheVariants.{NoSuchFile, Refused, ReadFault, NoMemory}
 
@@ -51,3 +54,21 @@ IsFaultOf k (Err NoMemory) = ⊤
 -- Where the k-th file could not be read, the inputs' count of faults rose. It is as it was under each other answer.
 abbrev pub HasFileCause : {A : Type 0} → ℕ → ℕ → ℕ → Result A Halt → Type 0
 HasFileCause k before after answer = HasCauseWhere tells_read_fault before after answer × IsFaultOf k answer
+
+-- What holds of the file that could not be read, where one could not.
+abbrev pub IfReadFault : {A : Type 0} → Result A Halt → (ℕ → Type 0) → Type 0
+IfReadFault (Ok x) P = ⊤
+IfReadFault (Err (NoSuchFile j)) P = ⊤
+IfReadFault (Err (Refused place)) P = ⊤
+IfReadFault (Err (ReadFault j)) P = P j
+IfReadFault (Err NoMemory) P = ⊤
+
+-- k is the number of one of the command's files, and k files were opened; a count of opens stands still at its end.
+pub record Reaches (command : Command) (k opens opens_after : ℕ) : Type 0 where
+  pub first : 0 < k
+  pub last : k ≤ length (files_of command)
+  pub opened : opens_after ≡ min (opens + k) (2 ^ 64 - 1)
+
+-- The files before the k-th are there and good.
+abbrev pub AreGoodBefore : Store → Command → ℕ → Type 0
+AreGoodBefore files command k = AreGood files (take (k - 1) (files_of command))

@@ -1,6 +1,5 @@
 -- What a status says of the words, the files and the output.
-use Rattle.std.specs.Prelude.{◌≡◌, ◌⊎◌, ℕ, ◌+◌, ◌-◌, ◌^◌, ⊤, List}
-use Rattle.io_edge.specs.Faults.{Rises}
+use Rattle.std.specs.Prelude.{◌≡◌, ◌⊎◌, ℕ, ⊤, List}
 use Rattle.command_model.specs.Answer.{Answer, writes}
 use Rattle.pgo_run.specs.declared.status.Status.{Status}
 use Rattle.pgo_run.specs.declared.status.Status.TheVariants.{Done, ReadFault, WriteFault, NoMemory}
@@ -31,8 +30,3 @@ abbrev pub IsWithoutFault : Status → Type 0
 IsWithoutFault (ReadFault file) = ⊥
 IsWithoutFault WriteFault = ⊥
 IsWithoutFault _ = ⊤
-
--- The k-th file could not be read: a call failed, and k files were opened.
-pub record FailsAt (k : ℕ) (faults faults_after opens opens_after : ℕ) : Type 0 where
-  pub rose : Rises faults faults_after
-  pub opened : (opens_after ≡ opens + k) ⊎ (opens_after ≡ 2 ^ 64 - 1)

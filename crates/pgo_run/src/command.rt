@@ -1,8 +1,9 @@
 ghost use Rattle.std.specs.Prelude.{◌≡◌, ◌≤◌, length};
 ghost use Rattle.std.specs.Option.{option_map};
-ghost use Rattle.command_model.specs.Command.{address_of as address_told, base_asked as base_told, command_of, counts_of, digits_of as digits_told, is_option as option_told, option_count as count_told, where_of};
+ghost use Rattle.command_model.specs.Command.{address_of as address_told, base_asked as base_told, command_of, counts_of, digits_of as digits_told, is_option as option_told, option_count as count_told, profile_of, where_of};
 ghost use Rattle.pgo_run.specs.Words.{texts_of, meaning_of};
 
+use crate::options::{Sampling, sampling_of};
 use text_scan::hex;
 
 /// The most digits of an address.
@@ -20,6 +21,12 @@ pub(crate) enum Command<'a> {
         binary: &'a [u8],
         address: u64,
     },
+    /// The profile of this binary and this branch text, and the report on it.
+    Profile {
+        sampling: Sampling<'a>,
+        binary: &'a [u8],
+        perf: &'a [u8],
+    },
 }
 
 /// The command that the words spell.
@@ -35,6 +42,8 @@ pub(crate) fn parse(words: &[Vec<u8>]) -> Option<Command<'_>>
         parse_counts(options, operands)
     } else if name.as_slice() == b"where".as_slice() {
         parse_where(options, operands)
+    } else if name.as_slice() == b"profile".as_slice() {
+        parse_profile(options, operands)
     } else {
         None
     }
@@ -83,6 +92,21 @@ fn parse_where<'a>(options: &[Vec<u8>], operands: &'a [Vec<u8>]) -> Option<Comma
             base: base_asked(options)?,
             binary,
             address: address_of(hex)?,
+        }),
+        _ => None,
+    }
+}
+
+/// `profile [--map=NAME] [--base] BIN PERF`
+fn parse_profile<'a>(options: &'a [Vec<u8>], operands: &'a [Vec<u8>]) -> Option<Command<'a>>
+    ensures { option_map meaning_of result
+        ≡ profile_of (texts_of options.now) (texts_of operands.now) }
+{
+    match operands {
+        [binary, perf] => Some(Command::Profile {
+            sampling: sampling_of(options)?,
+            binary,
+            perf,
         }),
         _ => None,
     }

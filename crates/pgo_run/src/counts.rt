@@ -1,18 +1,18 @@
 // `counts`: the branches of a branch text, each with how often it was taken.
 ghost use Rattle.std.specs.Prelude.{◌≡◌, ◌++◌, List, ℕ, IfOk, IfSome, OnOk};
-ghost use Rattle.io_edge.specs.Faults.{raised};
+ghost use Rattle.io_edge.specs.Faults.{HasCauseWhere};
 ghost use Rattle.sample_model.specs.Samples.{branches_of_lines};
 ghost use Rattle.branch_stacks.specs.Table.{pair_of};
 ghost use Rattle.branch_stacks.specs.Tally.{TellsOf};
 ghost use Rattle.command_model.specs.Answer.{answer_of_command};
 ghost use Rattle.command_model.specs.Command.{counts as counts_command};
 ghost use Rattle.command_model.specs.Counts.{counts_line, counts_text, total_line};
-ghost use Rattle.pgo_run.specs.Output.{HasFileCause, Makes};
+ghost use Rattle.pgo_run.specs.Output.{AreGoodBefore, IfReadFault, Makes, Reaches, tells_read_fault};
 
 use crate::branch_text::count_text;
 use crate::halt::Halt;
 use crate::order::open_file;
-use branch_stacks::Counts;
+use branch_stacks::{Counts, Reader};
 use io_edge::Inputs;
 use refusal::NoMemory;
 use sample_model::Pair;
@@ -27,12 +27,17 @@ pub(crate) fn output<I: Inputs>(alloc: Global, perf: &[u8], inputs: &mut I) -> R
     ensures makes { IfSome (I.store inputs.old)
         (λ files. Makes (answer_of_command files (counts_command perf.now)) result) }
     ensures store { I.store inputs.new ≡ I.store inputs.old }
-    ensures opens { I.opens inputs.new ≡ raised (I.opens inputs.old) }
-    ensures cause { HasFileCause 1 (I.faults inputs.old) (I.faults inputs.new) result }
+    ensures cause { HasCauseWhere tells_read_fault
+        (I.faults inputs.old) (I.faults inputs.new) result }
+    ensures reaches { IfReadFault result (λ k. Reaches (counts_command perf.now) k
+        (I.opens inputs.old) (I.opens inputs.new)) }
+    ensures good_before { IfSome (I.store inputs.old) (λ files. IfReadFault result
+        (AreGoodBefore files (counts_command perf.now))) }
 {
     open_file(inputs, 1, perf)?;
+    let reader = Reader::new(alloc, 1)?;
     let mut counts = Counts::of_branches(alloc)?;
-    count_text(alloc, inputs, 1, &mut counts)?;
+    count_text(inputs, 1, reader, &mut counts)?;
     Ok(print(alloc, counts)?)
 }
 

@@ -8,7 +8,9 @@ mod branch_text;
 mod command;
 mod counts;
 mod halt;
+mod options;
 mod order;
+mod profile;
 mod program;
 mod status;
 #[cfg(test)]

@@ -8,6 +8,9 @@ use io_edge::{Inputs, ReadStop, read_whole};
 use refusal::{Kind, Place};
 use std::alloc::Global;
 
+/// The most bytes of a binary.
+pub(crate) const MAX_BINARY: u64 = 1 << 30;
+
 /// Opens the file of the k-th file word.
 ///
 /// # Errors

@@ -1,18 +1,18 @@
-ghost use Rattle.std.specs.Prelude.{◌≡◌, ◌≢◌, ◌⊎◌, ◌↔◌, ℕ, List, true, false, None, IfSome};
+ghost use Rattle.std.specs.Prelude.{◌≡◌, ◌⊎◌, ◌↔◌, ℕ, List, true, false, None, IfSome, IsSomeAnd};
 ghost use Rattle.std.specs.Io.KnownBytes.{Appends};
-ghost use Rattle.io_edge.specs.Faults.{Rises, raised};
+ghost use Rattle.io_edge.specs.Faults.{HasCauseWhere, Rises};
 ghost use Rattle.io_edge.specs.Sink.{AppendsPrefix};
 ghost use Rattle.refusal.specs.declared.place.Place.{Place};
-ghost use Rattle.command_model.specs.Answer.{answer_of, answer_of_command, no_such_file, refused, writes};
+ghost use Rattle.command_model.specs.Answer.{answer_of, answer_of_command, fails_check, no_such_file, refused, writes};
 ghost use Rattle.command_model.specs.Command.{command_of};
-ghost use Rattle.pgo_run.specs.Run.{ComesExactly, FailsAt, HasWritten, IsWithoutFault, IsWithoutOutput};
-ghost use Rattle.pgo_run.specs.Output.{HasFileCause, Makes};
+ghost use Rattle.pgo_run.specs.Run.{ComesExactly, HasWritten, IsWithoutFault, IsWithoutOutput};
+ghost use Rattle.pgo_run.specs.Output.{AreGoodBefore, IfReadFault, Makes, Reaches, tells_read_fault};
 ghost use Rattle.pgo_run.specs.Words.{meaning_of, texts_of};
 
 use crate::command::{Command, parse};
 use crate::halt::Halt;
 use crate::status::Status;
-use crate::{counts, where_};
+use crate::{counts, profile, where_};
 use io_edge::{Inputs, Sink, write_all};
 use std::alloc::Global;
 
@@ -33,13 +33,16 @@ pub fn run<I: Inputs, O: Sink>(
     ensures usage { (result ≡ Status.Usage) ↔ (command_of (texts_of words.now) ≡ None) }
     ensures usage_touches_nothing { result ≡ Status.Usage → inputs.new ≡ inputs.old }
 
-    // Each file that is missing, and each first bad place, is told exactly.
+    // Each file that is missing, each first bad place and each failed check are told exactly.
     ensures no_such_file { IfSome (I.store inputs.old) (λ files. (k : ℕ) →
         ComesExactly result (Status.NoSuchFile k)
         (answer_of files (texts_of words.now) ≡ no_such_file k)) }
     ensures refused { IfSome (I.store inputs.old) (λ files. (place : Place) →
         ComesExactly result (Status.Refused place)
         (answer_of files (texts_of words.now) ≡ refused place)) }
+    ensures check_failed { IfSome (I.store inputs.old) (λ files. (line : ℕ) →
+        ComesExactly result (Status.CheckFailed line)
+        (answer_of files (texts_of words.now) ≡ fails_check line)) }
 
     // `Done` comes only with the whole output written and finished, and it comes for good input.
     ensures done { result ≡ Status.Done → IfSome (I.store inputs.old) (λ files.
@@ -52,9 +55,15 @@ pub fn run<I: Inputs, O: Sink>(
         ¬ Rises (O.faults out.old) (O.faults out.new) →
         (result ≡ Status.Done) ⊎ (result ≡ Status.NoMemory)) }
 
-    // A fault is told only where a call failed, and no failed call is passed over.
-    ensures read_fault { (k : ℕ) → result ≡ Status.ReadFault k → (k ≡ 1) × FailsAt k
-        (I.faults inputs.old) (I.faults inputs.new) (I.opens inputs.old) (I.opens inputs.new) }
+    // A fault is told only where a call failed, and no failed call is passed over. Files are opened
+    // one by one, each behind good ones.
+    ensures read_fault { (k : ℕ) → result ≡ Status.ReadFault k →
+        Rises (I.faults inputs.old) (I.faults inputs.new)
+        × IsSomeAnd (command_of (texts_of words.now)) (λ command.
+        Reaches command k (I.opens inputs.old) (I.opens inputs.new)) }
+    ensures good_before { IfSome (I.store inputs.old) (λ files. (k : ℕ) →
+        result ≡ Status.ReadFault k → IsSomeAnd (command_of (texts_of words.now)) (λ command.
+        AreGoodBefore files command k)) }
     ensures write_fault { result ≡ Status.WriteFault →
         Rises (O.faults out.old) (O.faults out.new)
         × (I.faults inputs.new ≡ I.faults inputs.old) × (O.finished out.new ≡ false) }
@@ -66,7 +75,6 @@ pub fn run<I: Inputs, O: Sink>(
 
     // Before all output is made, nothing is written.
     ensures unwritten { IsWithoutOutput result → out.new ≡ out.old }
-    ensures check_failed { (line : ℕ) → result ≢ Status.CheckFailed line }
     ensures store { I.store inputs.new ≡ I.store inputs.old }
 {
     let Some(command) = parse(words) else {
@@ -87,8 +95,12 @@ fn output<I: Inputs>(alloc: Global, command: Command<'_>, inputs: &mut I) -> Res
     ensures makes { IfSome (I.store inputs.old)
         (λ files. Makes (answer_of_command files (meaning_of command.entry)) result) }
     ensures store { I.store inputs.new ≡ I.store inputs.old }
-    ensures opens { I.opens inputs.new ≡ raised (I.opens inputs.old) }
-    ensures cause { HasFileCause 1 (I.faults inputs.old) (I.faults inputs.new) result }
+    ensures cause { HasCauseWhere tells_read_fault
+        (I.faults inputs.old) (I.faults inputs.new) result }
+    ensures reaches { IfReadFault result (λ k. Reaches (meaning_of command.entry) k
+        (I.opens inputs.old) (I.opens inputs.new)) }
+    ensures good_before { IfSome (I.store inputs.old) (λ files. IfReadFault result
+        (AreGoodBefore files (meaning_of command.entry))) }
 {
     match command {
         Command::Counts(perf) => counts::output(alloc, perf, inputs),
@@ -97,5 +109,10 @@ fn output<I: Inputs>(alloc: Global, command: Command<'_>, inputs: &mut I) -> Res
             binary,
             address,
         } => where_::output(alloc, base, binary, address, inputs),
+        Command::Profile {
+            sampling,
+            binary,
+            perf,
+        } => profile::output(alloc, sampling, binary, perf, inputs),
     }
 }

@@ -1,5 +1,7 @@
 ghost use Rattle.std.specs.Prelude.{◌<◌};
 
+mod mixed;
+mod profile;
 mod where_;
 
 use crate::{Status, run, status_line};

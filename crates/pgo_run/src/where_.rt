@@ -1,7 +1,7 @@
 // `where`: the place of an address of a binary.
 ghost use Rattle.std.specs.Prelude.{◌≡◌, ◌++◌, ◌<◌, ◌≤◌, length, map, codes, IfOk, IfSome, OnOk};
 ghost use Rattle.std.specs.List.{All, flat_map};
-ghost use Rattle.io_edge.specs.Faults.{raised};
+ghost use Rattle.io_edge.specs.Faults.{HasCauseWhere};
 ghost use Rattle.profile_model.specs.Text.{location_text};
 ghost use Rattle.refusal.specs.Place.{JudgesUnlessNoMemory};
 ghost use Rattle.binary_model.specs.Binary.{first_bad_of_binary, max_binary_bytes};
@@ -10,20 +10,17 @@ ghost use Rattle.binary_places.specs.Binary.{IsGiven, Shows};
 ghost use Rattle.command_model.specs.Answer.{answer_of_command};
 ghost use Rattle.command_model.specs.Command.{where_ as where_command};
 ghost use Rattle.command_model.specs.Where.{place_text, where_text, way_text};
-ghost use Rattle.pgo_run.specs.Output.{HasFileCause, Makes};
+ghost use Rattle.pgo_run.specs.Output.{AreGoodBefore, IfReadFault, Makes, Reaches, tells_read_fault};
 ghost use Rattle.pgo_run.specs.Where.{call_text};
 
 use crate::halt::Halt;
-use crate::order::read_file;
+use crate::order::{MAX_BINARY, read_file};
 use binary_places::{Binary, read};
 use io_edge::Inputs;
 use key_types::{Frame, Key, Keys, NameId, Names, Places, Where};
 use refusal::{NoMemory, Stop};
 use std::alloc::Global;
 use text_scan::push_number;
-
-/// The most bytes of a binary.
-const MAX_BINARY: u64 = 1 << 30;
 
 /// What `where` writes for an address of the binary in this file.
 ///
@@ -39,8 +36,12 @@ pub(crate) fn output<I: Inputs>(
     ensures makes { IfSome (I.store inputs.old) (λ files.
         Makes (answer_of_command files (where_command base binary.now address)) result) }
     ensures store { I.store inputs.new ≡ I.store inputs.old }
-    ensures opens { I.opens inputs.new ≡ raised (I.opens inputs.old) }
-    ensures cause { HasFileCause 1 (I.faults inputs.old) (I.faults inputs.new) result }
+    ensures cause { HasCauseWhere tells_read_fault
+        (I.faults inputs.old) (I.faults inputs.new) result }
+    ensures reaches { IfReadFault result (λ k. Reaches (where_command base binary.now address) k
+        (I.opens inputs.old) (I.opens inputs.new)) }
+    ensures good_before { IfSome (I.store inputs.old) (λ files. IfReadFault result
+        (AreGoodBefore files (where_command base binary.now address))) }
 {
     let file = read_file(alloc, inputs, 1, binary, MAX_BINARY)?;
     Ok(line_of(alloc, &file, base, address)?)

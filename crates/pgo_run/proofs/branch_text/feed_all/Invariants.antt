@@ -5,9 +5,10 @@ use Rattle.pgo_run.proofs.branch_text.feed_all.Given as goal
 
 abbrev pub invariant-loop-n : goal.invariant-loop-n
 invariant-loop-n g l = record {
-  done : ReadSoFar l.k (g.I.Inputs.left l.initial.inputs) (g.I.Inputs.left l.inputs) l.reader l.counts;
+  done : ReadSoFar l.initial.reader.loading l.k (g.I.Inputs.left l.initial.inputs) (g.I.Inputs.left l.inputs) l.reader l.counts;
   store : g.I.Inputs.store l.inputs ≡ g.I.Inputs.store l.initial.inputs;
   opens : g.I.Inputs.opens l.inputs ≡ g.I.Inputs.opens l.initial.inputs;
+  ranged : l.counts.with_ranges ≡ l.initial.counts.with_ranges;
   faults : g.I.Inputs.faults l.inputs ≡ g.I.Inputs.faults l.initial.inputs;
 }
 

@@ -1,0 +1,271 @@
+-- The map of a binary shows the program that the binary tells.
+use Rattle.std.proofs.Common.{◌≡◌, ◌+◌, ◌==◌, ◌&&◌, ℕ, Bool, true, false, cond, List, [], ◌∷◌, ◌++◌, map, Option, None, Some, refl, sym, ap, subst, ◌∙◌}
+use Rattle.std.specs.Prelude.{IsSome, find, slice_get, unwrap_or, option_and_then, if◌then◌else◌}
+use Rattle.std.specs.List.{enumerate_from, list_any}
+use Rattle.std.specs.Option.{option_map}
+use Rattle.std.proofs.lemmas.Bool.{true≢false}
+use Rattle.std.proofs.lemmas.Option.{slice_get_within}
+use Rattle.key_types.specs.declared.ids.KeyId.{KeyId}
+use Rattle.key_types.specs.declared.ids.NameId.{NameId}
+use Rattle.key_types.specs.declared.key.Frame.{Frame}
+use Rattle.key_types.specs.declared.key.Key.{Key}
+use Rattle.key_types.specs.declared.places.Seg.{Seg}
+use Rattle.key_types.specs.declared.places.Where.{Where}
+use Rattle.key_types.specs.declared.places.Where.TheVariants.{Outside, Nameless, NoLine, At}
+use Rattle.place_model.specs.Discriminators as packed
+use Rattle.chain_model.specs.declared.member.Member.{Member}
+use Rattle.chain_model.specs.Chains.{chain, function_of, holds_at, piece_holds}
+use Rattle.chain_model.specs.Places as by_number
+use Rattle.chain_model.specs.Places.{LineAndDisc, Tells, chain_members, entry_name, factor_at, is_entered_at, row_of}
+use Rattle.chain_model.proofs.ChainLemmas.{begin_with_the_function}
+use Rattle.entry_names.specs.Meaning.{IsNumberOf}
+use Rattle.tree_model.specs.Members.{Told}
+use Rattle.inline_tree.specs.Told.{AreTold, IsTold}
+use Rattle.key_counts.specs.Laws.{factor_by, holds, place_by}
+use Rattle.key_segments.specs.Segments as segments
+use Rattle.key_segments.specs.Segments.{segment_at, key_told}
+use Rattle.line_model.specs.declared.row.Row.{Row}
+use Rattle.row_model.specs.Rows.{Sequence, row_among}
+use Rattle.row_table.specs.Told.{data_of, told}
+use Rattle.part_segments.specs.Parts.{line_and_disc, with_factor}
+use Rattle.context_map.specs.Maps as maps
+use Rattle.context_map.specs.Maps.{place_told, rows_of}
+use Rattle.profile_model.specs.Ways.{to_body, to_call, to_function}
+use Rattle.profile_tree.specs.Steps.{frame_step, named, at_line, steps_of, steps_of_given}
+use Rattle.binary_model.specs.Addresses.{entered_at, factor_of_address, function_of_address}
+use Rattle.binary_model.specs.Binary.{members_in, tables_in}
+use Rattle.binary_model.specs.Places.{Place, outside, nameless, no_line, at_way, name_of, names_of, numbered_from, row_in, way_of}
+use Rattle.binary_places.specs.Binary.{IsWay, Shows}
+use Rattle.binary_places.proofs.NumberLemmas.{are-told}
+use Rattle.binary_places.proofs.ShownLemmas.{places_shown}
+use Rattle.profile_writer.specs.Shown.{ShowsName, ShowsPlace, key_of}
+use Rattle.profile_maker.specs.Laws.{BinariesShowPrograms}
+
+-- ---- places
+
+calls_alike : (names : List (List ℕ)) (calls : List Frame) (offset disc : ℕ)
+    → map (named names) (map frame_step calls ++ at_line offset disc ∷ []) ≡ map (λ call. to_call call.offset call.disc (name_of names call.name)) calls ++ to_body offset disc ∷ []
+calls_alike names [] offset disc = refl
+calls_alike names (call ∷ calls) offset disc = ap (λ steps. to_call call.offset call.disc (name_of names call.name) ∷ steps) (calls_alike names calls offset disc)
+
+key_alike : (names : List (List ℕ)) (key : Key) → map (named names) (steps_of key) ≡ way_of names key
+key_alike names key = ap (λ steps. to_function (name_of names key.root) ∷ steps) (calls_alike names key.calls key.offset key.disc)
+
+place_shown : (names : List (List ℕ)) (keys : List Key) (place : Place) (answer : Where) → Shows names keys place answer → ShowsPlace names keys place answer
+place_shown names keys outside answer shown = shown
+place_shown names keys nameless answer shown = shown
+place_shown names keys no_line answer shown = shown
+place_shown names keys (at_way way) answer shown =
+    let is : IsWay names keys way shown.0 = shown.2 in (
+      shown.0,
+      shown.1,
+      slice_get_within keys shown.0.0 is.key is.at_number,
+      ap (λ key. map (named names) (steps_of_given key)) is.at_number ∙ key_alike names is.key ∙ sym is.way_is,
+    )
+
+-- ---- the same member by two numberings of names
+
+module _ (names others : List (List ℕ)) where
+  abbrev SameName : Option NameId → Option NameId → Type 0
+  SameName one other = (name : Option (List ℕ)) × IsNumberOf names name one × IsNumberOf others name other
+
+  record SameMember (p q : ℕ × Member) : Type 0 where
+    number_is : p.0 ≡ q.0
+    unit_is : p.1.unit ≡ q.1.unit
+    pieces_are : p.1.pieces ≡ q.1.pieces
+    name_is : SameName p.1.name q.1.name
+
+  abbrev SameFound : Option (ℕ × Member) → Option (ℕ × Member) → Type 0
+  SameFound None None = Unit {0}
+  SameFound None (Some q) = ⊥
+  SameFound (Some p) None = ⊥
+  SameFound (Some p) (Some q) = SameMember p q
+
+  same_holds : (address : ℕ) (told : Told) (m c : Member) → IsTold names told m → IsTold others told c → holds_at 0 address m ≡ holds_at 0 address c
+  same_holds address told m c is other =
+      λ i. ((is.depth_is ∙ sym other.depth_is) i == 0) && list_any (piece_holds address) ((is.pieces_are ∙ sym other.pieces_are) i)
+
+  same_member : (n : ℕ) (told : Told) (m c : Member) → IsTold names told m → IsTold others told c → SameMember (n, m) (n, c)
+  same_member n told m c is other = record {
+    number_is = refl;
+    unit_is = is.unit_is ∙ sym other.unit_is;
+    pieces_are = is.pieces_are ∙ sym other.pieces_are;
+    name_is = (told.name, is.name_is, other.name_is);
+  }
+
+  found_first : (b : Bool) (p q : ℕ × Member) (x y : Option (ℕ × Member)) → SameMember p q → SameFound x y → SameFound (cond b (Some p) x) (cond b (Some q) y)
+  found_first true p q x y same rest = same
+  found_first false p q x y same rest = rest
+
+  same_found : (address n : ℕ) (tolds : List Told) (ms cs : List Member) → AreTold names tolds ms → AreTold others tolds cs
+      → SameFound (find (λ member. holds_at 0 address member.1) (enumerate_from n ms)) (find (λ member. holds_at 0 address member.1) (enumerate_from n cs))
+  same_found address n [] [] [] h k = tt
+  same_found address n [] [] (c ∷ cs) h k = absurd k
+  same_found address n [] (m ∷ ms) cs h k = absurd h
+  same_found address n (t ∷ tolds) [] cs h k = absurd h
+  same_found address n (t ∷ tolds) (m ∷ ms) [] h k = absurd k
+  same_found address n (t ∷ tolds) (m ∷ ms) (c ∷ cs) h k =
+      let x = find (λ member. holds_at 0 address member.1) (enumerate_from (n + 1) ms) in
+      let y = find (λ member. holds_at 0 address member.1) (enumerate_from (n + 1) cs) in
+      subst (λ b. SameFound (cond (holds_at 0 address m) (Some (n, m)) x) (cond b (Some (n, c)) y)) (same_holds address t m c h.0 k.0)
+      (found_first (holds_at 0 address m) (n, m) (n, c) x y (same_member n t m c h.0 k.0) (same_found address (n + 1) tolds ms cs h.1 k.1))
+
+  -- its number
+  same_number : (x y : Option (ℕ × Member)) → SameFound x y → option_map (λ function. function.0) x ≡ option_map (λ function. function.0) y
+  same_number None None h = refl
+  same_number None (Some q) h = absurd h
+  same_number (Some p) None h = absurd h
+  same_number (Some p) (Some q) h = ap (λ n. Some n) h.number_is
+
+  -- the name of what is entered there
+  abbrev name_where : ℕ → Option (ℕ × Member) → Option NameId
+  name_where address function = option_and_then (λ function. if is_entered_at address function.1.pieces then function.1.name else None) function
+
+  same_name : (name : Option (List ℕ)) (one other : Option NameId) → IsNumberOf names name one → IsNumberOf others name other → ShowsName names (option_map (name_of others) other) one
+  same_name name None None h k = refl
+  same_name None None (Some j) h k = absurd (true≢false (sym k.0))
+  same_name (Some n) None (Some j) h k = absurd cc
+  same_name None (Some i) other h k = absurd (true≢false (sym h.0))
+  same_name (Some n) (Some i) None h k = absurd cc
+  same_name (Some n) (Some i) (Some j) h k = (i, refl, h.1 ∙ ap (λ o. Some (unwrap_or o [])) (sym k.1))
+
+  name_if : (b : Bool) (p q : Option NameId) → SameName p q → ShowsName names (option_map (name_of others) (if b then q else None)) (if b then p else None)
+  name_if true p q h = same_name h.0 p q h.1 h.2
+  name_if false p q h = refl
+
+  same_entry : (address : ℕ) (x y : Option (ℕ × Member)) → SameFound x y → ShowsName names (option_map (name_of others) (name_where address y)) (name_where address x)
+  same_entry address None None h = refl
+  same_entry address None (Some q) h = absurd h
+  same_entry address (Some p) None h = absurd h
+  same_entry address (Some p) (Some q) h =
+      subst (λ pieces. ShowsName names (option_map (name_of others) (if is_entered_at address pieces then q.1.name else None)) (name_where address (Some p))) h.pieces_are
+      (name_if (is_entered_at address p.1.pieces) p.1.name q.1.name h.name_is)
+
+  -- the row of its unit
+  same_row : (f g : ℕ → ℕ → Option LineAndDisc) → ((unit address : ℕ) → f unit address ≡ g unit address) → (address : ℕ) (x y : Option (ℕ × Member)) → SameFound x y
+      → option_and_then (λ function. f function.1.unit address) x ≡ option_and_then (λ function. g function.1.unit address) y
+  same_row f g rows address None None h = refl
+  same_row f g rows address None (Some q) h = absurd h
+  same_row f g rows address (Some p) None h = absurd h
+  same_row f g rows address (Some p) (Some q) h = ap (λ unit. f unit address) h.unit_is ∙ rows q.1.unit address
+
+row_by_first : (rows : ℕ → ℕ → Option LineAndDisc) (address : ℕ) (xs : List (ℕ × Member))
+    → row_of rows (map (λ member. member.1) xs) address ≡ option_and_then (λ function. rows function.1.unit address) (slice_get xs 0)
+row_by_first rows address [] = refl
+row_by_first rows address (x ∷ xs) = refl
+
+row_by_function : (rows : ℕ → ℕ → Option LineAndDisc) (members : List Member) (address : ℕ)
+    → row_of rows (chain_members members address) address ≡ option_and_then (λ function. rows function.1.unit address) (function_of members address)
+row_by_function rows members address =
+    row_by_first rows address (chain members address) ∙ ap (option_and_then (λ function. rows function.1.unit address)) (begin_with_the_function members address)
+
+-- ---- segments
+
+abbrev number_by : Option Seg → Option ℕ
+number_by segment = option_map (λ segment. segment.key.0) segment
+
+abbrev factor_in : Option Seg → ℕ
+factor_in segment = unwrap_or (option_map (λ segment. segment.factor) segment) 1
+
+key_if : (b : Bool) (s : Seg) (rest : Option Seg) (more : Option ℕ) → more ≡ number_by rest → cond b (Some s.key.0) more ≡ number_by (cond b (Some s) rest)
+key_if true s rest more e = refl
+key_if false s rest more e = e
+
+factor_if : (b : Bool) (s : Seg) (rest : Option Seg) (more : ℕ) → more ≡ factor_in rest → cond b s.factor more ≡ factor_in (cond b (Some s) rest)
+factor_if true s rest more e = refl
+factor_if false s rest more e = e
+
+key_by_segment : (parts : List Seg) (address : ℕ) → place_by parts address ≡ number_by (segment_at parts address)
+key_by_segment [] address = refl
+key_by_segment (s ∷ parts) address = key_if (holds address s) s (segment_at parts address) (place_by parts address) (key_by_segment parts address)
+
+factor_by_segment : (parts : List Seg) (address : ℕ) → factor_by parts address ≡ factor_in (segment_at parts address)
+factor_by_segment [] address = refl
+factor_by_segment (s ∷ parts) address = factor_if (holds address s) s (segment_at parts address) (factor_by parts address) (factor_by_segment parts address)
+
+key_of_place : (segment : Option Seg) (function span : Option ℕ) → number_by segment ≡ key_of (maps.place_by (option_map (λ s. s.key) segment) function span)
+key_of_place (Some s) function span = refl
+key_of_place None None span = refl
+key_of_place None (Some f) (Some s) = refl
+key_of_place None (Some f) None = refl
+
+no_place : (id : KeyId) → Outside ≡ At id → ⊥
+no_place id e = cc
+
+no_name : (id : KeyId) → Nameless ≡ At id → ⊥
+no_name id e = cc
+
+no_row : (id : KeyId) → NoLine ≡ At id → ⊥
+no_row id e = cc
+
+same_key : (i j : KeyId) → At i ≡ At j → i ≡ j
+same_key i j e = cc
+
+second : Option (Key × ℕ) → ℕ
+second None = 0
+second (Some p) = p.1
+
+second_of : (x y : Key × ℕ) → Some x ≡ Some y → x.1 ≡ y.1
+unfolding second
+second_of x y e = ap second e
+
+factor_from : (keys : List Key) (s : Seg) (place : by_number.Place) (factor : ℕ) (answer : Where) → Tells keys place answer → answer ≡ At s.key
+    → segments.key_and_factor keys s ≡ with_factor place factor → s.factor ≡ factor
+factor_from keys s by_number.outside factor answer tells at told = absurd (no_place s.key (sym tells ∙ at))
+factor_from keys s by_number.nameless factor answer tells at told = absurd (no_name s.key (sym tells ∙ at))
+factor_from keys s by_number.no_line factor answer tells at told = absurd (no_row s.key (sym tells ∙ at))
+factor_from keys s (by_number.has_key key) factor answer tells at told =
+    let id : s.key ≡ tells.0 = same_key s.key tells.0 (sym at ∙ tells.1) in
+    let there : slice_get keys s.key.0 ≡ Some key = ap (λ (k : KeyId). slice_get keys k.0) id ∙ tells.2 in
+    second_of (key, s.factor) (key, factor) (sym (ap (option_map (λ key. (key, s.factor))) there) ∙ told)
+
+factor_there : (keys : List Key) (segment : Option Seg) (function span : Option ℕ) (place : by_number.Place) (factor : ℕ)
+    → Tells keys place (maps.place_by (option_map (λ s. s.key) segment) function span) → IsSome (number_by segment)
+    → option_and_then (segments.key_and_factor keys) segment ≡ with_factor place factor → factor_in segment ≡ factor
+factor_there keys None function span place factor tells some told = absurd (true≢false (sym some))
+factor_there keys (Some s) function span place factor tells some told = factor_from keys s place factor (At s.key) tells refl told
+
+-- ---- rows
+
+by_row : (row : Option Row) → option_map line_and_disc (option_map data_of row) ≡ option_map (λ row. (row.line, row.disc)) row
+by_row None = refl
+by_row (Some row) = refl
+
+by_table : (table : Option (List Sequence)) (address : ℕ)
+    → option_map line_and_disc (option_and_then (λ table. told table address) table)
+    ≡ option_map (λ row. (row.line, row.disc)) (option_and_then (λ table. row_among table address) table)
+by_table None address = refl
+by_table (Some table) address = by_row (row_among table address)
+
+rows_agree : (tables : List (Option (List Sequence))) (unit address : ℕ) → rows_of tables unit address ≡ row_in tables unit address
+rows_agree tables unit address = by_table (option_and_then (λ table. table) (slice_get tables unit)) address
+
+-- ---- all together
+
+pub programs_shown : BinariesShowPrograms
+unfolding entered_at factor_of_address function_of_address
+programs_shown file base binary is =
+    let tolds = members_in file in
+    let others = names_of tolds in
+    let cs = numbered_from 0 tolds in
+    let same : (address : ℕ) → SameFound binary.names others (function_of is.members address) (function_of cs address) =
+    λ address. same_found binary.names others address 0 tolds is.members cs is.told (are-told tolds) in
+    let segment = λ (address : ℕ). segment_at binary.map.segments address in
+    let rows = rows_of (tables_in file) in
+    record {
+      places = λ address. place_shown binary.names binary.keys _ (place_told binary.map address) (places_shown file base binary is address);
+      functions = λ address. is.map.function address ∙ same_number binary.names others (function_of is.members address) (function_of cs address) (same address);
+      entrances = λ address.
+          subst (ShowsName binary.names (entered_at file address)) (sym (is.map.entry address))
+          (same_entry binary.names others address (function_of is.members address) (function_of cs address) (same address));
+      keys_told = λ address. key_by_segment binary.map.segments address ∙ key_of_place (segment address) _ _;
+      factors_told = λ address some.
+          let factor : ℕ → Option LineAndDisc → ℕ = λ _ row. unwrap_or (option_map (λ row. if base then packed.factor row.1 else 1) row) 1 in
+          factor_by_segment binary.map.segments address
+          ∙ factor_there binary.keys (segment address) _ _ (by_number.place_at rows base is.members address) (factor_at rows base is.members address) (is.map.place address)
+          (subst IsSome (key_by_segment binary.map.segments address) some) (is.map.tell address)
+          ∙ ap (factor 0)
+          (row_by_function rows is.members address
+          ∙ same_row binary.names others rows (row_in (tables_in file)) (rows_agree (tables_in file)) address (function_of is.members address) (function_of cs address) (same address)
+          ∙ sym (row_by_function (row_in (tables_in file)) cs address));
+    }

@@ -1,0 +1,15 @@
+-- What follows from the definitions.
+use Rattle.std.specs.Prelude.{ℕ, Bool, List}
+use Rattle.context_map.specs.Maps.{entry_told, place_told}
+use Rattle.function_stretches.specs.Stretches.{function_at}
+use Rattle.binary_places.specs.Binary.{IsBinary}
+use Rattle.binary_places.specs.declared.binary.Binary.{Binary}
+use Rattle.sampled_profile.specs.Program.{program_of}
+use Rattle.profile_writer.specs.Shown.{ShowsProgram}
+
+-- The map of a binary shows the program in it.
+abbrev pub BinariesShowPrograms : Type 0
+BinariesShowPrograms =
+    (file : List ℕ) (base : Bool) (binary : Binary) → IsBinary file base binary
+    → ShowsProgram (program_of file base) binary.names binary.keys binary.map.segments
+    (place_told binary.map) (λ address. function_at binary.map.stretches address) (entry_told binary.map)

@@ -1,0 +1,114 @@
+-- A report asks of classes only whether they are entries, inside, or unmapped for a reason.
+use Rattle.std.proofs.Common.{◌≡◌, ℕ, Bool, List, ◌++◌, filter, length, Option, None, Some, refl, sym, ap, ◌∙◌}
+use Rattle.std.specs.Prelude.{codes, count_by}
+use Rattle.std.specs.List.{flat_map}
+use Rattle.std.specs.Option.{option_map}
+use Rattle.key_types.specs.declared.ids.NameId.{NameId}
+use Rattle.key_types.specs.declared.key.Key.{Key}
+use Rattle.key_types.specs.declared.places.Seg.{Seg}
+use Rattle.key_types.specs.declared.places.Where.{Where}
+use Rattle.key_types.specs.declared.places.Where.TheVariants.{Outside, Nameless, NoLine, At}
+use Rattle.sample_model.specs.Pairs.{distinct_pairs, times_of}
+use Rattle.class_model.specs.declared.class.Class.{Class}
+use Rattle.class_model.specs.declared.class.Class.TheVariants.{Entry, Inside, Unmapped}
+use Rattle.class_model.specs.declared.class.Reason.{Reason}
+use Rattle.class_model.specs.Branches.{branch_class, class_by, is_entry, is_inside, is_unmapped}
+use Rattle.class_model.specs.Ranges.{range_class}
+use Rattle.binary_model.specs.Places.{Place, outside, nameless, no_line, at_way}
+use Rattle.report_model.specs.Report.{Classes, Sampled, number_line, ranges_text, reasons, report_text, units_text, unmapped_line}
+use Rattle.sampled_profile.specs.Program.{Program, where_of}
+use Rattle.sampled_profile.specs.Sampled.{class_of_branch, classes_of}
+use Rattle.profile_writer.specs.Shown.{ShowsName, ShowsPlace, ShowsProgram}
+
+-- a class in which all names are one
+abbrev simple : Class → Class
+simple (Entry name) = Entry (record { 0 = 0 })
+simple Inside = Inside
+simple (Unmapped reason) = Unmapped reason
+
+simple_entry : (c : Class) → is_entry (simple c) ≡ is_entry c
+simple_entry (Entry name) = refl
+simple_entry Inside = refl
+simple_entry (Unmapped reason) = refl
+
+simple_inside : (c : Class) → is_inside (simple c) ≡ is_inside c
+simple_inside (Entry name) = refl
+simple_inside Inside = refl
+simple_inside (Unmapped reason) = refl
+
+simple_unmapped : (reason : Reason) (c : Class) → is_unmapped reason (simple c) ≡ is_unmapped reason c
+simple_unmapped reason (Entry name) = refl
+simple_unmapped reason Inside = refl
+simple_unmapped reason (Unmapped other) = refl
+
+abbrev simplified : Classes → Classes
+simplified classes = record { of_branch = λ branch. simple (classes.of_branch branch); of_range = classes.of_range }
+
+-- the report, by the tests that it makes of branches
+abbrev text_by : Classes → Sampled → (ℕ × ℕ → Bool) → (ℕ × ℕ → Bool) → (Reason → ℕ × ℕ → Bool) → List ℕ
+text_by classes sampled entry inside unmapped =
+    (number_line (codes "branches") (length sampled.branches)
+    ++ (number_line (codes "entries") (count_by entry sampled.branches)
+    ++ (number_line (codes "inside") (count_by inside sampled.branches)
+    ++ flat_map (λ reason. flat_map (λ branch. unmapped_line reason branch (times_of branch sampled.branches)) (filter (unmapped reason) (distinct_pairs sampled.branches))) reasons)))
+    ++ (ranges_text classes sampled ++ units_text sampled)
+
+pub simplified_report : (classes : Classes) (sampled : Sampled) → report_text (simplified classes) sampled ≡ report_text classes sampled
+unfolding report_text
+simplified_report classes sampled =
+    λ i. text_by classes sampled
+    (λ branch. simple_entry (classes.of_branch branch) i) (λ branch. simple_inside (classes.of_branch branch) i) (λ reason branch. simple_unmapped reason (classes.of_branch branch) i)
+
+-- places as far as classes tell them apart
+abbrev without_number : Where → Where
+without_number Outside = Outside
+without_number Nameless = Nameless
+without_number NoLine = NoLine
+without_number (At key) = At (record { 0 = 0 })
+
+abbrev unnumbered : Option NameId → Option NameId
+unnumbered name = option_map (λ _. record { 0 = 0 }) name
+
+class_alike : (name : Option NameId) (from to : Where) → class_by (unnumbered name) (without_number from) (without_number to) ≡ simple (class_by name from to)
+class_alike (Some name) from to = refl
+class_alike None Outside to = refl
+class_alike None Nameless to = refl
+class_alike None NoLine to = refl
+class_alike None (At key) Outside = refl
+class_alike None (At key) Nameless = refl
+class_alike None (At key) NoLine = refl
+class_alike None (At key) (At other) = refl
+
+place_alike : (names : List (List ℕ)) (keys : List Key) (place : Place) (answer : Where) → ShowsPlace names keys place answer → where_of place ≡ without_number answer
+place_alike names keys outside answer shown = sym (ap without_number shown)
+place_alike names keys nameless answer shown = sym (ap without_number shown)
+place_alike names keys no_line answer shown = sym (ap without_number shown)
+place_alike names keys (at_way way) answer shown = sym (ap without_number shown.1)
+
+abbrev name_mark : Option (List ℕ) → Option NameId
+name_mark name = option_map (λ _. record { 0 = 0 }) name
+
+name_alike : (names : List (List ℕ)) (name : Option (List ℕ)) (answer : Option NameId) → ShowsName names name answer → name_mark name ≡ unnumbered answer
+name_alike names None answer shown = sym (ap unnumbered shown)
+name_alike names (Some name) answer shown = sym (ap unnumbered shown.1)
+
+-- the classes that a map tells
+abbrev pub classes_told : (ℕ → Where) → (ℕ → Option ℕ) → (ℕ → Option NameId) → Classes
+classes_told place function entered = record {
+  of_branch = λ branch. branch_class place entered branch.0 branch.1;
+  of_range = λ range. range_class function range.0 range.1;
+}
+
+module _ (program : Program) (names : List (List ℕ)) (keys : List Key) (segments : List Seg) (place : ℕ → Where) (function : ℕ → Option ℕ) (entered : ℕ → Option NameId)
+    (shown : ShowsProgram program names keys segments place function entered) where
+  branch_alike : (branch : ℕ × ℕ) → class_of_branch program branch ≡ simple (branch_class place entered branch.0 branch.1)
+  branch_alike branch =
+      (λ i. class_by (name_alike names (program.entered branch.1) (entered branch.1) (shown.entrances branch.1) i) (place_alike names keys (program.place branch.0) (place branch.0) (shown.places branch.0) i)
+      (place_alike names keys (program.place branch.1) (place branch.1) (shown.places branch.1) i))
+      ∙ class_alike (entered branch.1) (place branch.0) (place branch.1)
+
+  pub report_alike : (sampled : Sampled) → report_text (classes_told place function entered) sampled ≡ report_text (classes_of program) sampled
+  report_alike sampled =
+      sym (simplified_report (classes_told place function entered) sampled)
+      ∙ ap (λ classes. report_text classes sampled)
+      (λ i. record { of_branch = λ branch. sym (branch_alike branch) i; of_range = λ range. range_class (λ address. shown.functions address i) range.0 range.1 })

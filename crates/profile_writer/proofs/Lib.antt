@@ -1,0 +1,6 @@
+pub mod BranchLemmas
+pub mod ClassLemmas
+pub mod CountLemmas
+pub mod OutputLemmas
+pub mod RanLemmas
+pub mod SumLemmas

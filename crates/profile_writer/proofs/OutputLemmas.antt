@@ -1,0 +1,113 @@
+-- The profile of what was counted is that of the program and its samples.
+use Rattle.std.proofs.Common.{◌≡◌, ◌<◌, ℕ, ◌^◌, nat_lt, true, false, List, [], ◌++◌, map, length, Option, sym, ap, subst, ◌∙◌, arith}
+use Rattle.std.specs.List.{All, filter_map}
+use Rattle.std.proofs.lemmas.Bool.Decides.{nat_tests}
+use Rattle.hit_model.specs.Hits.{hits_at}
+use Rattle.key_types.specs.Numbers.{IsNumbered}
+use Rattle.key_types.specs.declared.ids.NameId.{NameId}
+use Rattle.key_types.specs.declared.key.Key.{Key}
+use Rattle.key_types.specs.declared.places.Seg.{Seg}
+use Rattle.key_types.specs.declared.places.Where.{Where}
+use Rattle.sample_model.specs.declared.pair.Pair.{Pair}
+use Rattle.class_model.specs.declared.class.Class.{Class}
+use Rattle.class_model.specs.declared.class.RangeClass.{RangeClass}
+use Rattle.class_model.specs.Branches.{branch_class}
+use Rattle.class_model.specs.Ranges.{range_class}
+use Rattle.profile_laws.proofs.CountLemmas.{lines_are_by_counts}
+use Rattle.profile_model.specs.Profile.{lines_of}
+use Rattle.profile_model.specs.Text.{text_of_lines}
+use Rattle.profile_report.specs.Classed.{classed_by}
+use Rattle.profile_report.specs.Told.{Tells}
+use Rattle.profile_report.specs.declared.classed.Classed.{Classed}
+use Rattle.profile_report.specs.declared.report.Units.{Units}
+use Rattle.profile_tree.proofs.ListLemmas.{Among, range_among}
+use Rattle.profile_tree.proofs.SumLemmas.{Given}
+use Rattle.profile_tree.specs.Known.{HasNames}
+use Rattle.profile_tree.specs.Said.{AreCountsOfPlaces, said}
+use Rattle.profile_tree.specs.Told.{told}
+use Rattle.profile_tree.specs.declared.line.Line.{Line}
+use Rattle.report_model.specs.Report.{Classes, Sampled, report_text}
+use Rattle.sampled_profile.specs.Output.{output_text}
+use Rattle.sampled_profile.specs.Program.{Program}
+use Rattle.sampled_profile.specs.Sampled.{all_addresses, hits_of, profile_of}
+use Rattle.profile_writer.proofs.BranchLemmas.{calls_given, heads_alike, heads_given, targets_alike}
+use Rattle.profile_writer.proofs.ClassLemmas.{classes_told, report_alike}
+use Rattle.profile_writer.proofs.CountLemmas.{counts_alike, hits_alike}
+use Rattle.profile_writer.specs.Items.{call_in, head_in, ran_in}
+use Rattle.profile_writer.specs.Shown.{ShowsProgram, ShowsSampled}
+
+-- every address is among all
+below : (address bound : ℕ) → nat_lt address bound ≡ true → address < bound
+below address bound e = grind (arith, nat_tests)
+
+address_inside : (address : ℕ) → nat_lt address (2 ^ 64) ≡ true → Among address all_addresses
+unfolding all_addresses
+address_inside address near = range_among 0 (2 ^ 64) address (omega arith) (below address (2 ^ 64) near)
+
+module _ (program : Program) (sampled : Sampled) (all : List (List ℕ)) (keys : List Key) (segments : List Seg) (place : ℕ → Where) (function : ℕ → Option ℕ) (entered : ℕ → Option NameId)
+    (shown : ShowsProgram program all keys segments place function entered)
+    (branch_rows range_rows : List Pair) (units : Units) (rows : ShowsSampled sampled branch_rows range_rows units) where
+  abbrev branches : List (Classed Class)
+  branches = map (classed_by (branch_class place entered)) branch_rows
+
+  abbrev ranges : List (Classed RangeClass)
+  ranges = map (classed_by (range_class function)) range_rows
+
+  hits_are : hits_at (filter_map ran_in ranges) ≡ hits_of program sampled
+  hits_are = λ i address. hits_alike program sampled function range_rows shown.functions rows.of_ranges address i
+
+  pub lines_alike : (counts : List ℕ) → Given all keys (filter_map (call_in place) branches) (filter_map head_in branches)
+      → length counts ≡ length keys → AreCountsOfPlaces segments (hits_at (filter_map ran_in ranges)) counts
+      → ((address : ℕ) → nat_lt address (2 ^ 64) ≡ false → hits_at (filter_map ran_in ranges) address ≡ 0)
+      → lines_of (said all keys counts (filter_map (call_in place) branches) (filter_map head_in branches)) ≡ lines_of (profile_of program sampled)
+  unfolding profile_of
+  lines_alike counts given len are beyond =
+      let calls = filter_map (call_in place) branches in
+      let heads = filter_map head_in branches in
+      lines_are_by_counts (said all keys counts calls heads) (profile_of program sampled)
+      (record {
+        keys = counts_alike program sampled all keys segments place function entered shown all_addresses address_inside (λ address far. sym (ap (λ f. f address) hits_are) ∙ beyond address far) counts calls heads given len
+            (subst (λ f. AreCountsOfPlaces segments f counts) hits_are are);
+        targets = targets_alike program all keys segments place function entered shown sampled.branches branch_rows rows.of_branches counts heads;
+        heads = heads_alike program all keys segments place function entered shown sampled.branches branch_rows rows.of_branches counts calls;
+      })
+
+  -- what is written is the profile and the report
+  pub output_alike : (bs : List (Classed Class)) → bs ≡ branches → (rs : List (Classed RangeClass)) → rs ≡ ranges
+      → IsNumbered all → IsNumbered keys → All (HasNames (length all)) keys
+      → (lines : List Line) (counts : List ℕ)
+      → map (told all) lines ≡ lines_of (said all keys counts (filter_map (call_in place) bs) (filter_map head_in bs))
+      → length counts ≡ length keys → AreCountsOfPlaces segments (hits_at (filter_map ran_in rs)) counts
+      → ((address : ℕ) → nat_lt address (2 ^ 64) ≡ false → hits_at (filter_map ran_in rs) address ≡ 0)
+      → (none before after : List ℕ) → none ≡ [] → before ≡ none ++ text_of_lines (map (told all) lines)
+      → (cs : List (Classed Class)) → cs ≡ branches → (ds : List (Classed RangeClass)) → ds ≡ ranges
+      → ((classes : Classes) (s : Sampled) → Tells classes s cs ds units → after ≡ before ++ report_text classes s)
+      → after ≡ output_text program sampled
+  unfolding output_text
+  output_alike bs bs_are rs rs_are names_apart keys_apart key_names lines counts lines_are len counts_are beyond none before after none_is before_is cs cs_are ds ds_are after_is =
+      let classes = classes_told place function entered in
+      let given : Given all keys (filter_map (call_in place) branches) (filter_map head_in branches) = record {
+        names_apart = names_apart;
+        keys_apart = keys_apart;
+        key_names = key_names;
+        calls_given = calls_given program all keys segments place function entered shown branch_rows;
+        heads_given = heads_given program all keys segments place function entered shown branch_rows;
+      } in
+      let tells : Tells classes sampled cs ds units = record {
+        branch_rows = branch_rows;
+        range_rows = range_rows;
+        branches_are = cs_are;
+        ranges_are = ds_are;
+        of_branches = rows.of_branches;
+        of_ranges = rows.of_ranges;
+        in_order = rows.in_order;
+        read = rows.read;
+        passed = rows.passed;
+      } in
+      let text : map (told all) lines ≡ lines_of (profile_of program sampled) =
+      lines_are ∙ ap (λ (xs : List (Classed Class)). lines_of (said all keys counts (filter_map (call_in place) xs) (filter_map head_in xs))) bs_are
+      ∙ lines_alike counts given len (subst (λ (xs : List (Classed RangeClass)). AreCountsOfPlaces segments (hits_at (filter_map ran_in xs)) counts) rs_are counts_are)
+      (λ address far. ap (λ (xs : List (Classed RangeClass)). hits_at (filter_map ran_in xs) address) (sym rs_are) ∙ beyond address far) in
+      after_is classes sampled tells
+      ∙ ap (λ (t : List ℕ). t ++ report_text classes sampled) (before_is ∙ ap (λ (t : List ℕ). t ++ text_of_lines (map (told all) lines)) none_is ∙ ap text_of_lines text)
+      ∙ ap (λ (t : List ℕ). text_of_lines (lines_of (profile_of program sampled)) ++ t) (report_alike program all keys segments place function entered shown sampled)

@@ -1,0 +1,56 @@
+-- How a map of places shows a program, and rows show what was sampled of it.
+use Rattle.std.specs.Prelude.{◌≡◌, ℕ, ◌<◌, List, length, slice_get, Option, None, Some, IsSome}
+use Rattle.std.specs.List.Sorted.{IsSorted}
+use Rattle.key_counts.specs.Laws.{factor_by, place_by}
+use Rattle.key_types.specs.declared.ids.KeyId.{KeyId}
+use Rattle.key_types.specs.declared.ids.NameId.{NameId}
+use Rattle.key_types.specs.declared.key.Key.{Key}
+use Rattle.key_types.specs.declared.places.Seg.{Seg}
+use Rattle.key_types.specs.declared.places.Where.{Where}
+use Rattle.key_types.specs.declared.places.Where.TheVariants.{Outside, Nameless, NoLine, At}
+use Rattle.sample_model.specs.declared.pair.Pair.{Pair}
+use Rattle.branch_stacks.specs.Pair.{pair_cmp}
+use Rattle.branch_stacks.specs.Table.{Tallies}
+use Rattle.binary_model.specs.Places.{Place, outside, nameless, no_line, at_way}
+use Rattle.profile_report.specs.declared.report.Units.{Units}
+use Rattle.profile_tree.specs.Said.{way_at}
+use Rattle.report_model.specs.Report.{Sampled}
+use Rattle.sampled_profile.specs.Program.{Program}
+
+-- The number of the key of an answer.
+abbrev pub key_of : Where → Option ℕ
+key_of Outside = None
+key_of Nameless = None
+key_of NoLine = None
+key_of (At key) = Some key.0
+
+-- An answer shows a place: the same lack of a key, or the number of a key with the way.
+abbrev pub ShowsPlace : List (List ℕ) → List Key → Place → Where → Type 0
+ShowsPlace names keys outside answer = answer ≡ Outside
+ShowsPlace names keys nameless answer = answer ≡ Nameless
+ShowsPlace names keys no_line answer = answer ≡ NoLine
+ShowsPlace names keys (at_way way) answer =
+    (id : KeyId) × (answer ≡ At id) × (id.0 < length keys) × (way_at names keys id.0 ≡ way)
+
+-- An answer shows a name: it is the name's number.
+abbrev pub ShowsName : List (List ℕ) → Option (List ℕ) → Option NameId → Type 0
+ShowsName names None answer = answer ≡ None
+ShowsName names (Some name) answer = (id : NameId) × (answer ≡ Some id) × (slice_get names id.0 ≡ Some name)
+
+-- A map's answers show a program's places, functions and entered names, and segments have its keys and factors.
+pub record ShowsProgram (program : Program) (names : List (List ℕ)) (keys : List Key) (segments : List Seg)
+    (place : ℕ → Where) (function : ℕ → Option ℕ) (entered : ℕ → Option NameId) : Type 0 where
+  pub places : (address : ℕ) → ShowsPlace names keys (program.place address) (place address)
+  pub functions : (address : ℕ) → function address ≡ program.function address
+  pub entrances : (address : ℕ) → ShowsName names (program.entered address) (entered address)
+  pub keys_told : (address : ℕ) → place_by segments address ≡ key_of (place address)
+  pub factors_told : (address : ℕ)
+      → IsSome (place_by segments address) → factor_by segments address ≡ program.factor address
+
+-- Rows and numbers of units show what was sampled: the branches' rows in order, the ranges' in any.
+pub record ShowsSampled (sampled : Sampled) (branches ranges : List Pair) (units : Units) : Type 0 where
+  pub of_branches : Tallies sampled.branches branches
+  pub of_ranges : Tallies sampled.ranges ranges
+  pub in_order : IsSorted pair_cmp branches
+  pub read : units.read ≡ sampled.units_read
+  pub passed : units.passed ≡ sampled.units_passed

@@ -1,0 +1,65 @@
+// The whole output.
+ghost use Rattle.std.specs.Prelude.{◌≡◌, ◌≤◌, All, IfOk, length};
+ghost use Rattle.branch_stacks.specs.Table.{total_in};
+ghost use Rattle.key_counts.specs.Segments.{AllFit, AreSegments};
+ghost use Rattle.profile_tree.specs.Known.{HasNames};
+ghost use Rattle.report_model.specs.Report.{Sampled};
+ghost use Rattle.sample_model.specs.Limits.{max_branches};
+ghost use Rattle.sampled_profile.specs.Output.{output_text};
+ghost use Rattle.sampled_profile.specs.Program.{Program};
+ghost use Rattle.profile_writer.specs.Shown.{ShowsProgram, ShowsSampled};
+
+use crate::tree::tree_of;
+use key_types::{Keys, Names, Places, Seg};
+use profile_report::{Units, class_branches, class_ranges};
+use refusal::NoMemory;
+use sample_model::Pair;
+use std::alloc::Global;
+
+/// What was sampled of a program, and how many units its debugging information has.
+#[derive(Clone, Copy, Debug)]
+pub struct Samples<'s> {
+    /// The distinct branches by source and then by target, each with how often it was taken.
+    pub branches: &'s [Pair],
+    /// The distinct sampled ranges, each with how often it stands.
+    pub ranges: &'s [Pair],
+    pub units: Units,
+}
+
+/// The profile of a program and its samples, then the report on them. `places` is the map of the
+/// program; the numbers in it are those of `keys` and `names`, and `segments` are the parts of the
+/// program whose addresses have a key.
+///
+/// # Errors
+/// `NoMemory`.
+pub fn write<P: Places>(
+    alloc: Global,
+    samples: &Samples<'_>,
+    places: &P,
+    segments: &[Seg],
+    keys: &Keys,
+    names: &Names,
+) -> Result<Vec<u8>, NoMemory>
+    requires segments { AreSegments 0 segments.now }
+    requires fit { AllFit (length keys.now) segments.now }
+    requires key_names { All (HasNames (length names.now)) keys.now }
+    requires few_branches { total_in samples.now.branches.now ≤ max_branches }
+    requires few_ranges { total_in samples.now.ranges.now ≤ max_branches }
+    requires shown { (program : Program) × ShowsProgram program names.now keys.now segments.now
+        (P.place_of places.now) (P.function_of places.now) (P.entry_name_of places.now) }
+    ensures { IfOk result (λ out. (program : Program) (sampled : Sampled)
+        → ShowsProgram program names.now keys.now segments.now
+        (P.place_of places.now) (P.function_of places.now) (P.entry_name_of places.now)
+        → ShowsSampled sampled samples.now.branches.now samples.now.ranges.now samples.now.units
+        → out.items ≡ output_text program sampled) }
+{
+    keys.each_once();
+    names.each_once();
+    let branches = class_branches(alloc, samples.branches, places)?;
+    let ranges = class_ranges(alloc, samples.ranges, places)?;
+    let tree = tree_of(alloc, &branches, &ranges, places, segments, keys, names)?;
+    let mut out = Vec::new(alloc);
+    profile_text::write(&tree, names, &mut out)?;
+    profile_report::write(&mut out, &branches, &ranges, samples.units)?;
+    Ok(out)
+}

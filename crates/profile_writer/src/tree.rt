@@ -1,0 +1,61 @@
+// The lines of a profile, from classed branches and ranges.
+ghost use Rattle.std.specs.Prelude.{◌≡◌, ◌<◌, ◌≤◌, ◌^◌, ℕ, All, IfOk, OnOk, false, length, map, nat_lt};
+ghost use Rattle.std.specs.List.{filter_map};
+ghost use Rattle.hit_model.specs.Hits.{AreRanges, hits_at};
+ghost use Rattle.key_counts.specs.Segments.{AllFit, AreSegments};
+ghost use Rattle.key_types.specs.Numbers.{IsNumbered};
+ghost use Rattle.profile_model.specs.Profile.{lines_of};
+ghost use Rattle.profile_report.specs.Classed.{all_times};
+ghost use Rattle.profile_tree.specs.Known.{HasNames, IsGiven};
+ghost use Rattle.profile_tree.specs.Said.{AreCountsOfPlaces, said};
+ghost use Rattle.profile_tree.specs.Told.{IsOf, told};
+ghost use Rattle.sample_model.specs.Limits.{max_branches};
+ghost use Rattle.profile_writer.specs.Items.{call_in, head_in, ran_in};
+
+use crate::counted::{calls_of, heads_of, ran_of};
+use branch_class::{Class, RangeClass};
+use key_types::{Keys, Names, Places, Seg};
+use profile_report::Classed;
+use profile_tree::{Tree, build};
+use range_counts::sweep;
+use refusal::NoMemory;
+use std::alloc::Global;
+
+/// The profile of these branches and ranges.
+pub(crate) fn tree_of<P: Places>(
+    alloc: Global,
+    branches: &[Classed<Class>],
+    ranges: &[Classed<RangeClass>],
+    places: &P,
+    segments: &[Seg],
+    keys: &Keys,
+    names: &Names,
+) -> Result<Tree, NoMemory>
+    requires segments { AreSegments 0 segments.now }
+    requires fit { AllFit (length keys.now) segments.now }
+    requires keys { IsNumbered keys.now }
+    requires names { IsNumbered names.now }
+    requires key_names { All (HasNames (length names.now)) keys.now }
+    requires calls { All (IsGiven (length keys.now) (length names.now))
+        (filter_map (call_in (P.place_of places.now)) branches.now) }
+    requires heads { All (λ head. head.name.0 < length names.now)
+        (filter_map head_in branches.now) }
+    requires forward { AreRanges (filter_map ran_in ranges.now) }
+    requires few_branches { all_times branches.now ≤ max_branches }
+    requires few_ranges { all_times ranges.now ≤ max_branches }
+    ensures lines { IfOk result (λ tree. map (told names.now) tree.lines
+        ≡ lines_of (said names.now keys.now tree.counts
+        (filter_map (call_in (P.place_of places.now)) branches.now)
+        (filter_map head_in branches.now))) }
+    ensures names { IfOk result (λ tree. All (IsOf names.now) tree.lines) }
+    ensures counts { IfOk result (λ tree. AreCountsOfPlaces segments.now
+        (hits_at (filter_map ran_in ranges.now)) tree.counts) }
+    ensures len { IfOk result (λ tree. length tree.counts ≡ length keys.now) }
+    ensures beyond { OnOk result ((address : ℕ) → nat_lt address (2 ^ 64) ≡ false
+        → hits_at (filter_map ran_in ranges.now) address ≡ 0) }
+{
+    let hits = sweep(alloc, &ran_of(alloc, ranges)?)?;
+    let calls = calls_of(alloc, branches, places)?;
+    let heads = heads_of(alloc, branches)?;
+    build(alloc, segments, &hits, &calls, &heads, keys, names)
+}

@@ -50,7 +50,7 @@ settled_mark : (at : Option Mark) → is_settled at ≡ true → (mark : Mark) �
 settled_mark None settled = absurd (cc)
 settled_mark (Some mark) settled = (mark, refl)
 
-nearer_is_settled : (prices : List ℤ) (marks : List (Option Mark)) (frontier : List (ℕ × ℕ)) (side distance other : ℕ) → length prices < 2 ^ 18
+pub nearer_is_settled : (prices : List ℤ) (marks : List (Option Mark)) (frontier : List (ℕ × ℕ)) (side distance other : ℕ) → length prices < 2 ^ 18
     → length marks ≡ length prices → AreNear marks → IsNext marks frontier side distance
     → distance_at marks other < distance_at marks side → is_settled (mark_at marks other) ≡ true
 nearer_is_settled prices marks frontier side distance other few each near next nearer =
@@ -98,7 +98,7 @@ reached net counts prices excess source marks old frontier rank side distance gr
 
 -- ---- a set that no step leaves
 
-more_is_small : (arc : Arc) (n : ℕ) → IsCheap arc → IsSmallCost (cost_of_more arc n)
+pub more_is_small : (arc : Arc) (n : ℕ) → IsCheap arc → IsSmallCost (cost_of_more arc n)
 more_is_small arc n cheap =
     elim (cases_lt n arc.weight) [
       | inl before ↦
@@ -109,7 +109,7 @@ more_is_small arc n cheap =
           record { least = omega (arith, ints, cost, cheap.cheap_up); most = omega (arith, ints, cost, cheap.cheap_up) }
     ]
 
-less_is_small : (arc : Arc) (n : ℕ) → 0 < n → IsCheap arc → IsSmallCost (cost_of_less arc n)
+pub less_is_small : (arc : Arc) (n : ℕ) → 0 < n → IsCheap arc → IsSmallCost (cost_of_less arc n)
 less_is_small arc n some cheap =
     elim (cases_lt arc.weight n) [
       | inl past ↦

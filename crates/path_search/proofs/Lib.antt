@@ -4,3 +4,5 @@ pub mod AroundLemmas
 pub mod NextLemmas
 pub mod WalkLemmas
 pub mod EndLemmas
+pub mod WayLemmas
+pub mod OrderLemmas

@@ -41,7 +41,7 @@ pub few_settled : (marks : List (Option Mark)) → settled_count marks ≤ lengt
 few_settled marks = let bound = sum_by-le settled_one 1 marks (λ k d within. one_at_most _) in omega (arith, bound)
 
 -- a side to which a nearer mark can be offered is not settled
-not_settled : (marks : List (Option Mark)) (frontier : List (ℕ × ℕ)) (limit side distance : ℕ) → IsSearching marks frontier limit
+pub not_settled : (marks : List (Option Mark)) (frontier : List (ℕ × ℕ)) (limit side distance : ℕ) → IsSearching marks frontier limit
     → limit ≤ distance → (distance < distance_at marks side ⊎ (mark_at marks side ≡ None)) → is_settled (mark_at marks side) ≡ false
 not_settled marks frontier limit side distance searching ahead new = by_mark (mark_at marks side) (searching.behind side) new
   where

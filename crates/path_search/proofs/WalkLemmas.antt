@@ -35,17 +35,17 @@ no_mark n side =
       | inr past ↦ get_or_past (replicate n None) side None (let long = length-replicate {A = Option Mark} n None in omega (arith, long, past))
     ]
 
-abbrev first : Mark
+abbrev pub first : Mark
 first = record { distance = 0; arc = 0; way = Along; rank = None }
 
 -- the marks of a source alone
-record IsBegun (source : ℕ) (marks : List (Option Mark)) : Type 0 where
+pub record IsBegun (source : ℕ) (marks : List (Option Mark)) : Type 0 where
   pub here : mark_at marks source ≡ Some first
   pub others : (side : ℕ) → side ≢ source → mark_at marks side ≡ None
   pub none_settled : (side : ℕ) → is_settled (mark_at marks side) ≡ false
   pub count : settled_count marks ≡ 0
 
-begun : (n source : ℕ) → source < n → IsBegun source (slice_set (replicate n None) source (Some first))
+pub begun : (n source : ℕ) → source < n → IsBegun source (slice_set (replicate n None) source (Some first))
 begun n source within =
     let blank : List (Option Mark) = replicate n None in
     let set = set_is source first blank (let long = length-replicate {A = Option Mark} n None in omega (arith, long, within)) in
@@ -65,7 +65,7 @@ begun n source within =
           omega (arith, zeros, was, set.count);
     }
 
-never : (b : Bool) → b ≡ false → b ≡ true → ⊥
+pub never : (b : Bool) → b ≡ false → b ≡ true → ⊥
 never b unset set = let clash : true ≡ false = sym set ∙ unset in absurd (cc)
 
 pub walk_begins : (net : Network) (counts : List ℕ) (prices excess : List ℤ) (source n : ℕ) (marks : List (Option Mark)) (frontier : List (ℕ × ℕ))
@@ -126,7 +126,7 @@ pub open_mark : (at : Option Mark) → is_open at ≡ true → (mark : Mark) × 
 open_mark None waits = absurd (cc)
 open_mark (Some mark) waits = (mark, refl)
 
-not_both : (at : Option Mark) → is_open at ≡ true → is_settled at ≡ false
+pub not_both : (at : Option Mark) → is_open at ≡ true → is_settled at ≡ false
 not_both None waits = refl
 not_both (Some mark) waits = by_rank mark.rank waits
   where

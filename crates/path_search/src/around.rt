@@ -2,6 +2,7 @@
 ghost use Rattle.std.specs.Prelude.{◌*◌, ◌≤◌, length, OnOk};
 ghost use Rattle.path_search.specs.Ground.{IsGround};
 ghost use Rattle.path_search.specs.Search.{ComeNearer, IsLooking, LedBack, LedOut};
+ghost use Rattle.path_search.specs.Ways.{KeepWays};
 
 use crate::look::{look_against, look_along};
 use flow_network::Net;
@@ -25,6 +26,8 @@ pub(crate) fn look_around(
     ensures nearer { OnOk result (ComeNearer marks.old marks.new) }
     ensures out { OnOk result (LedOut net.now counts.now prices.now marks.new distance side) }
     ensures back { OnOk result (LedBack net.now counts.now prices.now marks.new distance side) }
+    ensures ways { OnOk result
+        (KeepWays net.now counts.now prices.now side distance marks.old marks.new) }
 {
     look_out(marks, frontier, net, counts, prices, side, distance)?;
     look_back(marks, frontier, net, counts, prices, side, distance)?;
@@ -47,6 +50,8 @@ fn look_out(
     ensures looking { OnOk result (IsLooking prices.now marks.new frontier.new distance) }
     ensures nearer { OnOk result (ComeNearer marks.old marks.new) }
     ensures out { OnOk result (LedOut net.now counts.now prices.now marks.new distance side) }
+    ensures ways { OnOk result
+        (KeepWays net.now counts.now prices.now side distance marks.old marks.new) }
 {
     let arcs = net.arcs();
     let row = net.leaving(side);
@@ -75,6 +80,8 @@ fn look_back(
     ensures looking { OnOk result (IsLooking prices.now marks.new frontier.new distance) }
     ensures nearer { OnOk result (ComeNearer marks.old marks.new) }
     ensures back { OnOk result (LedBack net.now counts.now prices.now marks.new distance side) }
+    ensures ways { OnOk result
+        (KeepWays net.now counts.now prices.now side distance marks.old marks.new) }
 {
     let arcs = net.arcs();
     let row = net.entering(side);

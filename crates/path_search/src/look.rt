@@ -4,6 +4,7 @@ ghost use Rattle.flow_model.specs.Prices.{FitsOn};
 ghost use Rattle.flow_network.specs.Cost.{IsCheap};
 ghost use Rattle.path_search.specs.Ground.{price_at};
 ghost use Rattle.path_search.specs.Search.{ComeNearer, IsLooking, LedAgainst, LedAlong};
+ghost use Rattle.path_search.specs.Ways.{MarksAtMost};
 
 use crate::offer::offer;
 use crate::steps::{cost_of_less, cost_of_more, is_below, reduced};
@@ -29,6 +30,8 @@ pub(crate) fn look_along(
     ensures looking { OnOk result (IsLooking prices.now marks.new frontier.new distance) }
     ensures nearer { OnOk result (ComeNearer marks.old marks.new) }
     ensures led { OnOk result (LedAlong prices.now marks.new distance arc.now count) }
+    ensures marked { OnOk result
+        (MarksAtMost Way.Along prices.now place distance arc.now count marks.old marks.new) }
 {
     if !is_below(arc.upper, count) {
         return Ok(());
@@ -63,6 +66,8 @@ pub(crate) fn look_against(
     ensures looking { OnOk result (IsLooking prices.now marks.new frontier.new distance) }
     ensures nearer { OnOk result (ComeNearer marks.old marks.new) }
     ensures led { OnOk result (LedAgainst prices.now marks.new distance arc.now count) }
+    ensures marked { OnOk result
+        (MarksAtMost Way.Against prices.now place distance arc.now count marks.old marks.new) }
 {
     if count <= arc.lower {
         return Ok(());

@@ -1,9 +1,10 @@
 // The search from one side.
-ghost use Rattle.std.specs.Prelude.{◌≡◌, ◌*◌, ◌≤◌, ◌<ℤ◌, pos, length, IfOk, MatchOption};
+ghost use Rattle.std.specs.Prelude.{◌≡◌, ◌*◌, ◌≤◌, ◌<ℤ◌, pos, length, IfOk, IfSome, MatchOption, OnOk};
 ghost use Rattle.flow_model.specs.Network.{arcs_of};
 ghost use Rattle.residual_model.specs.Laws.{HoldBelow, IsClosed};
 ghost use Rattle.path_search.specs.Ground.{IsGround, price_at};
 ghost use Rattle.path_search.specs.Search.{HasClosed, HasReached, distance_at};
+ghost use Rattle.path_search.specs.Ways.{AreInOrder, HasWays};
 
 use crate::around::look_around;
 use crate::next::next_open;
@@ -15,7 +16,8 @@ use refusal::NoMemory;
 /// The nearest side that lacks something, from a source, over the steps that counts leave; `None`
 /// exactly where no such side can be reached.
 ///
-/// Afterwards the marks tell the distances of the sides that the search has reached.
+/// Afterwards the marks tell the distances of the sides that the search has reached, and ways back
+/// from them to the source; the settled ones are listed in their order.
 pub fn search(
     net: &Net,
     counts: &[u64],
@@ -24,23 +26,27 @@ pub fn search(
     source: u32,
     marks: &mut Marks,
     frontier: &mut Frontier,
+    order: &mut Vec<u32>,
 ) -> Result<Option<u32>, NoMemory>
     requires ground { IsGround net.now counts.now prices.now }
     requires told { length excess.now ≡ length prices.now }
     requires marked { length marks.old ≡ length prices.now }
     requires source { source ≤ 2 * length net.now.blocks }
-    ensures { IfOk result (λ found. MatchOption found
+    ensures found { IfOk result (λ found. MatchOption found
         (HasClosed net.now counts.now prices.now excess.now source marks.new)
         (λ side. HasReached net.now counts.now prices.now excess.now source marks.new side)) }
+    ensures ways { IfOk result (λ found. IfSome found (λ side.
+        HasWays net.now counts.now prices.now source marks.new side)) }
+    ensures order { OnOk result (AreInOrder marks.new order.new.items) }
 {
     begin(marks, frontier, source)?;
-    let mut rank: u32 = 0;
+    order.clear();
     while let Some((side, distance)) = next_open(marks, frontier) {
         if excess[side as usize] < 0 {
             return Ok(Some(side));
         }
-        settle(marks, side, rank);
-        rank += 1;
+        settle(marks, side, order.len() as u32);
+        order.push(side)?;
         look_around(marks, frontier, net, counts, prices, side, distance)?;
     }
     Ok(None)

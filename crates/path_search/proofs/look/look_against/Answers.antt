@@ -1,6 +1,7 @@
 use Rattle.std.proofs.Common.{arith, refl}
 use Rattle.std.proofs.lemmas.Int.{ints}
 use Rattle.path_search.proofs.SearchLemmas.{few_settled, looked}
+use Rattle.path_search.proofs.WayLemmas.{taken_by}
 use Rattle.path_search.proofs.look.look_against.Goals as goal
 
 pub overflow_add-distance : goal.overflow_add-distance
@@ -21,3 +22,9 @@ pub reduced-more-requires-clause-fits : goal.reduced-more-requires-clause-fits
 reduced-more-requires-clause-fits c =
     let order = c.requires.fits.less c.if-count-arc.false in
     omega (arith, ints, order, c.cost_of_less.ensures.value, c.cost_of_less.ensures.small.least, c.cost_of_less.ensures.small.most)
+
+pub returns-clause-marked : goal.returns-clause-marked
+returns-clause-marked c =
+    let value = c.reduced-more.ensures.value in
+    let cost = c.cost_of_less.ensures.value in
+    taken_by _ _ _ _ _ _ _ _ _ _ _ c.requires.looking c.if-count-arc.false refl refl refl (omega arith) (omega (arith, ints, value, cost)) c.in_ok-offer.ensures

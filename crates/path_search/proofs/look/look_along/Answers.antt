@@ -1,5 +1,7 @@
-use Rattle.std.proofs.Common.{arith, refl}
+use Rattle.std.proofs.Common.{arith, refl, rules}
+use Rattle.std.proofs.lemmas.Int.{ints}
 use Rattle.path_search.proofs.SearchLemmas.{few_settled, looked}
+use Rattle.path_search.proofs.WayLemmas.{taken_by}
 use Rattle.path_search.proofs.look.look_along.Goals as goal
 
 pub overflow_add-distance : goal.overflow_add-distance
@@ -15,3 +17,9 @@ returns-clause-looking c =
 pub returns-clause-nearer : goal.returns-clause-nearer
 returns-clause-nearer c =
     (looked _ _ _ _ _ _ _ _ c.requires.looking c.requires.leads refl (omega arith) (omega (arith, c.reduced-more.ensures.small)) c.in_ok-offer.ensures).1
+
+pub returns-clause-marked : goal.returns-clause-marked
+returns-clause-marked c =
+    let value = c.reduced-more.ensures.value in
+    let cost = c.cost_of_more.ensures.value in
+    taken_by _ _ _ _ _ _ _ _ _ _ _ c.requires.looking (search rules) refl refl refl (omega arith) (omega (arith, ints, value, cost)) c.in_ok-offer.ensures

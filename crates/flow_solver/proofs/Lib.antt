@@ -1,0 +1,5 @@
+pub mod ExcessLemmas
+pub mod StartLemmas
+pub mod StateLemmas
+pub mod AnswerLemmas
+pub mod PriceLemmas

@@ -1,0 +1,280 @@
+-- What an augmentation leaves true.
+use Rattle.std.proofs.Common.{◌≡◌, ℕ, ◌+◌, ◌^◌, ◌<◌, ◌≤◌, List, length, replicate, Option, inl, inr, refl, arith, ap, sym, ◌∙◌, subst}
+use Rattle.std.specs.Prelude.{ℤ, pos, ◌-ℤ◌, ◌≤ℤ◌, ◌<ℤ◌}
+use Rattle.std.specs.List.{All}
+use Rattle.std.proofs.lemmas.Bool.{cases_lt}
+use Rattle.std.proofs.lemmas.Int.{ints}
+use Rattle.std.proofs.lemmas.List.{get_or-replicate, get_or_past, get_or_default, length-replicate}
+use Rattle.std.proofs.lemmas.List.Elements.{All-replicate}
+use Rattle.flow_model.specs.declared.arc.Arc.{Arc}
+use Rattle.flow_model.specs.Circulation.{IsWithin}
+use Rattle.flow_model.specs.Network.{Network, arcs_of, free_arc}
+use Rattle.flow_model.specs.Prices.{FitsOn, Fit}
+use Rattle.balance_model.proofs.ArcLemmas.{each_from}
+use Rattle.balance_model.proofs.LimitLemmas.{nets_are_limited}
+use Rattle.residual_model.specs.Residual.{moved}
+use Rattle.residual_model.proofs.PushLemmas.{starting_counts_fit}
+use Rattle.residual_model.proofs.StepLemmas.{moved_prices_fit}
+use Rattle.reached_sides.specs.declared.mark.Mark.{Mark}
+use Rattle.path_search.specs.Ground.{IsSmallPrice, AreSmall, arc_at, count_at, price_at, sides_of}
+use Rattle.path_search.specs.Search.{distance_of, distance_at, settled_count, HasReached}
+use Rattle.path_search.specs.Ways.{HasWays}
+use Rattle.path_search.proofs.EndLemmas.{few_sides}
+use Rattle.path_search.proofs.RowLemmas.{each_by_place}
+use Rattle.path_search.proofs.SearchLemmas.{few_settled}
+use Rattle.augmenting_path.specs.declared.step.Step.{Step}
+use Rattle.augmenting_path.specs.Path.{IsPath, pushed}
+use Rattle.augmenting_path.proofs.PathLemmas.{HasRoom, pushed-length, pushed_fit, pushed_excess, pushed_raised}
+use Rattle.augmenting_path.proofs.TraceLemmas.{marked}
+use Rattle.flow_solver.specs.Excess.{transferred}
+use Rattle.flow_solver.specs.State.{IsStart, IsState, IsAugmented, IsDone, HasMoved}
+use Rattle.flow_solver.proofs.ExcessLemmas.{IsFair, transferred_at, transferred-length, fair_sums, fair_kept, fair_lacks, none_lacks}
+use Rattle.flow_solver.proofs.StartLemmas.{starting_small}
+
+-- ---- prices
+
+-- prices that differ by the same amount everywhere fit alike
+pub fits_shifted : (price other : ℕ → ℤ) (shift : ℤ) (arc : Arc) (n : ℕ) → other arc.tail ≡ price arc.tail -ℤ shift → other arc.head ≡ price arc.head -ℤ shift
+    → FitsOn price arc n → FitsOn other arc n
+fits_shifted price other shift arc n tail head fits = record {
+  more = λ below. let fit = fits.more below in omega (arith, ints, fit, tail, head);
+  less = λ above. let fit = fits.less above in omega (arith, ints, fit, tail, head);
+}
+
+not_shifted : (z other : ℤ) → other ≡ z → other ≡ z -ℤ pos 0
+not_shifted z other same = omega (arith, ints, same)
+
+fit_same : (price other : ℕ → ℤ) (arcs : List Arc) (counts : List ℕ) → ((node : ℕ) → other node ≡ price node) → Fit price arcs counts → Fit other arcs counts
+fit_same price other arcs counts same fit =
+    each_from (FitsOn price) (FitsOn other)
+    (λ arc n fits. fits_shifted price other (pos 0) arc n (not_shifted _ _ (same arc.tail)) (not_shifted _ _ (same arc.head)) fits) arcs counts fit
+
+small_at : (prices : List ℤ) → AreSmall prices → (side : ℕ) → IsSmallPrice (price_at prices side)
+small_at prices small side =
+    elim (cases_lt side (length prices)) [
+      | inl within ↦ small side (pos 0) within
+      | inr past ↦
+          let zero = get_or_past prices side (pos 0) past in
+          record { least = omega (arith, ints, zero); most = omega (arith, ints, zero) }
+    ]
+
+-- ---- the start
+
+pub started : (net : Network) (counts : List ℕ) (prices excess : List ℤ) → IsStart net counts excess
+    → prices ≡ replicate (sides_of net) (pos 0) → IsState net counts prices excess
+started net counts prices excess start zeros =
+    let is = start.of_a_function in
+    let arcs = arcs_of net in
+    let limits = (nets_are_limited net is).arcs in
+    let none : (side : ℕ) → price_at prices side ≡ pos 0 = λ side.
+    ap (λ (list : List ℤ). price_at list side) zeros ∙ zero_at (sides_of net) side in
+    let flat : ℕ → ℤ = λ node. pos 0 in
+    let each : (place : ℕ) → place < length arcs → IsWithin (arc_at arcs place) (count_at counts place) × FitsOn flat (arc_at arcs place) (count_at counts place) =
+    λ place inside.
+    let limited = limits place (free_arc 0 0 0) inside in
+    subst (λ (n : ℕ). IsWithin (arc_at arcs place) n × FitsOn flat (arc_at arcs place) n) (sym (start.starts place inside))
+    (starting_counts_fit (arc_at arcs place) limited.ordered) in
+    record {
+      ground = record {
+        of_a_function = is;
+        counted = start.counted;
+        priced = ap length zeros ∙ length-replicate (sides_of net) (pos 0);
+        small = subst (λ (list : List ℤ). AreSmall list) (sym zeros)
+            (All-replicate IsSmallPrice (sides_of net) (pos 0) (record { least = omega (arith, ints); most = omega (arith, ints) }));
+        fit = fit_same flat (price_at prices) arcs counts none (each_by_place (FitsOn flat) arcs counts start.counted (λ place inside. (each place inside).1));
+      };
+      within = each_by_place IsWithin arcs counts start.counted (λ place inside. (each place inside).0);
+      told = start.told ∙ sym (ap length zeros ∙ length-replicate (sides_of net) (pos 0));
+      are_excess = start.are_excess;
+      even = start.even;
+      bounded = λ place.
+          let few = start.few in
+          elim (cases_lt place (length arcs)) [
+            | inl inside ↦
+                let small = starting_small (length net.blocks) (arc_at arcs place) (limits place (free_arc 0 0 0) inside) in
+                let is_so = start.starts place inside in
+                omega (arith, small, is_so, few)
+            | inr past ↦
+                let long = start.counted in
+                let zero = get_or_past counts place 0 (omega (arith, past, long)) in
+                omega (arith, zero, few)
+          ];
+      free = λ side lacks. none side;
+    }
+  where
+    zero_at : (n side : ℕ) → price_at (replicate n (pos 0)) side ≡ pos 0
+    zero_at n side =
+        elim (cases_lt side n) [
+          | inl within ↦ get_or-replicate n side (pos 0) (pos 0) within
+          | inr past ↦ get_or_past (replicate n (pos 0)) side (pos 0) (let long = length-replicate n (pos 0) in omega (arith, long, past))
+        ]
+
+-- ---- moved prices
+
+-- what is known when a search has come to a side
+pub record IsFound (net : Network) (counts : List ℕ) (prices excess : List ℤ) (source side : ℕ) (marks : List (Option Mark)) : Type 0 where
+  pub state : IsState net counts prices excess
+  pub reached : HasReached net counts prices excess source marks side
+  pub ways : HasWays net counts prices source marks side
+
+few_marks : (net : Network) (counts : List ℕ) (prices excess : List ℤ) (source side : ℕ) (marks : List (Option Mark))
+    → IsFound net counts prices excess source side marks → settled_count marks < 2 ^ 18
+few_marks net counts prices excess source side marks found =
+    let few = few_sides net found.state.ground.of_a_function in
+    let priced = found.state.ground.priced in
+    let each = found.reached.settled.each in
+    let count = few_settled marks in
+    omega (arith, few, priced, each, count)
+
+pub limit_near : (net : Network) (counts : List ℕ) (prices excess : List ℤ) (source side : ℕ) (marks : List (Option Mark))
+    → IsFound net counts prices excess source side marks → distance_at marks side < 2 ^ 62
+limit_near net counts prices excess source side marks found =
+    let few = few_marks net counts prices excess source side marks found in
+    let mark = marked marks side side found.ways.waits (inl refl) in
+    let cost = found.ways.ways.cheap side mark.0 mark.1 in
+    let d = ap distance_of mark.1 in
+    let here = small_at prices found.state.ground.small side in
+    let there = small_at prices found.state.ground.small source in
+    omega (arith, ints, few, cost.above, d, here.least, there.most)
+
+-- a side that lacks something is no nearer than the one that was found
+lacking_far : (net : Network) (counts : List ℕ) (prices excess : List ℤ) (source side : ℕ) (marks : List (Option Mark))
+    → IsFound net counts prices excess source side marks → (other : ℕ) → price_at excess other <ℤ pos 0 → distance_at marks side ≤ distance_at marks other
+lacking_far net counts prices excess source side marks found other lacks =
+    elim (cases_lt (distance_at marks other) (distance_at marks side)) [
+      | inl near ↦
+          let enough = found.reached.settled.none_lacks other (found.ways.nearest other near) in
+          absurd (omega (arith, ints, enough, lacks))
+      | inr beyond ↦ beyond
+    ]
+
+-- a moved price is the difference of what two ways cost
+moved_small : (net : Network) (counts : List ℕ) (prices excess : List ℤ) (source side : ℕ) (marks : List (Option Mark))
+    → IsFound net counts prices excess source side marks → (other : ℕ)
+    → IsSmallPrice (moved (price_at prices) (distance_at marks) (distance_at marks side) other)
+moved_small net counts prices excess source side marks found other =
+    elim (cases_lt (distance_at marks other) (distance_at marks side)) [
+      | inl near ↦
+          let few = few_marks net counts prices excess source side marks found in
+          let end = marked marks side side found.ways.waits (inl refl) in
+          let end_cost = found.ways.ways.cheap side end.0 end.1 in
+          let end_d = ap distance_of end.1 in
+          let mark = marked marks side other found.ways.waits (inr (found.ways.nearest other near)) in
+          let cost = found.ways.ways.cheap other mark.0 mark.1 in
+          let d = ap distance_of mark.1 in
+          let zero = found.state.free side found.reached.lacks in
+          record {
+            least = omega (arith, ints, few, end_cost.above, end_cost.below, end_d, cost.above, cost.below, d, zero, near);
+            most = omega (arith, ints, few, end_cost.above, end_cost.below, end_d, cost.above, cost.below, d, zero, near);
+          }
+      | inr beyond ↦
+          let small = small_at prices found.state.ground.small other in
+          record { least = omega (arith, ints, small.least, beyond); most = omega (arith, ints, small.most, beyond) }
+    ]
+
+-- the prices that were moved
+pub record AreMoved (prices : List ℤ) (marks : List (Option Mark)) (side : ℕ) (new : List ℤ) : Type 0 where
+  pub each : length new ≡ length prices
+  pub moved_all : (other : ℕ) → price_at new other ≡ moved (price_at prices) (distance_at marks) (distance_at marks side) other
+
+small_moved : (net : Network) (counts : List ℕ) (prices excess : List ℤ) (source side : ℕ) (marks : List (Option Mark)) (new : List ℤ)
+    → IsFound net counts prices excess source side marks → AreMoved prices marks side new → AreSmall new
+small_moved net counts prices excess source side marks new found are k d within =
+    let small = moved_small net counts prices excess source side marks found k in
+    subst (λ (z : ℤ). IsSmallPrice z) (sym (get_or_default new k d (pos 0) within ∙ are.moved_all k)) small
+
+-- ---- moved counts
+
+pub augmented : (net : Network) (counts : List ℕ) (prices excess : List ℤ) (source side : ℕ) (marks : List (Option Mark)) (steps : List Step)
+    (new_counts : List ℕ) (new_prices new_excess : List ℤ) → IsFound net counts prices excess source side marks → source < length excess
+    → AreMoved prices marks side new_prices
+    → IsPath (arcs_of net) counts (moved (price_at prices) (distance_at marks) (distance_at marks side)) source side steps
+    → HasMoved (arcs_of net) counts excess source side steps new_counts new_excess
+    → IsAugmented net excess new_counts new_prices new_excess
+augmented net counts prices excess source side marks steps new_counts new_prices new_excess found source_inside are path has =
+    let arcs = arcs_of net in
+    let state = found.state in
+    let amount = has.amount in
+    let price = moved (price_at prices) (distance_at marks) (distance_at marks side) in
+    let side_inside : side < length excess = let inside = found.reached.inside in let told = state.told in omega (arith, inside, told) in
+    let fair : IsFair excess source side amount =
+    record { starts = source_inside; leads = side_inside; some = has.some; has = has.has; lacks = has.lacks } in
+    let rooms : All (HasRoom arcs counts amount) steps = λ k d within.
+    let open_step = path.leave k d within in record { inside = open_step.inside; takes = has.takes k d within } in
+    let fit_moved = moved_prices_fit (price_at prices) (distance_at marks) (distance_at marks side) arcs counts state.ground.fit found.reached.hold in
+    let after = pushed_fit arcs counts price amount steps has.some state.within fit_moved path.apart rooms path.tight in
+    let sums = fair_sums excess source side amount fair in
+    let told = transferred-length excess source side amount in
+    let now : IsAugmented net excess (pushed amount steps counts) new_prices (transferred excess source side amount) = record {
+      state = record {
+        ground = record {
+          of_a_function = state.ground.of_a_function;
+          counted = pushed-length amount steps counts ∙ state.ground.counted;
+          priced = are.each ∙ state.ground.priced;
+          small = small_moved net counts prices excess source side marks new_prices found are;
+          fit = fit_same price (price_at new_prices) arcs (pushed amount steps counts) are.moved_all after.1;
+        };
+        within = after.0;
+        told = told ∙ state.told ∙ sym are.each;
+        are_excess = λ node.
+            let list = transferred_at excess source side amount node source_inside side_inside in
+            let model = pushed_excess arcs counts amount source side steps node state.ground.counted path.leads path.apart rooms in
+            let before = state.are_excess node in
+            omega (arith, ints, list, model, before);
+        even = let even = state.even in let a = sums.0 in let b = sums.1 in omega (arith, even, a, b);
+        bounded = λ place.
+            let raised = pushed_raised arcs counts amount steps place state.ground.counted path.apart path.leave in
+            let before = state.bounded place in
+            let a = sums.0 in
+            omega (arith, raised, before, a);
+        free = λ other lacks.
+            let lacked = fair_lacks excess source side amount fair other lacks in
+            let zero = state.free other lacked in
+            let beyond = lacking_far net counts prices excess source side marks found other lacked in
+            let is = are.moved_all other in
+            omega (arith, ints, zero, beyond, is);
+      };
+      each = told;
+      less = let a = sums.0 in let some = has.some in omega (arith, a, some);
+      kept = fair_kept excess source side amount fair;
+    } in
+    subst (λ (list : List ℕ). IsAugmented net excess list new_prices new_excess) (sym has.counts_are)
+    (subst (λ (list : List ℤ). IsAugmented net excess (pushed amount steps counts) new_prices list) (sym has.excess_is) now)
+
+-- ---- the rounds
+
+-- the sides before this one have no excess
+pub record IsBalancing (net : Network) (counts : List ℕ) (prices excess : List ℤ) (marks : List (Option Mark)) (source : ℕ) : Type 0 where
+  pub state : IsState net counts prices excess
+  pub marked_each : length marks ≡ length prices
+  pub passed : (side : ℕ) → side < source → price_at excess side ≤ℤ pos 0
+
+pub round_more : (net : Network) (counts new_counts : List ℕ) (prices excess new_prices new_excess : List ℤ) (marks new_marks : List (Option Mark)) (source : ℕ)
+    → IsBalancing net counts prices excess marks source → IsAugmented net excess new_counts new_prices new_excess → length new_marks ≡ length new_prices
+    → IsBalancing net new_counts new_prices new_excess new_marks source
+round_more net counts new_counts prices excess new_prices new_excess marks new_marks source so_far now same = record {
+  state = now.state;
+  marked_each = same;
+  passed = λ side before. now.kept side (so_far.passed side before);
+}
+
+pub side_passed : (net : Network) (counts : List ℕ) (prices excess : List ℤ) (marks : List (Option Mark)) (source : ℕ)
+    → IsBalancing net counts prices excess marks source → price_at excess source ≤ℤ pos 0 → IsBalancing net counts prices excess marks (source + 1)
+side_passed net counts prices excess marks source so_far least = record {
+  state = so_far.state;
+  marked_each = so_far.marked_each;
+  passed = λ side before.
+      elim (cases_lt side source) [
+        | inl earlier ↦ so_far.passed side earlier
+        | inr last ↦
+            let e : source ≡ side = omega (arith, before, last) in
+            subst (λ (s : ℕ). price_at excess s ≤ℤ pos 0) e least
+      ];
+}
+
+pub all_passed : (net : Network) (counts : List ℕ) (prices excess : List ℤ) (marks : List (Option Mark)) (source : ℕ)
+    → IsBalancing net counts prices excess marks source → length excess ≤ source → IsDone net counts prices excess
+all_passed net counts prices excess marks source so_far past = record {
+  state = so_far.state;
+  balanced = none_lacks excess so_far.state.even (λ side within. so_far.passed side (omega (arith, within, past)));
+}

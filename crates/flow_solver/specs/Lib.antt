@@ -1,0 +1,4 @@
+pub mod Answer
+pub mod Excess
+pub mod Solved
+pub mod State

@@ -1,0 +1,67 @@
+-- What holds of counts, prices and excess between two augmentations.
+use Rattle.std.specs.Prelude.{◌≡◌, ℕ, ◌+◌, ◌^◌, ◌<◌, ◌≤◌, List, length, Option, ℤ, pos, ◌≤ℤ◌, ◌<ℤ◌}
+use Rattle.std.specs.List.{All}
+use Rattle.flow_model.specs.declared.arc.Arc.{Arc}
+use Rattle.flow_model.specs.Circulation.{EachArc, IsWithin}
+use Rattle.flow_model.specs.Network.{Network, arcs_of}
+use Rattle.balance_model.specs.Sound.{IsNet}
+use Rattle.residual_model.specs.Residual.{starting}
+use Rattle.reached_sides.specs.declared.mark.Mark.{Mark}
+use Rattle.path_search.specs.Ground.{IsGround, arc_at, count_at, price_at, sides_of}
+use Rattle.path_search.specs.Search.{HasClosed}
+use Rattle.augmenting_path.specs.declared.step.Step.{Step}
+use Rattle.augmenting_path.specs.Path.{StepTakes, pushed}
+use Rattle.flow_solver.specs.Excess.{AreExcess, surplus_of, lack_of, surplus, lack, transferred}
+
+-- The counts to start from, and their excess.
+pub record IsStart (net : Network) (counts : List ℕ) (excess : List ℤ) : Type 0 where
+  pub of_a_function : IsNet net
+  pub counted : length counts ≡ length (arcs_of net)
+  pub told : length excess ≡ sides_of net
+  pub starts : (place : ℕ) → place < length (arcs_of net)
+      → count_at counts place ≡ starting (arc_at (arcs_of net) place)
+  pub are_excess : AreExcess (arcs_of net) counts excess
+  pub even : surplus excess ≡ lack excess
+  pub few : surplus excess < 2 ^ 63
+
+-- Counts within bounds that prices fit, with their excess: together sides lack what others have too much, no count can
+-- leave its type, and a side that lacks something has the price 0.
+pub record IsState (net : Network) (counts : List ℕ) (prices excess : List ℤ) : Type 0 where
+  pub ground : IsGround net counts prices
+  pub within : EachArc IsWithin (arcs_of net) counts
+  pub told : length excess ≡ length prices
+  pub are_excess : AreExcess (arcs_of net) counts excess
+  pub even : surplus excess ≡ lack excess
+  pub bounded : (place : ℕ) → count_at counts place + surplus excess < 2 ^ 63 + 2 ^ 44
+  pub free : (side : ℕ) → price_at excess side <ℤ pos 0 → price_at prices side ≡ pos 0
+
+-- An augmentation leaves less excess, and none where there was none.
+pub record IsAugmented (net : Network) (old_excess : List ℤ) (counts : List ℕ) (prices excess : List ℤ) : Type 0 where
+  pub state : IsState net counts prices excess
+  pub each : length excess ≡ length old_excess
+  pub less : surplus excess < surplus old_excess
+  pub kept : (side : ℕ) → price_at old_excess side ≤ℤ pos 0 → price_at excess side ≤ℤ pos 0
+
+-- No side has excess, so none lacks anything.
+pub record IsDone (net : Network) (counts : List ℕ) (prices excess : List ℤ) : Type 0 where
+  pub state : IsState net counts prices excess
+  pub balanced : (side : ℕ) → price_at excess side ≡ pos 0
+
+-- A side has excess, and from it no side is reached that lacks something.
+pub record IsClosedFrom (net : Network) (counts : List ℕ) (prices excess : List ℤ) (marks : List (Option Mark))
+    : Type 0 where
+  pub source : ℕ
+  pub state : IsState net counts prices excess
+  pub gathers : pos 0 <ℤ price_at excess source
+  pub closed : HasClosed net counts prices excess source marks
+
+-- An amount went along the steps, from the excess of a source to a side that lacked it.
+pub record HasMoved (arcs : List Arc) (counts : List ℕ) (excess : List ℤ) (source side : ℕ) (steps : List Step)
+    (new_counts : List ℕ) (new_excess : List ℤ) : Type 0 where
+  pub amount : ℕ
+  pub some : 0 < amount
+  pub has : amount ≤ surplus_of (price_at excess source)
+  pub lacks : amount ≤ lack_of (price_at excess side)
+  pub takes : All (StepTakes arcs counts amount) steps
+  pub counts_are : new_counts ≡ pushed amount steps counts
+  pub excess_is : new_excess ≡ transferred excess source side amount

@@ -1,0 +1,155 @@
+// What worked networks cost at least.
+ghost use Rattle.std.specs.Prelude.{◌≡◌};
+ghost use Rattle.balance_model.specs.Sound.{AreWeights};
+
+use crate::{Solved, solve};
+use block_model::{Block, Bound, Edge, Weight};
+use cfg_text::Fun;
+use flow_network::{Net, cost, net_of};
+use io_edge::Items;
+use refusal::NoMemory;
+use std::alloc::Global;
+
+/// No bound.
+const FREE: Bound = Bound {
+    lower: 0,
+    upper: None,
+};
+
+fn block(exit: bool, bound: Bound) -> Block
+    ensures { result ≡ record { lo = 1; hi = 2; exit = exit; bound = bound } }
+{
+    Block {
+        lo: 1,
+        hi: 2,
+        exit,
+        bound,
+    }
+}
+
+fn edge(from: u32, to: u32) -> Edge
+    ensures { result ≡ record { from = from; to = to; bound = FREE } }
+{
+    Edge {
+        from,
+        to,
+        bound: FREE,
+    }
+}
+
+/// Weights that are known.
+fn known(weights: [u32; 4]) -> [Weight; 4]
+    ensures { AreWeights 4 result }
+{
+    let [a, b, c, d] = weights;
+    [
+        Weight::Known(u64::from(a)),
+        Weight::Known(u64::from(b)),
+        Weight::Known(u64::from(c)),
+        Weight::Known(u64::from(d)),
+    ]
+}
+
+/// Weights that are not.
+fn unknown() -> [Weight; 4]
+    ensures { AreWeights 4 result }
+{
+    [Weight::Unknown; 4]
+}
+
+/// A choice of two ways: from block 0, which runs at least so often, by block 1 or 2 to the exit,
+/// block 3, which runs at most so often.
+fn two_ways(
+    alloc: Global,
+    at_least: u32,
+    at_most: Option<u32>,
+    weights: &[Weight],
+    edge_weights: &[Weight],
+) -> Result<Net, NoMemory>
+    requires weighed { AreWeights 4 weights.now }
+    requires edges_weighed { AreWeights 4 edge_weights.now }
+{
+    let entry = Bound {
+        lower: u64::from(at_least),
+        upper: None,
+    };
+    let exit = Bound {
+        lower: 0,
+        upper: match at_most {
+            Some(most) => Some(u64::from(most)),
+            None => None,
+        },
+    };
+    let blocks = vec![in alloc;
+        block(false, entry),
+        block(false, FREE),
+        block(false, FREE),
+        block(true, exit),
+    ]?;
+    let edges = vec![in alloc; edge(0, 1), edge(0, 2), edge(1, 3), edge(2, 3)]?;
+    let fun = Fun {
+        name: b"f",
+        blocks: Items::new(blocks),
+        edges: Items::new(edges),
+    };
+    let net = net_of(alloc, &fun, weights, edge_weights)?;
+    Ok(net)
+}
+
+/// What a network costs at least, or `None` for a cut.
+fn least_cost(alloc: Global, net: &Net) -> Result<Option<u128>, NoMemory> {
+    match solve(alloc, net)? {
+        Solved::Flow(flow, _) => Ok(Some(cost(net, &flow))),
+        Solved::Cut(_) => Ok(None),
+    }
+}
+
+#[test]
+fn least_costs_are_those_of_worked_networks(rt: HostRuntime) {
+    let alloc = rt.alloc();
+    let sampled = known([100, 60, 0, 100]);
+    let twice = known([1, 1, 1, 2]);
+    let once = known([1, 1, 1, 1]);
+    let never = known([0, 0, 0, 0]);
+    let cases = [
+        (0, None, sampled, unknown(), Some(400)),
+        (0, None, sampled, never, Some(1000)),
+        (0, None, twice, once, Some(40)),
+        (0, Some(1), twice, unknown(), Some(40)),
+        (0, None, never, never, Some(0)),
+        (0, Some(0), sampled, unknown(), None),
+        (2, Some(1), twice, unknown(), None),
+    ];
+    for (at_least, at_most, weights, edge_weights, costs) in cases {
+        let Ok(net) = two_ways(alloc, at_least, at_most, &weights, &edge_weights) else {
+            panic!(rt; "no memory");
+        };
+        assert_eq!(rt; least_cost(alloc, &net), Ok(costs));
+    }
+}
+
+/// Blocks 0 and 1 that go on at one another, of which block 0 was sampled 5 times.
+fn endless(alloc: Global) -> Result<Net, NoMemory> {
+    let fun = Fun {
+        name: b"loop",
+        blocks: Items::new(vec![in alloc; block(false, FREE), block(false, FREE)]?),
+        edges: Items::new(vec![in alloc; edge(0, 1), edge(1, 0)]?),
+    };
+    let net = net_of(alloc, &fun, &five_and_none(), &[Weight::Unknown; 2])?;
+    Ok(net)
+}
+
+fn five_and_none() -> [Weight; 2]
+    ensures { AreWeights 2 result }
+{
+    [Weight::Known(5), Weight::Known(0)]
+}
+
+#[test]
+fn an_endless_function_that_was_called_is_cut(rt: HostRuntime) {
+    let alloc = rt.alloc();
+    let Ok(net) = endless(alloc) else {
+        panic!(rt; "no memory");
+    };
+    assert_eq!(rt; least_cost(alloc, &net), Ok(None));
+}

@@ -1,0 +1,300 @@
+-- What each part of a search leaves of the ways back to its source.
+use Rattle.std.proofs.Common.{◌≡◌, ◌≢◌, ℕ, ◌*◌, ◌<◌, ◌≤◌, true, false, List, length, get_or, map, replicate, Option, None, Some, inl, inr, refl, arith, ap, sym, ◌∙◌, subst}
+use Rattle.std.specs.Prelude.{slice_set, ℤ, pos, ◌+ℤ◌}
+use Rattle.std.specs.List.{Contains}
+use Rattle.std.proofs.lemmas.List.Elements.{Contains-get_or}
+use Rattle.std.proofs.lemmas.Bool.{cases_eq}
+use Rattle.std.proofs.lemmas.Int.{ints}
+use Rattle.flow_model.specs.declared.arc.Arc.{Arc}
+use Rattle.flow_model.specs.Network.{Network, arcs_of, free_arc}
+use Rattle.balance_model.specs.Sound.{IsNet}
+use Rattle.flow_network.specs.Rows.{places_of}
+use Rattle.residual_model.specs.Residual.{reduced}
+use Rattle.reached_sides.specs.declared.mark.Mark.{Mark}
+use Rattle.reached_sides.specs.declared.mark.Way.{Way}
+use Rattle.reached_sides.specs.declared.mark.Way.TheVariants.{Along, Against}
+use Rattle.flow_network.specs.Cost.{IsCheap}
+use Rattle.path_search.specs.Ground.{IsSmallCost, IsGround, arc_at, count_at, price_at}
+use Rattle.path_search.specs.Search.{mark_at, distance_of, distance_at, is_settled, is_open, settled_count, settled_as, Offers, ComeNearer, IsLooking}
+use Rattle.path_search.specs.Ways.{start_of, end_of, IsOpen, cost_of_step, rank_of, IsStepTo, AreWays, AreWaysFrom, KeepWays, MarksAtMost}
+use Rattle.path_search.proofs.RowLemmas.{placed, row_only}
+use Rattle.path_search.proofs.EndLemmas.{more_is_small, less_is_small}
+use Rattle.path_search.proofs.SearchLemmas.{IsSet, set_is, not_settled}
+use Rattle.path_search.proofs.WalkLemmas.{IsBegun, first, begun, open_mark, not_both, never, IsSettledNow}
+
+-- ---- the start
+
+pub ways_begin : (net : Network) (counts : List ℕ) (prices : List ℤ) (source n : ℕ) (marks : List (Option Mark)) → source < n
+    → marks ≡ slice_set (replicate n None) source (Some first) → AreWays net counts prices source marks
+ways_begin net counts prices source n marks within is =
+    let begun_now = subst (λ (after : List (Option Mark)). IsBegun source after) (sym is) (begun n source within) in
+    record {
+      steps = λ side mark at apart. let clash : None ≡ Some mark = sym (begun_now.others side apart) ∙ at in absurd (cc);
+      ranked = λ side settled. absurd (never _ (begun_now.none_settled side) settled);
+      cheap = λ side mark at.
+          elim (cases_eq side source) [
+            | inl e ↦
+                let here : mark_at marks source ≡ Some mark = subst (λ (s : ℕ). mark_at marks s ≡ Some mark) e at in
+                let d : distance_of (Some first) ≡ distance_of (Some mark) = ap distance_of (sym begun_now.here ∙ here) in
+                let p : price_at prices side ≡ price_at prices source = ap (price_at prices) e in
+                record { above = omega (arith, ints, d, p); below = omega (arith, ints, d, p) }
+            | inr apart ↦ let clash : None ≡ Some mark = sym (begun_now.others side apart) ∙ at in absurd (cc)
+          ];
+    }
+
+-- ---- a mark that is offered
+
+pub taken_by : (way : Way) (prices : List ℤ) (place distance : ℕ) (arc : Arc) (n : ℕ) (mark : Mark) (marks : List (Option Mark)) (frontier : List (ℕ × ℕ))
+    (new_marks : List (Option Mark)) (new_frontier : List (ℕ × ℕ)) → IsLooking prices marks frontier distance → IsOpen way arc n
+    → mark.arc ≡ place → mark.way ≡ way → is_settled (Some mark) ≡ false → distance ≤ mark.distance
+    → pos mark.distance ≡ pos distance +ℤ reduced (price_at prices) (start_of way arc) (end_of way arc) (cost_of_step way arc n)
+    → Offers (end_of way arc) mark marks frontier new_marks new_frontier
+    → MarksAtMost way prices place distance arc n marks new_marks
+taken_by way prices place distance arc n mark marks frontier new_marks new_frontier looking leaves same_arc same_way is_not ahead further (inl same) = inl same.1
+taken_by way prices place distance arc n mark marks frontier new_marks new_frontier looking leaves same_arc same_way is_not ahead further (inr new) =
+    inr record {
+      mark = mark;
+      set = new.1;
+      was = not_settled marks frontier distance (end_of way arc) mark.distance looking.searching ahead new.0;
+      leaves = leaves;
+      same_arc = same_arc;
+      same_way = same_way;
+      not_settled = is_not;
+      further = further;
+    }
+
+-- ---- ways that are kept
+
+-- a step from a settled side stays one where settled sides keep their marks
+step_kept : (net : Network) (counts : List ℕ) (prices : List ℤ) (old new : List (Option Mark)) (side : ℕ) (mark : Mark)
+    → ((other : ℕ) → is_settled (mark_at old other) ≡ true → mark_at new other ≡ mark_at old other)
+    → IsStepTo net counts prices old side mark → IsStepTo net counts prices new side mark
+step_kept net counts prices old new side mark kept step =
+    let start = start_of mark.way (arc_at (arcs_of net) mark.arc) in
+    let same : mark_at new start ≡ mark_at old start = kept start step.from_settled in
+    record {
+      inside = step.inside;
+      leads = step.leads;
+      leaves = step.leaves;
+      from_settled = ap is_settled same ∙ step.from_settled;
+      from_earlier = λ settled. let before = step.from_earlier settled in let rank = ap rank_of same in omega (arith, before, rank);
+      further = step.further ∙ ap (λ (d : ℕ). pos d +ℤ reduced (price_at prices) start side
+          (cost_of_step mark.way (arc_at (arcs_of net) mark.arc) (count_at counts mark.arc))) (sym (ap distance_of same));
+    }
+
+same_marks : (one two : Mark) (at : Option Mark) → at ≡ Some one → at ≡ Some two → one ≡ two
+same_marks one two at is also = let both : Some one ≡ Some two = sym is ∙ also in cc
+
+-- what is known of a look over one arc from a side
+pub record IsLook (net : Network) (counts : List ℕ) (prices : List ℤ) (way : Way) (place side : ℕ) (old : List (Option Mark)) : Type 0 where
+  pub inside : place < length (arcs_of net)
+  pub starts : start_of way (arc_at (arcs_of net) place) ≡ side
+  pub within : end_of way (arc_at (arcs_of net) place) < length old
+  pub cheap : IsOpen way (arc_at (arcs_of net) place) (count_at counts place)
+      → IsSmallCost (cost_of_step way (arc_at (arcs_of net) place) (count_at counts place))
+
+-- the step that a look found
+found_step : (net : Network) (counts : List ℕ) (prices : List ℤ) (way : Way) (place side distance : ℕ) (old : List (Option Mark))
+    → IsLook net counts prices way place side old → is_settled (mark_at old side) ≡ true → distance_at old side ≡ distance
+    → (mark : Mark) → mark.arc ≡ place → mark.way ≡ way → is_settled (Some mark) ≡ false
+    → IsOpen way (arc_at (arcs_of net) place) (count_at counts place)
+    → pos mark.distance ≡ pos distance +ℤ reduced (price_at prices) (start_of way (arc_at (arcs_of net) place)) (end_of way (arc_at (arcs_of net) place))
+    (cost_of_step way (arc_at (arcs_of net) place) (count_at counts place))
+    → IsStepTo net counts prices old (end_of way (arc_at (arcs_of net) place)) mark
+found_step net counts prices way place side distance old look settled at mark same_arc same_way is_not leaves further =
+    let arc = arc_at (arcs_of net) place in
+    let n = count_at counts place in
+    let Is : ℕ → Way → Type 0 = λ p w.
+    (p < length (arcs_of net))
+    × (end_of w (arc_at (arcs_of net) p) ≡ end_of way arc)
+    × IsOpen w (arc_at (arcs_of net) p) (count_at counts p)
+    × (is_settled (mark_at old (start_of w (arc_at (arcs_of net) p))) ≡ true)
+    × (pos mark.distance ≡ pos (distance_at old (start_of w (arc_at (arcs_of net) p)))
+    +ℤ reduced (price_at prices) (start_of w (arc_at (arcs_of net) p)) (end_of way arc) (cost_of_step w (arc_at (arcs_of net) p) (count_at counts p))) in
+    let from : distance_at old (start_of way arc) ≡ distance = ap (distance_at old) look.starts ∙ at in
+    let here : Is place way = (
+      look.inside,
+      refl,
+      leaves,
+      ap (λ (s : ℕ). is_settled (mark_at old s)) look.starts ∙ settled,
+      further ∙ ap (λ (d : ℕ). pos d +ℤ reduced (price_at prices) (start_of way arc) (end_of way arc) (cost_of_step way arc n)) (sym from),
+    ) in
+    let there : Is mark.arc mark.way = subst (λ (w : Way). Is mark.arc w) (sym same_way) (subst (λ (p : ℕ). Is p way) (sym same_arc) here) in
+    record {
+      inside = there.0;
+      leads = there.1;
+      leaves = there.2;
+      from_settled = there.3;
+      from_earlier = λ set. absurd (never _ is_not set);
+      further = there.4;
+    }
+
+pub look_keeps : (net : Network) (counts : List ℕ) (prices : List ℤ) (way : Way) (place side distance : ℕ) (old new : List (Option Mark))
+    → IsLook net counts prices way place side old → ComeNearer old new
+    → MarksAtMost way prices place distance (arc_at (arcs_of net) place) (count_at counts place) old new
+    → KeepWays net counts prices side distance old new
+look_keeps net counts prices way place side distance old new look nearer (inl same) source from =
+    subst (λ (marks : List (Option Mark)). AreWaysFrom net counts prices source side distance marks) (sym same) from
+look_keeps net counts prices way place side distance old new look nearer (inr by) source from =
+    let arc = arc_at (arcs_of net) place in
+    let n = count_at counts place in
+    let end = end_of way arc in
+    let set = subst (λ (marks : List (Option Mark)). IsSet end by.mark old marks) (sym by.set) (set_is end by.mark old look.within) in
+    let kept = step_kept net counts prices old new in
+    let step = found_step net counts prices way place side distance old look from.settled from.at by.mark by.same_arc by.same_way by.not_settled by.leaves by.further in
+    let count = nearer.count in
+    let small = look.cheap by.leaves in
+    let room = from.room in
+    let starts : price_at prices (start_of way arc) ≡ price_at prices side = ap (price_at prices) look.starts in
+    record {
+      ways = record {
+        steps = λ other mark at apart.
+            elim (cases_eq other end) [
+              | inl e ↦
+                  let here : mark_at new end ≡ Some mark = subst (λ (s : ℕ). mark_at new s ≡ Some mark) e at in
+                  let same = same_marks by.mark mark (mark_at new end) set.here here in
+                  let told : IsStepTo net counts prices new end mark =
+                  subst (λ (m : Mark). IsStepTo net counts prices new end m) same (kept end by.mark nearer.kept step) in
+                  subst (λ (s : ℕ). IsStepTo net counts prices new s mark) (sym e) told
+              | inr other_side ↦ kept other mark nearer.kept (from.ways.steps other mark (sym (set.others other other_side) ∙ at) apart)
+            ];
+        ranked = λ other done.
+            let before = sym (nearer.alike other) ∙ done in
+            let rank = ap rank_of (nearer.kept other before) in
+            omega (arith, rank, from.ways.ranked other before, count);
+        cheap = λ other mark at.
+            elim (cases_eq other end) [
+              | inl e ↦
+                  let here : mark_at new end ≡ Some mark = subst (λ (s : ℕ). mark_at new s ≡ Some mark) e at in
+                  let same : by.mark.distance ≡ mark.distance = ap (λ (m : Mark). m.distance) (same_marks by.mark mark (mark_at new end) set.here here) in
+                  let price : price_at prices other ≡ price_at prices end = ap (price_at prices) e in
+                  record {
+                    above = omega (arith, ints, same, price, by.further, starts, small.least, small.most, room.1, room.2.above, room.2.below, count);
+                    below = omega (arith, ints, same, price, by.further, starts, small.least, small.most, room.1, room.2.above, room.2.below, count);
+                  }
+              | inr other_side ↦
+                  let before = from.ways.cheap other mark (sym (set.others other other_side) ∙ at) in
+                  record { above = omega (arith, ints, before.above, count); below = omega (arith, ints, before.below, count) }
+            ];
+      };
+      settled = nearer.alike side ∙ from.settled;
+      at = ap distance_of (nearer.kept side from.settled) ∙ from.at;
+      room = (room.0, omega (arith, room.1, count), room.2);
+    }
+
+-- the step over an arc of a side's row
+pub look_at : (way : Way) (net : Network) (counts : List ℕ) (prices : List ℤ) (side : ℕ) (row : List ℕ) (j : ℕ) (marks : List (Option Mark))
+    (frontier : List (ℕ × ℕ)) (distance : ℕ) → IsNet net → IsGround net counts prices
+    → row ≡ places_of side (map (start_of way) (arcs_of net)) → j < length row → IsLooking prices marks frontier distance
+    → IsLook net counts prices way (get_or row j 0) side marks
+look_at way net counts prices side row j marks frontier distance is ground same below looking =
+    let place = get_or row j 0 in
+    let has = subst (λ (list : List ℕ). Contains list place) same (Contains-get_or row j 0 below) in
+    let only = row_only (start_of way) (arcs_of net) side place (none way) has in
+    let here = placed net counts prices is ground place only.0 in
+    record {
+      inside = only.0;
+      starts = only.1;
+      within = let each = looking.each in let within = ends way (arc_at (arcs_of net) place) (length prices) here.starts here.leads in omega (arith, within, each);
+      cheap = small way (arc_at (arcs_of net) place) (count_at counts place) here.cheap;
+    }
+  where
+    none : (way : Way) → start_of way (free_arc 0 0 0) ≡ 0
+    none Along = refl
+    none Against = refl
+
+    ends : (way : Way) (arc : Arc) (n : ℕ) → arc.tail < n → arc.head < n → end_of way arc < n
+    ends Along arc n tail head = head
+    ends Against arc n tail head = tail
+
+    small : (way : Way) (arc : Arc) (n : ℕ) → IsCheap arc → IsOpen way arc n → IsSmallCost (cost_of_step way arc n)
+    small Along arc n cheap leaves = more_is_small arc n cheap
+    small Against arc n cheap leaves = less_is_small arc n (omega (arith, leaves)) cheap
+
+pub keep_none : (net : Network) (counts : List ℕ) (prices : List ℤ) (side distance : ℕ) (marks : List (Option Mark))
+    → KeepWays net counts prices side distance marks marks
+keep_none net counts prices side distance marks source from = from
+
+pub keep_on : (net : Network) (counts : List ℕ) (prices : List ℤ) (side distance : ℕ) (start middle last : List (Option Mark))
+    → KeepWays net counts prices side distance start middle → KeepWays net counts prices side distance middle last
+    → KeepWays net counts prices side distance start last
+keep_on net counts prices side distance start middle last one two source from = two source (one source from)
+
+-- ---- a side that is settled
+
+rank_settled : (marks : List (Option Mark)) (side rank : ℕ) (mark : Mark) → mark_at marks side ≡ Some mark
+    → settled_as rank (mark_at marks side) ≡ Some (record mark { rank = Some rank })
+rank_settled marks side rank mark is = ap (settled_as rank) is
+
+pub ways_from : (net : Network) (counts : List ℕ) (prices : List ℤ) (source : ℕ) (marks new_marks : List (Option Mark)) (side rank distance : ℕ)
+    → side < length marks → is_open (mark_at marks side) ≡ true → distance_at marks side ≡ distance → rank ≡ settled_count marks
+    → new_marks ≡ slice_set marks side (settled_as rank (mark_at marks side)) → IsSettledNow marks new_marks side
+    → AreWays net counts prices source marks → AreWaysFrom net counts prices source side distance new_marks
+ways_from net counts prices source marks new_marks side rank distance within waits at rank_is is now ways =
+    let found = open_mark (mark_at marks side) waits in
+    let mark = found.0 in
+    let after : Mark = record mark { rank = Some rank } in
+    let is_set : new_marks ≡ slice_set marks side (Some after) = is ∙ ap (slice_set marks side) (rank_settled marks side rank mark found.1) in
+    let set = subst (λ (list : List (Option Mark)). IsSet side after marks list) (sym is_set) (set_is side after marks within) in
+    let apart_from : (other : ℕ) → is_settled (mark_at marks other) ≡ true → other ≢ side =
+    λ other settled e. never _ (not_both (mark_at marks side) waits) (subst (λ (s : ℕ). is_settled (mark_at marks s) ≡ true) e settled) in
+    let same : (other : ℕ) → is_settled (mark_at marks other) ≡ true → mark_at new_marks other ≡ mark_at marks other =
+    λ other settled. now.others other (apart_from other settled) in
+    let kept = step_kept net counts prices marks new_marks in
+    let count = now.count in
+    let cost = ways.cheap side mark found.1 in
+    let d : mark.distance ≡ distance = sym (ap distance_of found.1) ∙ at in
+    record {
+      ways = record {
+        steps = λ other known here apart.
+            elim (cases_eq other side) [
+              | inl e ↦
+                  let not_source : side ≢ source = subst (λ (s : ℕ). s ≢ source) e apart in
+                  let before = kept side mark same (ways.steps side mark found.1 not_source) in
+                  let old_start = ways.steps side mark found.1 not_source in
+                  let low = ways.ranked _ old_start.from_settled in
+                  let rank_same = ap rank_of (same _ old_start.from_settled) in
+                  let told : IsStepTo net counts prices new_marks side after = record {
+                    inside = before.inside;
+                    leads = before.leads;
+                    leaves = before.leaves;
+                    from_settled = before.from_settled;
+                    from_earlier = λ done. omega (arith, low, rank_same, rank_is);
+                    further = before.further;
+                  } in
+                  let at_side : mark_at new_marks side ≡ Some known = subst (λ (s : ℕ). mark_at new_marks s ≡ Some known) e here in
+                  let is_after = same_marks after known (mark_at new_marks side) set.here at_side in
+                  subst (λ (s : ℕ). IsStepTo net counts prices new_marks s known) (sym e)
+                  (subst (λ (m : Mark). IsStepTo net counts prices new_marks side m) is_after told)
+              | inr other_side ↦ kept other known same (ways.steps other known (sym (now.others other other_side) ∙ here) apart)
+            ];
+        ranked = λ other done.
+            elim (cases_eq other side) [
+              | inl e ↦
+                  let here : rank_of (mark_at new_marks other) ≡ rank = ap (λ (s : ℕ). rank_of (mark_at new_marks s)) e ∙ ap rank_of set.here in
+                  omega (arith, here, rank_is, count)
+              | inr other_side ↦
+                  let unchanged = now.others other other_side in
+                  let before = ways.ranked other (ap is_settled (sym unchanged) ∙ done) in
+                  let rank_same = ap rank_of unchanged in
+                  omega (arith, before, rank_same, count)
+            ];
+        cheap = λ other known here.
+            elim (cases_eq other side) [
+              | inl e ↦
+                  let at_side : mark_at new_marks side ≡ Some known = subst (λ (s : ℕ). mark_at new_marks s ≡ Some known) e here in
+                  let known_d : mark.distance ≡ known.distance = ap (λ (m : Mark). m.distance) (same_marks after known (mark_at new_marks side) set.here at_side) in
+                  let price : price_at prices other ≡ price_at prices side = ap (price_at prices) e in
+                  record {
+                    above = omega (arith, ints, known_d, price, cost.above, count);
+                    below = omega (arith, ints, known_d, price, cost.below, count);
+                  }
+              | inr other_side ↦
+                  let before = ways.cheap other known (sym (now.others other other_side) ∙ here) in
+                  record { above = omega (arith, ints, before.above, count); below = omega (arith, ints, before.below, count) }
+            ];
+      };
+      settled = now.here;
+      at = now.distances side ∙ at;
+      room = (40 * settled_count marks, omega (arith, count), record { above = omega (arith, ints, d, cost.above); below = omega (arith, ints, d, cost.below) });
+    }

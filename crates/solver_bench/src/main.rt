@@ -1,0 +1,64 @@
+//! Solves made-up networks, to be timed from outside.
+//!
+//! `solver_bench chain BLOCKS TIMES` solves a chain of so many blocks, of which the first was
+//! sampled once; `solver_bench diamonds BLOCKS TIMES` a row of choices of two ways, whose weights
+//! are off by a few per cent; `solver_bench jumps BLOCKS TIMES` blocks of which every second one
+//! jumps ahead, with such weights. It prints how many networks were solved and what their counts cost.
+#![tactic(auto)]
+
+mod shapes;
+
+use flow_network::{Net, Solved, cost};
+use flow_solver::solve;
+use refusal::NoMemory;
+use std::alloc::Global;
+use std::process::ExitCode;
+use std::rt::Env;
+
+/// How many bytes a word may have.
+const WORD: usize = 4096;
+
+fn main(rt: HostRuntime) -> ExitCode {
+    match measure(&rt) {
+        Some(()) => ExitCode::from(0),
+        None => ExitCode::from(1),
+    }
+}
+
+/// Does what the words say, if it can be done.
+fn measure<R: AllocGlobal + Env + Print>(rt: &R) -> Option<()> {
+    let mut room = [0; WORD];
+    let blocks = word(rt, 2, &mut room)?.parse::<u32>().ok()?;
+    let times = word(rt, 3, &mut room)?.parse::<u32>().ok()?;
+    let net = match word(rt, 1, &mut room)? {
+        "chain" => shapes::chain(rt.alloc(), blocks).ok()?,
+        "jumps" => shapes::jumps(rt.alloc(), blocks).ok()?,
+        "diamonds" => shapes::diamonds(rt.alloc(), blocks).ok()?,
+        _ => return None,
+    };
+    let costs = solved(rt.alloc(), &net, times).ok()?;
+    println!(rt; "{times} solved, each of cost {costs}").ok()
+}
+
+/// What the least counts cost, solved so many times; 0 for a cut.
+fn solved(alloc: Global, net: &Net, times: u32) -> Result<u128, NoMemory> {
+    let mut costs = 0;
+    for _ in 0..times {
+        costs = least_cost(alloc, net)?;
+    }
+    Ok(costs)
+}
+
+/// What the least counts cost; 0 for a cut.
+fn least_cost(alloc: Global, net: &Net) -> Result<u128, NoMemory> {
+    match solve(alloc, net)? {
+        Solved::Flow(flow, _) => Ok(cost(net, &flow)),
+        Solved::Cut(_) => Ok(0),
+    }
+}
+
+/// The word at a place, as text.
+fn word<'a>(env: &impl Env, at: usize, room: &'a mut [u8; WORD]) -> Option<&'a str> {
+    let len = env.arg(at, room).ok()?;
+    str::from_utf8(&room[..len]).ok()
+}

@@ -1,12 +1,11 @@
 -- The rows of a table, with one more.
-use Rattle.std.proofs.Common.{◌≡◌, ℕ, ◌+◌, ◌-◌, ◌<◌, ◌≤◌, true, cond, nat_le, List, [], ◌∷◌, ◌++◌, length, map, take, drop, get_or, zero, suc, not, None, Some, refl, sym, ap, subst, ◌∙◌, inl, inr, arith}
-use Rattle.std.specs.Prelude.{◌==◌, is_some, slice_range, slice_get}
+use Rattle.std.proofs.Common.{◌≡◌, ℕ, ◌+◌, ◌-◌, ◌<◌, ◌≤◌, true, cond, nat_le, nat_lt, List, [], ◌∷◌, ◌++◌, length, map, take, drop, zero, suc, not, None, Some, refl, sym, ap, subst, ◌∙◌, inl, inr, arith}
+use Rattle.std.specs.Prelude.{◌==◌, position, is_some, slice_range, slice_get}
 use Rattle.std.specs.List.{AllByRecursion, position_or_len}
 use Rattle.std.proofs.lemmas.List.{length-append, length-drop, drop-append-le, take-append-le, map-append, drop_at, take_all}
 use Rattle.std.proofs.lemmas.Bool.Decides.{nat_tests}
 use Rattle.std.proofs.lemmas.List.Folds.{find_at}
-use Rattle.std.proofs.lemmas.Option.{slice_get_cases, slice_get_read, slice_get-map}
-use Rattle.std.specs.Option.{option_map}
+use Rattle.std.proofs.lemmas.Option.{slice_get_cases}
 use Rattle.std.proofs.lemmas.List.Quantifiers.{position-Some}
 use Rattle.abbrev_model.specs.Abbrev.{Attr, Abbrev, find_code, has_code}
 use Rattle.abbrev_model.specs.Table.{max_abbrevs}
@@ -152,10 +151,25 @@ pub ruleset next_lemmas = (has_code-is, is_full-is)
 
 -- ---- a look-up
 
-pub row-found : (rows : Rows) (code place : ℕ) (row : Row) (attrs : List Attr) → IsWhole rows → place_of rows.codes code ≡ Some place → row ≡ get_or rows.rows.items place row
-    → attrs ≡ rows.attrs.items → Some (abbrev_of_row attrs row) ≡ find_code (table_of rows) code
-row-found rows code place row attrs is some here same =
-    let p = place-some rows code place is some in
-    let there : slice_get rows.rows.items place ≡ Some row = slice_get_read rows.rows.items (length rows.rows.items) place row refl (omega (arith, p.within, length-is rows)) here in
-    ap (λ (xs : List Attr). Some (abbrev_of_row xs row)) same
-    ∙ sym (p.found ∙ slice_get-map (abbrev_of_row rows.attrs.items) rows.rows.items place ∙ ap (option_map (abbrev_of_row rows.attrs.items)) there)
+-- the place of a code among the rows is that of its abbreviation in the table
+pub place-is : (rows : Rows) (code : ℕ) → IsWhole rows → position (λ (a : Abbrev). a.code == code) (table_of rows) ≡ place_of rows.codes code
+place-is rows code is =
+    let table = table_of rows in
+    let codes = codes-are rows is in
+    let n : length table ≡ length rows.codes = sym (length-map (λ (a : Abbrev). a.code) table) ∙ ap (λ (cs : List ℕ). length cs) codes in
+    let first : position_or_len (λ (a : Abbrev). a.code == code) table ≡ position_or_len (λ c. c == code) rows.codes =
+    position-map table code ∙ ap (λ (cs : List ℕ). position_or_len (λ c. c == code) cs) codes in
+    ap (λ k. cond (nat_lt k (length table)) (Some k) None) first
+    ∙ ap (λ m. cond (nat_lt (position_or_len (λ c. c == code) rows.codes) m) (Some (position_or_len (λ c. c == code) rows.codes)) None) n
+
+pub found-at : (table : List Abbrev) (code place : ℕ) (kind : Abbrev) → position (λ (a : Abbrev). a.code == code) table ≡ Some place → slice_get table place ≡ Some kind → find_code table code ≡ Some kind
+unfolding find_code
+found-at table code place kind is there =
+    let first : position_or_len (λ (a : Abbrev). a.code == code) table ≡ place = grind (arith, nat_tests) in
+    find_at (λ (a : Abbrev). a.code == code) table ∙ ap (slice_get table) first ∙ there
+
+pub found-none : (table : List Abbrev) (code : ℕ) → position (λ (a : Abbrev). a.code == code) table ≡ None → find_code table code ≡ None
+unfolding find_code
+found-none table code none =
+    let past : length table ≤ position_or_len (λ (a : Abbrev). a.code == code) table = grind (arith, nat_tests) in
+    find_at (λ (a : Abbrev). a.code == code) table ∙ slice_get-past table _ past

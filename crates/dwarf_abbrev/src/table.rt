@@ -28,21 +28,43 @@ impl Model for Abbrevs {
 }
 
 impl Abbrevs {
-    ghost use Rattle.std.specs.Prelude.{◌≡◌};
+    ghost use Rattle.std.specs.Prelude.{◌≡◌, ◌==◌, ◌<◌, Some, length, position, slice_get};
     ghost use Rattle.abbrev_model.specs.Abbrev.{find_code};
+
+    /// How many abbreviations there are.
+    pub fn len(&self) -> usize
+        ensures { result ≡ length self.now }
+    {
+        self.rows.rows.len()
+    }
+
+    /// The place of the abbreviation of a code.
+    pub fn place(&self, code: u64) -> Option<usize>
+        ensures { result ≡ position (λ a. a.code == code) self.now }
+    {
+        self.rows.codes.place(code)
+    }
+
+    /// The abbreviation at a place.
+    pub fn at(&self, place: usize) -> Abbrev<'_>
+        requires { place < length self.now }
+        ensures { slice_get self.now place ≡ Some result }
+    {
+        let row = &self.rows.rows[place];
+        Abbrev {
+            code: row.code,
+            tag: row.tag,
+            children: row.children,
+            attrs: &self.rows.attrs[row.first..row.end],
+        }
+    }
 
     /// The abbreviation of a code.
     pub fn find(&self, code: u64) -> Option<Abbrev<'_>>
         ensures { result ≡ find_code self.now code }
     {
-        let place = self.rows.codes.place(code)?;
-        let row = &self.rows.rows[place];
-        Some(Abbrev {
-            code: row.code,
-            tag: row.tag,
-            children: row.children,
-            attrs: &self.rows.attrs[row.first..row.end],
-        })
+        let place = self.place(code)?;
+        Some(self.at(place))
     }
 }
 

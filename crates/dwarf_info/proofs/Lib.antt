@@ -1,5 +1,7 @@
 pub mod ValueLemmas
 pub mod EntryLemmas
 pub mod PartLemmas
+pub mod TableLemmas
+pub mod TellingLemmas
 pub mod UnitLemmas
 pub mod FoundLemmas

@@ -121,13 +121,15 @@ UnitsSoFar-none section part so_far cur whole none zero_units at left =
           (GoesOn-start (step_if_left (model.next_unit section)) model.no_units (start_of part)));
     }
 
-pub UnitsSoFar-more : (section : Option Cursor) (start : Cursor) (old new : SoFar) (cur next : Cursor) → UnitsSoFar section start old cur → 0 < length cur.left
-    → IsReadTo old new next (model.next_unit section (units_of old) cur) → length next.left < length cur.left → UnitsSoFar section start new next
-UnitsSoFar-more section start old new cur next so_far some read less = record {
-  whole = read.whole;
-  few = omega (arith, so_far.few, read.one_more, less);
-  on = GoesOn-more (step_if_left (model.next_unit section)) _ _ _ cur next so_far.on (step_if_left-some (model.next_unit section) _ _ cur next some read.is) less;
-}
+pub UnitsSoFar-more : (section tables : Option Cursor) (start : Cursor) (old new : SoFar) (cur next : Cursor) → tables ≡ section → UnitsSoFar section start old cur → 0 < length cur.left
+    → IsReadTo old new next (model.next_unit tables (units_of old) cur) → length next.left < length cur.left → UnitsSoFar section start new next
+UnitsSoFar-more section tables start old new cur next same so_far some is less =
+    let read : IsReadTo old new next (model.next_unit section (units_of old) cur) = subst (λ (s : Option Cursor). IsReadTo old new next (model.next_unit s (units_of old) cur)) same is in
+    record {
+      whole = read.whole;
+      few = omega (arith, so_far.few, read.one_more, less);
+      on = GoesOn-more (step_if_left (model.next_unit section)) _ _ _ cur next so_far.on (step_if_left-some (model.next_unit section) _ _ cur next some read.is) less;
+    }
 
 pub UnitsSoFar-end : (section : Option Cursor) (start : Cursor) (so_far : SoFar) (cur : Cursor) → UnitsSoFar section start so_far cur → length cur.left ≡ 0
     → (refused_at (model.units section start) ≡ None) × IsReadValue (model.units section start) (units_of so_far)
@@ -170,9 +172,9 @@ bad section start old new cur next (Refused place) on some read =
     ap refused_at (GoesOn-bad (step_if_left (model.next_unit section)) _ _ cur place on.on (step_if_left-bad (model.next_unit section) _ cur place some read))
 bad section start old new cur next NoMemory on some read = tt
 
-pub UnitsSoFar-stop : (section : Option Cursor) (start : Cursor) (old new : SoFar) (cur next : Cursor) (why : Stop) (r : Result model.Units Stop) → UnitsSoFar section start old cur
-    → 0 < length cur.left → ReadsNext (Err why) old new next (model.next_unit section (units_of old) cur) → IsErrAnd r (λ s. s ≡ why)
+pub UnitsSoFar-stop : (section tables : Option Cursor) (start : Cursor) (old new : SoFar) (cur next : Cursor) (why : Stop) (r : Result model.Units Stop) → tables ≡ section → UnitsSoFar section start old cur
+    → 0 < length cur.left → ReadsNext (Err why) old new next (model.next_unit tables (units_of old) cur) → IsErrAnd r (λ s. s ≡ why)
     → JudgesUnlessNoMemory (refused_at (model.units section start)) r (IsReadValue (model.units section start))
-UnitsSoFar-stop section start old new cur next why r on some read is =
+UnitsSoFar-stop section tables start old new cur next why r same on some read is =
     subst (λ (x : Result model.Units Stop). JudgesUnlessNoMemory (refused_at (model.units section start)) x (IsReadValue (model.units section start))) (sym (stopped r why is))
-    (bad section start old new cur next why on some read)
+    (bad section start old new cur next why on some (subst (λ (s : Option Cursor). ReadsNext (Err why) old new next (model.next_unit s (units_of old) cur)) same read))

@@ -2,6 +2,8 @@ pub mod Entries
 pub mod Found
 pub mod Kept
 pub mod Rows
+pub mod Tables
+pub mod Telling
 pub mod Told
 pub mod Units
 pub mod Values

@@ -1,9 +1,11 @@
 -- What reading units gives.
-use Rattle.std.specs.Prelude.{◌≡◌, ◌≤◌, ◌+◌, ⊤, [], ◌∷◌, ◌++◌, length, Result, Ok, Err}
+use Rattle.std.specs.Prelude.{◌≡◌, ℕ, List, ◌≤◌, ◌+◌, ⊤, [], ◌∷◌, ◌++◌, length, Result, Ok, Err}
 use Rattle.byte_view.specs.Cursor.{Cursor}
 use Rattle.refusal.specs.declared.place.Stop.{Stop}
 use Rattle.refusal.specs.declared.place.Stop.TheVariants.{Refused, NoMemory}
-use Rattle.placed_view.specs.Reader.{Read}
+use Rattle.placed_view.specs.Reader.{Read, Reader, ◌>>=◌, gives}
+use Rattle.abbrev_model.specs.Abbrev.{Abbrev}
+use Rattle.unit_model.specs.Entries.{entries}
 use Rattle.unit_model.specs.Units as model
 use Rattle.dwarf_info.specs.Entries.{all_of, IsWhole}
 use Rattle.dwarf_info.specs.declared.rows.SoFar.{SoFar}
@@ -16,6 +18,12 @@ units_of so_far = record { units = so_far.units.items; entries = all_of so_far.e
 -- Where a unit stands, as the model says it.
 abbrev pub extent_of : Extent → model.Extent
 extent_of extent = record { at = extent.at; end = extent.end; wide = extent.shape.wide }
+
+-- A unit behind its header, whose table of abbreviations is this one.
+abbrev pub unit_by_table : model.Extent → ℕ → List Abbrev → model.Units → Reader model.Units
+unit_by_table extent version table before = do
+  all ← entries (record { unit = length before.units; wide = extent.wide }) table before.entries
+  gives (model.with_unit extent version all before)
 
 -- A unit is read or passed over; at most one more is there then.
 pub record IsRead (old new : SoFar) (read : Read model.Units) : Type 0 where

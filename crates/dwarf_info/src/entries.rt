@@ -3,10 +3,11 @@ ghost use Rattle.std.specs.Prelude.{◌≡◌, ◌<◌, ◌≤◌, ◌+◌, ◌+
 ghost use Rattle.unit_model.specs.Entries.{entry_of, next_entry, entries as entries_told};
 ghost use Rattle.dwarf_info.specs.Entries.{all_of, IsWhole, ReadsSoFar, ReadsEntries};
 
+use crate::kinds::EntryKinds;
 use crate::rows::{Entries, Row};
 use crate::values::read_values;
 use byte_view::Cur;
-use dwarf_abbrev::{Abbrev, Abbrevs};
+use dwarf_abbrev::Abbrev;
 use dwarf_forms::UnitShape;
 use placed_view::uleb;
 use refusal::{Kind, NoMemory, Place, Stop, refuse_if};
@@ -81,7 +82,7 @@ fn read_entry<'a>(
 #[tactic(auto, unfolding(unit_model::specs::Entries::next_entry, unit_model::specs::Entries::entry_of_code))]
 fn read_next<'a>(
     cur: &mut Cur<'a>,
-    table: &Abbrevs,
+    table: &EntryKinds,
     of: InUnit,
     depth: u32,
     entries: &mut Entries<'a>,
@@ -106,7 +107,7 @@ fn read_next<'a>(
 /// Reads the entries of a unit up to its end, behind those of the units before it.
 pub(crate) fn read_entries<'a>(
     cur: &mut Cur<'a>,
-    table: &Abbrevs,
+    table: &EntryKinds,
     of: InUnit,
     entries: &mut Entries<'a>,
 ) -> Result<(), Stop>

@@ -8,7 +8,9 @@
 
 mod entries;
 mod header;
+mod kinds;
 mod rows;
+mod tables;
 #[cfg(test)]
 mod tests;
 mod units;

@@ -96,6 +96,37 @@ fn reads_a_unit_of_version_4(rt: HostRuntime) -> Result<(), Fail> {
     Ok(())
 }
 
+/// Four units that refer to two tables of abbreviations by turns.
+#[test]
+fn reads_units_with_two_tables_by_turns(rt: HostRuntime) {
+    let file = b"\x01\x11\x00\x10\x0b\x00\x00\x00\
+\x01\x2e\x00\x3b\x0b\x00\x00\x00\
+\x09\x00\x00\x00\x04\x00\x00\x00\x00\x00\x08\x01\x07\
+\x09\x00\x00\x00\x04\x00\x08\x00\x00\x00\x08\x01\x05\
+\x09\x00\x00\x00\x04\x00\x00\x00\x00\x00\x08\x01\x09\
+\x09\x00\x00\x00\x04\x00\x08\x00\x00\x00\x08\x01\x06";
+    let Ok(units) = read(rt.alloc(), piece(file, 16, 52), piece(file, 0, 16)) else {
+        panic!(rt; "not read");
+    };
+    let cases: [(u64, u64, u64, u64); 4] = [
+        (27, 0x11, 0x10, 7),
+        (40, 0x2e, 0x3b, 5),
+        (53, 0x11, 0x10, 9),
+        (66, 0x2e, 0x3b, 6),
+    ];
+    for (i, (at, tag, name, value)) in cases.into_iter().enumerate() {
+        let Some(entry) = units.entry(i) else {
+            panic!(rt; "no entry");
+        };
+        assert_eq!(rt; (entry.at, entry.tag), (at, tag));
+        let Some(found) = entry.found.first() else {
+            panic!(rt; "no attribute");
+        };
+        assert_eq!(rt; found.name, name);
+        assert_eq!(rt; found.value, Value::Const(value));
+    }
+}
+
 #[test]
 fn finds_the_wanted_attributes(rt: HostRuntime) -> Result<(), Fail> {
     let file = changed(rt.alloc(), &[])?;
@@ -127,6 +158,33 @@ fn finds_the_wanted_attributes(rt: HostRuntime) -> Result<(), Fail> {
         assert_eq!(rt; found.value, value);
     }
     Ok(())
+}
+
+/// Attributes whose values take no bytes, of which one is not wanted and one stands there before.
+#[test]
+fn of_attributes_without_bytes_the_first_counts(rt: HostRuntime) {
+    let file =
+        b"\x01\x2e\x00\x3b\x21\x05\x3f\x19\x3b\x21\x06\x3b\x0b\x59\x21\x03\x03\x08\x00\x00\x00\
+\x0b\x00\x00\x00\x04\x00\x00\x00\x00\x00\x08\x01\x07h\x00";
+    let Ok(units) = read(rt.alloc(), piece(file, 21, 15), piece(file, 0, 21)) else {
+        panic!(rt; "not read");
+    };
+    let Some(entry) = units.entry(0) else {
+        panic!(rt; "no entry");
+    };
+    let cases: [(u64, u64, Value<'_>); 3] = [
+        (0x3b, 33, Value::Const(5)),
+        (0x59, 34, Value::Const(3)),
+        (0x03, 34, Value::Text(b"h")),
+    ];
+    assert_eq!(rt; entry.found.len(), 3);
+    for (i, (name, at, value)) in cases.into_iter().enumerate() {
+        let Some(found) = entry.found.get(i) else {
+            panic!(rt; "no attribute");
+        };
+        assert_eq!(rt; (found.name, found.at), (name, at));
+        assert_eq!(rt; found.value, value);
+    }
 }
 
 /// A unit of version 5, a type unit, one of version 2, one of length 0, and one of 64-bit DWARF.

@@ -7,13 +7,15 @@ ghost use Rattle.unit_model.specs.Units.{next_unit, unit_behind, unit_body, unit
 ghost use Rattle.dwarf_info.specs.Told.{units_told};
 ghost use Rattle.unit_model.specs.Header.{Header as HeaderTold};
 ghost use Rattle.dwarf_info.specs.Entries.{IsWhole};
-ghost use Rattle.dwarf_info.specs.Units.{ReadsNext, ReadsUnit, SkipsUnit, extent_of, units_of};
+ghost use Rattle.dwarf_info.specs.Tables.{StandsIn};
+ghost use Rattle.dwarf_info.specs.Units.{ReadsNext, ReadsUnit, SkipsUnit, extent_of, unit_by_table, units_of};
 
 use crate::entries::{InUnit, read_entries};
 use crate::header::{Header, read_header, read_length};
+use crate::kinds::EntryKinds;
 use crate::rows::{SoFar, Unit, Units};
+use crate::tables::Tables;
 use byte_view::{Cur, Part};
-use dwarf_abbrev::read_table;
 use dwarf_forms::UnitShape;
 use placed_view::place_of;
 use refusal::{NoMemory, Stop};
@@ -43,36 +45,58 @@ fn push(units: &mut Vec<Unit>, unit: Unit) -> Result<(), NoMemory>
     Ok(())
 }
 
-/// Reads the entries of a unit whose header was read.
-fn read_unit<'a>(
-    alloc: Global,
+/// Reads the entries of a unit by its table of abbreviations.
+fn read_by_table<'a>(
     cur: &mut Cur<'a>,
     extent: Extent,
-    head: &Header<'_>,
+    version: u16,
+    table: &EntryKinds,
     so_far: &mut SoFar<'a>,
 ) -> Result<(), Stop>
     requires whole { IsWhole so_far.old.entries }
     requires few { length so_far.old.units.items < 2 ^ 32 }
     ensures { ReadsUnit result so_far.old so_far.new
-        (unit_behind (extent_of extent) (Some head.now) (units_of so_far.old) cur.old) }
+        (unit_by_table (extent_of extent) version table.now (units_of so_far.old) cur.old) }
 {
-    let table = read_table(alloc, head.abbrevs)?;
     let first = so_far.entries.rows.len();
     let of = InUnit {
         unit: so_far.units.len() as u32,
         shape: extent.shape,
     };
-    read_entries(cur, &table, of, &mut so_far.entries)?;
+    read_entries(cur, table, of, &mut so_far.entries)?;
     let count = so_far.entries.rows.len().saturating_sub(first);
     let unit = Unit {
         at: extent.at,
         end: extent.end,
-        version: head.version,
+        version,
         wide: extent.shape.wide,
         first: first as u32,
         count: count as u32,
     };
     push(&mut so_far.units, unit)?;
+    Ok(())
+}
+
+/// Reads the entries of a unit whose header was read. Its table of abbreviations is read only where
+/// it is not kept.
+fn read_unit<'a>(
+    alloc: Global,
+    cur: &mut Cur<'a>,
+    extent: Extent,
+    head: &Header<'_>,
+    tables: &mut Tables<'_>,
+    so_far: &mut SoFar<'a>,
+) -> Result<(), Stop>
+    requires whole { IsWhole so_far.old.entries }
+    requires few { length so_far.old.units.items < 2 ^ 32 }
+    requires ours { StandsIn tables.old (Some head.now) }
+    ensures same { tables.new ≡ tables.old }
+    ensures read { ReadsUnit result so_far.old so_far.new
+        (unit_behind (extent_of extent) (Some head.now) (units_of so_far.old) cur.old) }
+{
+    let table = tables.take_or_read(alloc, head.abbrevs)?;
+    read_by_table(cur, extent, head.version, &table, so_far)?;
+    tables.keep(head.abbrevs.at, table)?;
     Ok(())
 }
 
@@ -83,24 +107,24 @@ fn read_body<'a>(
     cur: &mut Cur<'a>,
     extent: Extent,
     size: u64,
-    abbrev: Option<Part<'_>>,
+    tables: &mut Tables<'_>,
     so_far: &mut SoFar<'a>,
 ) -> Result<(), Stop>
     requires whole { IsWhole so_far.old.entries }
     requires few { length so_far.old.units.items < 2 ^ 32 }
-    ensures { ReadsUnit result so_far.old so_far.new
-        (unit_body (option_map start_of abbrev.entry) (extent_of extent) size (units_of so_far.old)
-        cur.old) }
+    ensures same { tables.new ≡ tables.old }
+    ensures read { ReadsUnit result so_far.old so_far.new
+        (unit_body tables.old (extent_of extent) size (units_of so_far.old) cur.old) }
 {
     if size == 0 {
         skip(so_far, extent)?;
         return Ok(());
     }
-    let Some(head) = read_header(cur, extent.shape, abbrev)? else {
+    let Some(head) = read_header(cur, extent.shape, tables.section())? else {
         skip(so_far, extent)?;
         return Ok(());
     };
-    read_unit(alloc, cur, extent, &head, so_far)
+    read_unit(alloc, cur, extent, &head, tables, so_far)
 }
 
 /// Reads the next unit, or passes it over.
@@ -108,13 +132,14 @@ fn read_body<'a>(
 pub(crate) fn read_next<'a>(
     alloc: Global,
     cur: &mut Cur<'a>,
-    abbrev: Option<Part<'_>>,
+    tables: &mut Tables<'_>,
     so_far: &mut SoFar<'a>,
 ) -> Result<(), Stop>
     requires whole { IsWhole so_far.old.entries }
     requires few { length so_far.old.units.items < 2 ^ 32 }
+    ensures same { tables.new ≡ tables.old }
     ensures read { ReadsNext result so_far.old so_far.new cur.new
-        (next_unit (option_map start_of abbrev.entry) (units_of so_far.old) cur.old) }
+        (next_unit tables.old (units_of so_far.old) cur.old) }
     ensures shorter { OnOk result (length cur.new.left < length cur.old.left) }
 {
     let at = cur.at();
@@ -126,7 +151,7 @@ pub(crate) fn read_next<'a>(
         shape: UnitShape { wide },
     };
     match cur.sub(size) {
-        Ok(mut body) => read_body(alloc, &mut body, extent, size, abbrev, so_far),
+        Ok(mut body) => read_body(alloc, &mut body, extent, size, tables, so_far),
         Err(fault) => Err(Stop::Refused(place_of(fault, start))),
     }
 }
@@ -142,10 +167,11 @@ fn read_section<'a>(
         (refused_at (units_told_in (option_map start_of abbrev.entry) (start_of part.entry)))
         result (IsRead (units_told_in (option_map start_of abbrev.entry) (start_of part.entry))) }
 {
+    let mut tables = Tables::new(alloc, abbrev);
     let mut so_far = SoFar::new(alloc);
     let mut cur = Cur::new(part);
     while cur.left() > 0 {
-        read_next(alloc, &mut cur, abbrev, &mut so_far)?;
+        read_next(alloc, &mut cur, &mut tables, &mut so_far)?;
     }
     Ok(Units { so_far })
 }

@@ -10,4 +10,4 @@ pub returns-in-Ok-clause-read : goal.returns-in-Ok-clause-read
 returns-in-Ok-clause-read c =
     let extent : Extent = record { at = c.at-at.result; end = c.at-start.result + c.in_ok-wide.size; shape = record { wide = c.in_ok-wide.wide } } in
     ReadsNext-body _ _ _ _ _ _ _ extent c.in_ok-wide.size c.read_body.result c.in_ok-wide.ensures.read c.in_ok-wide.ensures.within c.at-at.ensures.place
-    (ap (λ (n : ℕ). n + c.in_ok-wide.size) c.at-start.ensures.place) c.in-Ok.ensures.at c.in-Ok.ensures.exact c.in-Ok.ensures.found c.read_body.ensures
+    (ap (λ (n : ℕ). n + c.in_ok-wide.size) c.at-start.ensures.place) c.in-Ok.ensures.at c.in-Ok.ensures.exact c.in-Ok.ensures.found c.read_body.ensures.read

@@ -1,4 +1,5 @@
 pub mod Room
+pub mod Texts
 pub mod Tables
 pub mod Found
 pub mod Judged

@@ -8,6 +8,7 @@ use Rattle.elf_model.specs.Sections.{used, name_section, name_table}
 use Rattle.elf_model.specs.Items.{items_of}
 use Rattle.elf_sections.specs.declared.section_table.SectionTable.{SectionTable}
 use Rattle.elf_sections.specs.declared.names.Names.{Names}
+use Rattle.elf_sections.specs.Texts.{KnowsEnd}
 
 -- The header that a table names, where it names one.
 abbrev pub named : SectionTable → Option SectionHeader
@@ -18,9 +19,10 @@ pub record IsSectionTable (file : List ℕ) (table : SectionTable) : Type 0 wher
   pub entries : table.entries ≡ section_headers file
   pub names : named table ≡ name_section file
 
--- The names of a file's sections.
-abbrev pub AreNames : List ℕ → Names → Type 0
-AreNames file names = option_copied names.table ≡ name_table file
+-- The names of a file's sections, and where the last of them ends.
+pub record AreNames (file : List ℕ) (names : Names) : Type 0 where
+  pub table : option_copied names.table ≡ name_table file
+  pub end : KnowsEnd names
 
 -- The items of the sections that some headers describe.
 abbrev pub judged : List ℕ → List SectionHeader → List (Option Place)

@@ -36,6 +36,6 @@ fn judge_section(header: &SectionHeader, file: &[u8], names: &Names<'_>) -> Resu
         return Ok(());
     }
     header.judge_extent(file)?;
-    let is_bad = names.name(header.name).is_none();
+    let is_bad = !names.has_any(header.name);
     refuse_if(is_bad, Place::in_binary(header.at, Kind::NameBad))
 }

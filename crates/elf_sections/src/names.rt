@@ -1,25 +1,29 @@
-ghost use Rattle.std.specs.Prelude.{◌≡◌, false};
+ghost use Rattle.std.specs.Prelude.{◌≡◌, false, not, is_none};
 ghost use Rattle.std.specs.Str.{bytes_eq};
 ghost use Rattle.std.specs.Option.{option_copied, option_map_or};
 ghost use Rattle.elf_model.specs.Sections.{name_in, text_at};
+ghost use Rattle.elf_sections.specs.Texts.{EndsAt, KnowsEnd};
 
-use memchr::memchr;
+use memchr::{memchr, memrchr};
 
 /// The string table that has the names of the sections, where there is one.
 #[derive(Clone, Copy, Debug)]
 pub(crate) struct Names<'a> {
     pub table: Option<&'a [u8]>,
+    /// The index behind the table's last NUL, 0 where it has none: texts stand at the indexes
+    /// before it, and at no others.
+    pub end: usize,
 }
 
 impl<'a> Names<'a> {
-    /// The name at an index of the table, the empty name without a table; `None` where no text
-    /// stands there.
-    pub fn name(&self, at: u32) -> Option<&'a [u8]>
-        ensures { option_copied result ≡ name_in (option_copied self.now.table) at }
+    /// Whether a name stands at an index of the table. Without a table all names are empty.
+    pub fn has_any(&self, at: u32) -> bool
+        requires { KnowsEnd self.now }
+        ensures { result ≡ not (is_none (name_in (option_copied self.now.table) at)) }
     {
         match self.table {
-            None => Some(b""),
-            Some(table) => text_at(table, at),
+            None => true,
+            Some(_) => (at as usize) < self.end,
         }
     }
 
@@ -28,18 +32,36 @@ impl<'a> Names<'a> {
         ensures { result
             ≡ option_map_or (bytes_eq name.now) (name_in (option_copied self.now.table) at) false }
     {
-        match self.name(at) {
-            None => false,
-            Some(text) => name == text,
+        match self.table {
+            None => name == b"".as_slice(),
+            Some(table) => is_text_at(table, at as usize, name),
         }
     }
 }
 
-/// The text at an index of a string table, up to its NUL.
-fn text_at(table: &[u8], at: u32) -> Option<&[u8]>
-    ensures { option_copied result ≡ text_at table.now at }
+/// The index behind the last NUL of a string table, 0 where it has none.
+pub(crate) fn end_of_texts(table: &[u8]) -> usize
+    ensures { EndsAt table.now result }
 {
-    let rest = table.get(at as usize..)?;
-    let end = memchr(0, rest)?;
-    Some(&rest[..end])
+    match memrchr(0, table) {
+        None => 0,
+        Some(last) => last + 1,
+    }
+}
+
+/// Whether the text at an index of a string table, up to its NUL, is this one. As many bytes are
+/// read as that one has with its NUL, however far the text goes.
+fn is_text_at(table: &[u8], at: usize, name: &[u8]) -> bool
+    ensures { result ≡ option_map_or (bytes_eq name.now) (text_at table.now at) false }
+{
+    let Some(rest) = table.get(at..) else {
+        return false;
+    };
+    let Some(bytes) = rest.get(..name.len() + 1) else {
+        return false;
+    };
+    if memchr(0, bytes) != Some(name.len()) {
+        return false;
+    }
+    name == &bytes[..name.len()]
 }

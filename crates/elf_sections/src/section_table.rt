@@ -1,7 +1,7 @@
 use crate::entries::{Entries, Entry};
 use crate::file_header::{E_SHENTSIZE, E_SHSTRNDX, FileHeader};
 use crate::header_0::{judge_table_extent, name_index};
-use crate::names::Names;
+use crate::names::{Names, end_of_texts};
 use crate::section_header::SectionHeader;
 use refusal::{Kind, Place, refuse_if};
 
@@ -71,10 +71,17 @@ impl<'a> SectionTable<'a> {
         ensures { Judges (name_table_item file.now) result (AreNames file.now) }
     {
         let Some(header) = self.name_section() else {
-            return Ok(Names { table: None });
+            return Ok(Names {
+                table: None,
+                end: 0,
+            });
         };
         header.judge_extent(file)?;
-        let table = Some(header.piece(file).bytes());
-        Ok(Names { table })
+        let table = header.piece(file).bytes();
+        let end = end_of_texts(table);
+        Ok(Names {
+            table: Some(table),
+            end,
+        })
     }
 }

@@ -1,6 +1,7 @@
 pub mod Items
 pub mod LimitLemmas
 pub mod ProgramLemmas
+pub mod SharedLemmas
 pub mod TableLemmas
 pub mod SectionLemmas
 pub mod NumberLemmas

@@ -1,5 +1,5 @@
 -- The rest of a section.
-use Rattle.std.proofs.Common.{◌≡◌, ◌≤◌, ◌<◌, ◌+◌, ◌-◌, ℕ, List, take, drop, length, refl, ap, sym, ◌∙◌, arith}
+use Rattle.std.proofs.Common.{◌≡◌, ◌≤◌, ◌+◌, ◌-◌, ℕ, List, take, drop, length, ap, sym, ◌∙◌, arith}
 use Rattle.std.proofs.lemmas.List.{drop-take, drop-drop, length-drop, length-take}
 use Rattle.byte_view.specs.declared.part.Part.{Part}
 use Rattle.byte_view.specs.Part.{bytes_of_part}

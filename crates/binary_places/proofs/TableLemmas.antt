@@ -1,9 +1,9 @@
 -- The tables of the units so far.
-use Rattle.std.proofs.Common.{◌≡◌, ◌≤◌, ◌<◌, ◌+◌, ℕ, zero, suc, List, [], ◌∷◌, ◌++◌, length, drop, Option, None, Some, Result, Ok, Err, refl, sym, ap, subst, ◌∙◌, add-one, arith, nat_lt, Bool, true, false}
-use Rattle.std.specs.Prelude.{map, sum_by, if◌then◌else◌}
+use Rattle.std.proofs.Common.{◌≡◌, ◌≤◌, ◌<◌, ◌+◌, ℕ, zero, suc, List, [], ◌∷◌, ◌++◌, length, drop, Option, None, Some, Result, Ok, Err, refl, sym, ap, subst, ◌∙◌, add-one, arith, nat_lt, Bool, true, false, length-append}
+use Rattle.std.specs.Prelude.{map, if◌then◌else◌}
 use Rattle.std.specs.Option.{option_map, option_map_or}
 use Rattle.std.specs.Result.{IsErrAnd, result_err}
-use Rattle.std.specs.Global.{Vec}
+use Rattle.std.specs.BTreeMap.{BTreeMap}
 use Rattle.std.proofs.lemmas.List.{drop_all}
 use Rattle.std.proofs.lemmas.List.Sums.{sum_by_push}
 use Rattle.refusal.specs.declared.place.Place.{Place}
@@ -19,8 +19,11 @@ use Rattle.line_model.specs.declared.row.Row.{Row}
 use Rattle.line_model.specs.Fields.{Judged, ◌>>=◌}
 use Rattle.line_model.specs.Program.{max_rows_of_all, rows_at}
 use Rattle.row_model.specs.Rows.{Sequence, live_sequences}
-use Rattle.binary_model.specs.LinePrograms.{next_rows, row_count, rows_behind, rows_by, rows_from, rows_if, rows_of_unit, rows_of_units}
-use Rattle.binary_places.specs.Tables.{AreTables, AreTablesOf, GivesRowsIfAny, items_of}
+use Rattle.binary_model.specs.LinePrograms.{row_count, rows_behind, rows_by, rows_from, rows_if, rows_of_unit, rows_of_units}
+use Rattle.binary_places.specs.declared.programs.Named.{Named}
+use Rattle.binary_places.specs.declared.shared.Known.{Known}
+use Rattle.binary_places.specs.Shared.{GivesUnitRows}
+use Rattle.binary_places.specs.Tables.{AreTables, AreTablesOf, rows_named}
 use Rattle.binary_places.proofs.LimitLemmas.{rows_within}
 
 -- ---- the rows of one unit are not too many
@@ -71,6 +74,7 @@ pub record TablesSoFar (file : List ℕ) (section : Option Cursor) (told : Units
   pub now : List (Option (List Row))
   pub reached : rows_of_units section told ≡ rows_behind section told place (drop place told.units) now
   pub is : AreTablesOf file now tables
+  pub long : length tables ≡ place
   pub counted : before ≡ row_count now
   pub few : before ≤ max_rows_of_all
 
@@ -85,7 +89,7 @@ map-push f (y ∷ xs) x = ap (λ ys. f y ∷ ys) (map-push f xs x)
 
 pub TablesSoFar-start : (file : List ℕ) (section : Option Cursor) (told : Units) (tables : List (Option (List Sequence))) → tables ≡ [] → TablesSoFar file section told 0 0 tables
 unfolding rows_of_units
-TablesSoFar-start file section told tables none = record { now = []; reached = refl; is = none; counted = refl; few = omega arith }
+TablesSoFar-start file section told tables none = record { now = []; reached = refl; is = none; long = ap length none; counted = refl; few = omega arith }
 
 -- one unit is read
 one : (section : Option Cursor) (told : Units) (place : ℕ) (unit : Unit) (rest : List Unit) (now : List (Option (List Row))) (before : ℕ) (read : Judged (Option (List Row)))
@@ -105,19 +109,22 @@ reach file section told place before tables so_far read within is =
     ∙ one section told place there.0 (drop (suc place) told.units) so_far.now before read so_far.counted is
     ∙ ap (λ n. (read >>= λ rows. Ok (so_far.now ++ rows ∷ [])) >>= rows_behind section told (place + 1) (drop n told.units)) (sym (add-one place))
 
-pub TablesSoFar-more : (file : List ℕ) (section : Option Cursor) (told : Units) (place before : ℕ) (tables : List (Option (List Sequence))) (rows : Option (Vec Row)) (table : Option (List Sequence))
-    → TablesSoFar file section told place before tables → place < length told.units → GivesRowsIfAny (Ok rows) (rows_of_unit section told place before)
-    → table ≡ option_map (live_sequences file) (items_of rows)
-    → TablesSoFar file section told (place + 1) (before + option_map_or length (items_of rows) 0) (tables ++ table ∷ [])
-TablesSoFar-more file section told place before tables rows table so_far within read is =
-    let sums = sum_by_push (λ rows. option_map_or length rows 0) so_far.now (items_of rows) in
+pub TablesSoFar-more : (file : List ℕ) (section : Option Cursor) (told : Units) (place before rows : ℕ) (tables : List (Option (List Sequence))) (all : Option (List Row)) (table : Option (List Sequence))
+    → TablesSoFar file section told place before tables → place < length told.units → rows_of_unit section told place before ≡ Ok all
+    → table ≡ option_map (live_sequences file) all → rows ≡ count all
+    → TablesSoFar file section told (place + 1) (before + rows) (tables ++ table ∷ [])
+TablesSoFar-more file section told place before rows tables all table so_far within read is counts =
+    let sums = sum_by_push (λ rows. option_map_or length rows 0) so_far.now all in
+    let more = length-append tables (table ∷ []) in
+    let within_all = unit_within before section told place all so_far.few read in
     record {
-      now = so_far.now ++ items_of rows ∷ [];
-      reached = reach file section told place before tables so_far (Ok (items_of rows)) within read;
+      now = so_far.now ++ all ∷ [];
+      reached = reach file section told place before tables so_far (Ok all) within read;
       is = ap (λ ts. ts ++ table ∷ []) so_far.is ∙ ap (λ t. map (option_map (live_sequences file)) so_far.now ++ t ∷ []) is
-          ∙ sym (map-push (option_map (live_sequences file)) so_far.now (items_of rows));
-      counted = ap (λ n. n + option_map_or length (items_of rows) 0) so_far.counted ∙ sym sums;
-      few = unit_within before section told place (items_of rows) so_far.few read;
+          ∙ sym (map-push (option_map (live_sequences file)) so_far.now all);
+      long = omega (arith, more, so_far.long);
+      counted = ap (λ n. before + n) counts ∙ ap (λ n. n + count all) so_far.counted ∙ sym sums;
+      few = omega (arith, within_all, counts);
     }
 
 judged : (file : List ℕ) (told : Judged (List (Option (List Row)))) (units : List (Option (List Row))) (tables : List (Option (List Sequence))) → told ≡ Ok units → AreTablesOf file units tables
@@ -131,11 +138,14 @@ TablesSoFar-end file section told place before tables so_far past =
     judged file (rows_of_units section told) so_far.now tables
     (so_far.reached ∙ ap (λ us. rows_behind section told place us so_far.now) (drop_all place told.units past)) so_far.is
 
-pub TablesSoFar-stop : (file : List ℕ) (section : Option Cursor) (told : Units) (place before : ℕ) (tables : List (Option (List Sequence))) (why : Stop) {T : Type 0} (P : T → Type 0) (r : Result T Stop)
-    → TablesSoFar file section told place before tables → place < length told.units → GivesRowsIfAny (Err why) (rows_of_unit section told place before)
+pub TablesSoFar-stop : (file : List ℕ) (section : Option Cursor) (told : Units) (place before : ℕ) (tables : List (Option (List Sequence))) (known : BTreeMap ℕ Known) (program : Option Named) (why : Stop)
+    {T : Type 0} (P : T → Type 0) (r : Result T Stop) → TablesSoFar file section told place before tables → place < length told.units
+    → rows_of_unit section told place before ≡ rows_named before section program → GivesUnitRows section known before program (Err why)
     → IsErrAnd r (λ s. s ≡ why) → JudgesUnlessNoMemory (result_err (rows_of_units section told)) r P
-TablesSoFar-stop file section told place before tables why {T} P (Ok x) so_far within read stops = absurd stops
-TablesSoFar-stop file section told place before tables why {T} P (Err NoMemory) so_far within read stops = tt
-TablesSoFar-stop file section told place before tables why {T} P (Err (Refused bad)) so_far within read stops =
-    let refused = subst (λ w. GivesRowsIfAny (Err w) (rows_of_unit section told place before)) (sym stops) read in
-    ap result_err (reach file section told place before tables so_far (Err bad) within refused)
+TablesSoFar-stop file section told place before tables known program why {T} P (Ok x) so_far within is gives stops = absurd stops
+TablesSoFar-stop file section told place before tables known program why {T} P (Err NoMemory) so_far within is gives stops = tt
+TablesSoFar-stop file section told place before tables known None why {T} P (Err (Refused bad)) so_far within is gives stops = absurd cc
+TablesSoFar-stop file section told place before tables known (Some program) why {T} P (Err (Refused bad)) so_far within is gives stops =
+    let refused = subst (λ w. GivesUnitRows section known before (Some program) (Err w)) (sym stops) gives in
+    ap result_err (reach file section told place before tables so_far (Err bad) within
+    (is ∙ ap (λ (r : Judged (List Row)). r >>= λ rows. Ok (Some rows)) refused))

@@ -1,4 +1,5 @@
 pub mod Sections
 pub mod Tables
+pub mod Shared
 pub mod Binary
 pub mod Laws

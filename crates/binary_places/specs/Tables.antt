@@ -1,31 +1,31 @@
 -- The tables of rows that the code has made.
-use Rattle.std.specs.Prelude.{◌≡◌, ℕ, ◌≤◌, ◌<◌, ◌+◌, List, map, length, Option, None, Some, Result, Ok, Err, ⊤}
-use Rattle.std.specs.Option.{option_map, option_map_or}
-use Rattle.std.specs.Global.{Vec}
-use Rattle.refusal.specs.declared.place.Place.{Place}
-use Rattle.refusal.specs.declared.place.Stop.{Stop}
-use Rattle.refusal.specs.declared.place.Stop.TheVariants.{Refused, NoMemory}
+use Rattle.std.specs.Prelude.{◌≡◌, ℕ, ◌≤◌, ◌<◌, List, map, length, Option, None, Some, Ok}
+use Rattle.std.specs.Option.{option_map}
 use Rattle.byte_view.specs.declared.part.Part.{Part}
 use Rattle.byte_view.specs.Cursor.{Cursor}
 use Rattle.placed_view.specs.Reader.{cursor_behind, start_of}
 use Rattle.line_model.specs.declared.row.Row.{Row}
-use Rattle.line_model.specs.Fields.{Judged}
+use Rattle.line_model.specs.Fields.{Judged, ◌>>=◌}
 use Rattle.row_model.specs.Rows.{Sequence, live_sequences}
+use Rattle.unit_model.specs.Units.{Units}
+use Rattle.binary_model.specs.LinePrograms.{rows_from, rows_of_unit}
+use Rattle.binary_places.specs.declared.programs.Named.{Named}
 
 -- The rest of a section from an offset on; none exactly past the section's end.
 abbrev pub IsRest : Cursor → ℕ → Option Part → Type 0
 IsRest section offset None = length section.left < offset
 IsRest section offset (Some rest) = (offset ≤ length section.left) × (start_of rest ≡ cursor_behind offset section)
 
--- The rows, where there are any.
-abbrev pub items_of : Option (Vec Row) → Option (List Row)
-items_of rows = option_map (λ vec. vec.items) rows
+-- The rows of the program that a unit names, if it names one, where so many rows stand before.
+abbrev pub rows_named : ℕ → Option Cursor → Option Named → Judged (Option (List Row))
+rows_named before section None = Ok None
+rows_named before section (Some program) =
+    rows_from before section program.at program.offset >>= λ rows. Ok (Some rows)
 
--- The rows of a unit, or the first bad place; memory may be refused.
-abbrev pub GivesRowsIfAny : Result (Option (Vec Row)) Stop → Judged (Option (List Row)) → Type 0
-GivesRowsIfAny (Ok rows) read = read ≡ Ok (items_of rows)
-GivesRowsIfAny (Err (Refused place)) read = read ≡ Err place
-GivesRowsIfAny (Err NoMemory) read = ⊤
+-- The unit at a place among the units names this program, or none.
+abbrev pub IsNamed : Units → ℕ → Option Named → Type 0
+IsNamed told place named =
+    (section : Option Cursor) (before : ℕ) → rows_of_unit section told place before ≡ rows_named before section named
 
 -- Tables of the live sequences of some units' rows.
 abbrev pub AreTablesOf : List ℕ → List (Option (List Row)) → List (Option (List Sequence)) → Type 0

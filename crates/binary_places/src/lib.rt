@@ -8,6 +8,7 @@ mod binary;
 mod laws;
 mod programs;
 mod sections;
+mod shared;
 mod tables;
 
 pub use binary::{Binary, read};

@@ -1,44 +1,50 @@
 // The row tables of all units.
-ghost use Rattle.std.specs.Prelude.{◌≡◌, ◌∷◌, ◌++◌, [], length, IfOk, OnOk};
-ghost use Rattle.std.specs.Option.{option_map, option_map_or};
+ghost use Rattle.std.specs.Prelude.{◌≡◌, ◌<◌, ◌∷◌, ◌++◌, [], length, IfOk, OnOk, Some};
+ghost use Rattle.std.specs.List.{slice_get};
+ghost use Rattle.std.specs.Option.{option_map};
 ghost use Rattle.std.specs.Result.{result_err};
 ghost use Rattle.refusal.specs.Place.{JudgesUnlessNoMemory};
 ghost use Rattle.placed_view.specs.Reader.{start_of};
-ghost use Rattle.row_model.specs.Rows.{live_sequences};
 ghost use Rattle.binary_model.specs.LinePrograms.{rows_of_units};
-ghost use Rattle.binary_places.specs.Tables.{AreTables, items_of};
+ghost use Rattle.binary_places.specs.Shared.{HasTable, IsTable};
+ghost use Rattle.binary_places.specs.Tables.{AreTables};
 
-use crate::programs::rows_of_unit;
+use crate::programs::program_of;
+use crate::shared::{UnitRows, count, keep, rows_of_unit};
 use byte_view::Part;
 use dwarf_info::Units;
 use elf_sections::Elf;
-use line_program::Row;
 use refusal::{NoMemory, Stop};
 use row_table::RowTable;
 use std::alloc::Global;
+use std::collections::BTreeMap;
 
-/// How many rows there are.
-fn count(rows: &Option<Vec<Row>>) -> u64
-    ensures { result ≡ option_map_or length (items_of rows.now) 0 }
+/// The table of the unit at a place among those before, once more.
+fn table_again(tables: &[Option<RowTable>], unit: usize) -> Result<Option<RowTable>, NoMemory>
+    requires { unit < length tables.now }
+    ensures { IfOk result (λ table. slice_get tables.now unit ≡ Some table) }
 {
-    match rows {
-        Some(rows) => rows.len() as u64,
-        None => 0,
+    match &tables[unit] {
+        Some(table) => Ok(Some(table.try_clone()?)),
+        None => Ok(None),
     }
 }
 
-/// The table of a unit's rows, where it has a line program.
+/// The table of a unit's rows, where it has a line program. Those of the units before stand in
+/// `tables`.
 fn table_of(
     alloc: Global,
     elf: &Elf<'_>,
-    rows: &Option<Vec<Row>>,
+    rows: &UnitRows,
+    tables: &[Option<RowTable>],
 ) -> Result<Option<RowTable>, NoMemory>
-    ensures { IfOk result (λ table.
-        table ≡ option_map (live_sequences elf.now) (items_of rows.now)) }
+    requires { HasTable (length tables.now) rows.now }
+    ensures { IfOk result (IsTable elf.now tables.now rows.now) }
 {
     match rows {
-        Some(rows) => Ok(Some(RowTable::make(alloc, rows, elf)?)),
-        None => Ok(None),
+        UnitRows::Absent => Ok(None),
+        UnitRows::Read(_, rows) => Ok(Some(RowTable::make(alloc, rows, elf)?)),
+        UnitRows::Again(known) => table_again(tables, known.unit),
     }
 }
 
@@ -54,7 +60,7 @@ fn push(tables: &mut Vec<Option<RowTable>>, table: Option<RowTable>) -> Result<(
 ///
 /// # Errors
 /// The first bad place of the units' line programs, in the order of the units. The limit of rows is
-/// one for all of them.
+/// one for all of them; those of a program that several units name count for each.
 pub(crate) fn read_tables(
     alloc: Global,
     elf: &Elf<'_>,
@@ -66,10 +72,14 @@ pub(crate) fn read_tables(
         (λ tables. AreTables elf.now told tables.items) }
 {
     let mut tables = Vec::new(alloc);
+    let mut known = BTreeMap::new(alloc);
     let mut before = 0;
     for place in 0..units.units().len() {
-        let rows = rows_of_unit(alloc, units, place as u32, line, before)?;
-        push(&mut tables, table_of(alloc, elf, &rows)?)?;
+        let program = program_of(units, place as u32);
+        let rows = rows_of_unit(alloc, line, program, &known, before)?;
+        let table = table_of(alloc, elf, &rows, &tables)?;
+        keep(&mut known, place, &rows)?;
+        push(&mut tables, table)?;
         before += count(&rows);
     }
     Ok(tables)

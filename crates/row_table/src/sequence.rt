@@ -12,7 +12,7 @@ use std::marker::Model;
 /// A sequence: its rows, and the row that ends it.
 ///
 /// Source: DWARF 5, section 6.2.5.3, `DW_LNE_end_sequence`.
-#[derive(Debug, Drop)]
+#[derive(Clone, Debug, Drop)]
 pub(crate) struct Sequence {
     pub rows: Vec<Row>,
     pub end: Row,

@@ -60,6 +60,23 @@ impl RowTable {
         })
     }
 
+    /// The same table once more.
+    ///
+    /// # Errors
+    /// `NoMemory`.
+    pub fn try_clone(&self) -> Result<RowTable, NoMemory>
+        ensures { IfOk result (λ table. table ≡ self.now) }
+    {
+        let sequences = self.sequences.clone()?;
+        let spans = self.spans.clone()?;
+        let cuts = self.cuts.clone()?;
+        Ok(RowTable {
+            sequences,
+            spans,
+            cuts,
+        })
+    }
+
     /// Line and discriminator of an address: in the first sequence that holds it those of the last
     /// row whose address is not above it.
     pub fn row_at(&self, address: u64) -> Option<RowData>

@@ -1,7 +1,10 @@
 use Rattle.std.specs.Option.{option_map}
 use Rattle.placed_view.specs.Reader.{start_of}
+use Rattle.binary_places.proofs.SharedLemmas.{AreKnown}
 use Rattle.binary_places.proofs.TableLemmas.{TablesSoFar}
 use Rattle.binary_places.proofs.tables.read_tables.Given as goal
 
 abbrev pub invariant-loop-place : goal.invariant-loop-place
-invariant-loop-place l = TablesSoFar l.elf (option_map start_of l.line) l.units l.place l.before l.tables.items
+invariant-loop-place l =
+    TablesSoFar l.elf (option_map start_of l.line) l.units l.place l.before l.tables.items
+    × AreKnown l.elf (option_map start_of l.line) l.tables.items l.known

@@ -66,27 +66,6 @@ pub behind_where-none : (test : List ℕ → Bool) (bytes text : List ℕ) → l
 behind_where-none test bytes [] none = refl
 behind_where-none test bytes (b ∷ text) none = absurd (omega arith)
 
--- ---- the last load
-
-pub last_load-push : (before : List Load) (load : Load) (all : List Load) (address : ℕ) → all ≡ before ++ load ∷ [] → last_load all address ≡ find (holds address) (load ∷ reverse before)
-last_load-push before load all address is = ap (λ (ls : List Load). find (holds address) (reverse ls)) is ∙ ap (find (holds address)) (reverse-append before (load ∷ []))
-
-pub last_load-holds : (before : List Load) (load : Load) (all : List Load) (address : ℕ) → all ≡ before ++ load ∷ [] → holds address load ≡ true → last_load all address ≡ Some load
-last_load-holds before load all address is here = last_load-push before load all address is ∙ first_found (holds address) load (reverse before) here
-  where
-    first_found : (p : Load → Bool) (x : Load) (xs : List Load) → p x ≡ true → find p (x ∷ xs) ≡ Some x
-    first_found p x xs here = rw here refl
-
-pub last_load-before : (before : List Load) (load : Load) (all : List Load) (address : ℕ) → all ≡ before ++ load ∷ [] → holds address load ≡ false → last_load before address ≡ last_load all address
-last_load-before before load all address is here = sym (last_load-push before load all address is ∙ passed (holds address) load (reverse before) here)
-  where
-    passed : (p : Load → Bool) (x : Load) (xs : List Load) → p x ≡ false → find p (x ∷ xs) ≡ find p xs
-    passed p x xs here = rw here refl
-
-pub last_load-none : (all : List Load) (address : ℕ) → length all ≡ 0 → last_load all address ≡ None
-last_load-none [] address none = refl
-last_load-none (load ∷ all) address none = absurd (omega arith)
-
 -- ---- a line with branches is no load line
 
 found_front : (test : List ℕ → Bool) (bytes text rest : List ℕ) → behind_where test bytes text ≡ Some rest → contains text bytes ≡ true

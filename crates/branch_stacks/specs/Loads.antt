@@ -18,7 +18,7 @@ map_of loads = option_map map_in loads
 
 -- The loads that were met so far.
 abbrev pub met_of : Option Loads → List Load
-met_of loads = option_map_or (λ l. l.met.items) loads []
+met_of loads = option_map_or (λ l. l.met) loads []
 
 -- The loads that lines tell of, which count where addresses are moved.
 abbrev pub met_in : Option LoadMap → List (List ℕ) → List Load

@@ -32,6 +32,14 @@ impl From<AllocError> for CountsStop {
     }
 }
 
+impl From<NoMemory> for CountsStop {
+    ghost from_gives = { λ _ stop. stop ≡ no_memory };
+
+    fn from(_: NoMemory) -> Self {
+        CountsStop::NoMemory
+    }
+}
+
 /// How often each distinct branch, and each distinct range between two branches of a sample, was
 /// counted. Ranges are counted or left out, as the counts were made.
 #[derive(Debug, Drop)]

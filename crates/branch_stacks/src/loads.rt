@@ -1,5 +1,5 @@
 // What a text has told of the loads of a program, and the addresses that they move.
-ghost use Rattle.std.specs.Prelude.{◌≡◌, ◌++◌, ◌∷◌, [], Some, true, map, IfOk, IfSome, OnErr, OnOk, IsErrOf, ◌+◌, ◌<◌, ◌≤◌, length, vec_len, vec_capacity};
+ghost use Rattle.std.specs.Prelude.{◌≡◌, ◌++◌, ◌∷◌, [], Some, true, map, IfOk, OnErr, OnOk, IsErrOf, ◌+◌, ◌<◌, ◌≤◌, length, vec_len, vec_capacity};
 ghost use Rattle.load_model.specs.Segments as loading;
 ghost use Rattle.sample_model.specs.Limits.{max_branches};
 ghost use Rattle.sample_model.specs.Line.{branches_of_line};
@@ -10,7 +10,9 @@ ghost use Rattle.branch_stacks.specs.Tally.{total_of};
 
 use crate::counts::{Counts, CountsStop};
 use crate::load_line::load_line;
+use load_index::LoadIndex;
 use load_model::LoadSegment;
+use refusal::NoMemory;
 use sample_model::Load;
 use std::alloc::{AllocError, Global};
 
@@ -22,7 +24,7 @@ pub(crate) struct Loads {
     /// Its segments of code.
     pub segments: Vec<LoadSegment>,
     /// The loads, as the lines tell of them.
-    pub met: Vec<Load>,
+    pub met: LoadIndex,
     /// The moved branches of one sample, newest first.
     branches: Vec<(u64, u64)>,
     /// The ranges between them.
@@ -33,12 +35,12 @@ impl Loads {
     /// No loads yet, of a program whose file has this name and these segments of code.
     pub fn new(alloc: Global, name: &[u8], segments: &[LoadSegment]) -> Result<Loads, AllocError>
         ensures { IfOk result (λ loads. (loads.name.items ≡ name.now)
-            × (loads.segments.items ≡ segments.now) × (loads.met.items ≡ [])) }
+            × (loads.segments.items ≡ segments.now) × (loads.met ≡ [])) }
     {
         Ok(Loads {
             name: Vec::from_slice(alloc, name)?,
             segments: Vec::from_slice(alloc, segments)?,
-            met: Vec::new(alloc),
+            met: LoadIndex::new(alloc),
             branches: Vec::new(alloc),
             ranges: Vec::new(alloc),
         })
@@ -58,9 +60,9 @@ impl Loads {
     ) -> Result<(), CountsStop>
         requires { branches.now ≡ branches_of_line line.now }
         ensures added { OnOk result
-            (AddsLine (Some (map_in self.old)) self.old.met.items counts.old counts.new line.now) }
-        ensures met { OnOk result (self.new.met.items
-            ≡ self.old.met.items ++ loads_of self.old.name.items (line.now ∷ [])) }
+            (AddsLine (Some (map_in self.old)) self.old.met counts.old counts.new line.now) }
+        ensures met { OnOk result (self.new.met
+            ≡ self.old.met ++ loads_of self.old.name.items (line.now ∷ [])) }
         ensures same { OnOk result (map_in self.new ≡ map_in self.old) }
         ensures fits { OnOk result (total_of counts.old + length branches.now ≤ max_branches) }
         ensures too_many { IsErrOf result CountsStop.TooMany
@@ -75,9 +77,9 @@ impl Loads {
     }
 
     /// Takes the load that a line tells of, if it is a load line.
-    fn meet(&mut self, line: &[u8]) -> Result<(), AllocError>
-        ensures met { OnOk result (self.new.met.items
-            ≡ self.old.met.items ++ loads_of self.old.name.items (line.now ∷ [])) }
+    pub fn meet(&mut self, line: &[u8]) -> Result<(), NoMemory>
+        ensures met { OnOk result (self.new.met
+            ≡ self.old.met ++ loads_of self.old.name.items (line.now ∷ [])) }
         ensures same { map_in self.new ≡ map_in self.old }
     {
         if let Some(told) = load_line(line) {
@@ -92,14 +94,15 @@ impl Loads {
     }
 
     /// Moves the branches of a sample, newest first, and makes the ranges between them.
-    fn move_branches(&mut self, branches: &[(u64, u64)]) -> Result<(), AllocError>
+    fn move_branches(&mut self, branches: &[(u64, u64)]) -> Result<(), NoMemory>
         ensures branches { OnOk result (let moved = map
-            (moves.moved_branch self.old.segments.items self.old.met.items) branches.now in
+            (moves.moved_branch self.old.segments.items self.old.met) branches.now in
             (self.new.branches.items ≡ map moves.counted_branch moved)
             × (self.new.ranges.items ≡ moves.moved_ranges moved)) }
         ensures same { (map_in self.new ≡ map_in self.old)
-            × (self.new.met.items ≡ self.old.met.items) }
+            × (self.new.met ≡ self.old.met) }
     {
+        self.met.prepare(branches.len().saturating_mul(2))?;
         self.branches.clear();
         self.ranges.clear();
         self.branches.try_reserve(branches.len())?;
@@ -118,38 +121,15 @@ impl Loads {
     /// The address of the program that ran at an address, unless that is foreign.
     #[tactic(auto, unfolding(sample_model::specs::Moves::move_of))]
     fn move_of(&self, address: u64) -> Option<u64>
-        ensures { result ≡ moves.move_of self.now.segments.items self.now.met.items address }
+        ensures { result ≡ moves.move_of self.now.segments.items self.now.met address }
     {
-        let load = self.last_load(address)?;
+        let load = self.met.last(address)?;
         if !load.is_wanted {
             return None;
         }
         let offset = u128::from(address - load.start) + u128::from(load.offset);
         address_of_offset(&self.segments, offset)
     }
-
-    /// The last load that holds an address.
-    fn last_load(&self, address: u64) -> Option<Load>
-        ensures last { result ≡ moves.last_load self.now.met.items address }
-        ensures holds { IfSome result (λ load. load.start ≤ address) }
-    {
-        let mut rest = self.met.as_slice();
-        while let Some((load, before)) = rest.split_last() {
-            if holds(load, address) {
-                return Some(*load);
-            }
-            rest = before;
-        }
-        None
-    }
-}
-
-/// Whether an address is one of those that were loaded.
-fn holds(load: &Load, address: u64) -> bool
-    ensures value { result ≡ moves.holds address load.now }
-    ensures start { result ≡ true → load.now.start ≤ address }
-{
-    load.start <= address && address - load.start < load.len
 }
 
 /// The address at which the byte at an offset in the file is loaded: in the first segment that has

@@ -85,3 +85,8 @@ moving_all prices marks order limit now k ordered past nearest so_far side = by_
           | inl near ↦ let clash : true ≡ false = sym (nearest side near) ∙ open_side in absurd (cc)
           | inr beyond ↦ omega (arith, ints, same, beyond)
         ]
+
+-- no side is nearer than 0
+pub moving_by_none : (prices : List ℤ) (marks : List (Option Mark)) (limit : ℕ) → limit ≡ 0
+    → (side : ℕ) → price_at prices side ≡ moved (price_at prices) (distance_at marks) limit side
+moving_by_none prices marks limit none side = omega (arith, ints, none)

@@ -8,7 +8,7 @@ ghost use Rattle.residual_model.specs.Residual.{moved};
 use reached_sides::Marks;
 
 /// Lowers the price of each side by what it is nearer than a limit; only settled sides are, which
-/// the order lists.
+/// the order lists. Most searches end at the distance 0, and move nothing.
 pub(crate) fn move_prices(prices: &mut [i64], marks: &Marks, order: &[u32], limit: u64)
     requires marked { length marks.now ≡ length prices.old }
     requires ordered { AreInOrder marks.now order.now }
@@ -20,6 +20,9 @@ pub(crate) fn move_prices(prices: &mut [i64], marks: &Marks, order: &[u32], limi
     ensures moved { (side : ℕ) → price_at prices.new side
         ≡ moved (price_at prices.old) (distance_at marks.now) limit side }
 {
+    if limit == 0 {
+        return;
+    }
     for side in order {
         prices[*side as usize] -= nearer(marks, *side, limit);
     }

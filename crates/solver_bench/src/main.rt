@@ -3,7 +3,8 @@
 //! `solver_bench chain BLOCKS TIMES` solves a chain of so many blocks, of which the first was
 //! sampled once; `solver_bench diamonds BLOCKS TIMES` a row of choices of two ways, whose weights
 //! are off by a few per cent; `solver_bench jumps BLOCKS TIMES` blocks of which every second one
-//! jumps ahead, with such weights. It prints how many networks were solved and what their counts cost.
+//! jumps ahead, with such weights; `solver_bench mixed FUNCTIONS TIMES` so many functions of 5 to
+//! 200 such blocks. It prints how many times each was solved and what the counts cost.
 #![tactic(auto)]
 
 mod shapes;
@@ -28,16 +29,34 @@ fn main(rt: HostRuntime) -> ExitCode {
 /// Does what the words say, if it can be done.
 fn measure<R: AllocGlobal + Env + Print>(rt: &R) -> Option<()> {
     let mut room = [0; WORD];
-    let blocks = word(rt, 2, &mut room)?.parse::<u32>().ok()?;
+    let size = word(rt, 2, &mut room)?.parse::<u32>().ok()?;
     let times = word(rt, 3, &mut room)?.parse::<u32>().ok()?;
-    let net = match word(rt, 1, &mut room)? {
-        "chain" => shapes::chain(rt.alloc(), blocks).ok()?,
-        "jumps" => shapes::jumps(rt.alloc(), blocks).ok()?,
-        "diamonds" => shapes::diamonds(rt.alloc(), blocks).ok()?,
+    let costs = costs_of(rt.alloc(), word(rt, 1, &mut room)?, size, times)?;
+    println!(rt; "{times} times solved, of cost {costs}").ok()
+}
+
+/// What the least counts of a shape cost, solved so many times; `None` for an unknown shape, and
+/// for want of memory.
+fn costs_of(alloc: Global, shape: &str, size: u32, times: u32) -> Option<u128> {
+    let net = match shape {
+        "chain" => shapes::chain(alloc, size).ok()?,
+        "jumps" => shapes::jumps(alloc, size).ok()?,
+        "diamonds" => shapes::diamonds(alloc, size).ok()?,
+        "mixed" => return solved_each(alloc, size, times).ok(),
         _ => return None,
     };
-    let costs = solved(rt.alloc(), &net, times).ok()?;
-    println!(rt; "{times} solved, each of cost {costs}").ok()
+    solved(alloc, &net, times).ok()
+}
+
+/// What the least counts of so many functions of 5 to 200 blocks cost together, each solved so many
+/// times.
+fn solved_each(alloc: Global, functions: u32, times: u32) -> Result<u128, NoMemory> {
+    let mut costs: u128 = 0;
+    for number in 0..functions {
+        let net = shapes::jumps(alloc, shapes::size_of(number))?;
+        costs = costs.saturating_add(solved(alloc, &net, times)?);
+    }
+    Ok(costs)
 }
 
 /// What the least counts cost, solved so many times; 0 for a cut.

@@ -62,6 +62,11 @@ pub(crate) fn jumps(alloc: Global, size: u32) -> Result<Net, NoMemory> {
     made(alloc, blocks, edges, &weights, &edge_weights)
 }
 
+/// How many blocks the function with this number has: 5 to 200.
+pub(crate) fn size_of(function: u32) -> u32 {
+    5 + (mixed(u64::from(function)) % 196) as u32
+}
+
 /// The edges from one block on.
 fn fork(edges: &mut Vec<Edge>, count: u32, from: u32) -> Result<(), NoMemory>
     requires some { 0 < count }

@@ -1,7 +1,7 @@
 use Rattle.std.proofs.Common.{arith, get_or}
 use Rattle.std.specs.Prelude.{pos}
 use Rattle.std.proofs.lemmas.Int.{ints}
-use Rattle.flow_solver.proofs.PriceLemmas.{settled_inside, still_small, moving_none, moving_more, moving_all}
+use Rattle.flow_solver.proofs.PriceLemmas.{settled_inside, still_small, moving_none, moving_more, moving_all, moving_by_none}
 use Rattle.flow_solver.proofs.prices.move_prices.Goals as goal
 
 pub loop-side-init : goal.loop-side-init
@@ -24,3 +24,6 @@ loop-side-preserved c =
     let by = c.nearer.ensures in
     moving_more c.args.prices.now c.args.marks.now order c.args.limit c.loop-side.prices c.loop-side.side-index _ c.requires.ordered c.loop-side-test.true
     (omega (arith, inside, marked, long)) (omega (arith, ints, same, small.least, small.most, limit, by)) c.loop-side.invariant
+
+pub returns-then-limit-eq0-clause-moved : goal.returns-then-limit-eq0-clause-moved
+returns-then-limit-eq0-clause-moved c = moving_by_none _ _ _ c.if-limit-eq0.true

@@ -1,2 +1,3 @@
+pub mod KeyWayLemmas
 pub mod SampleLemmas
 pub mod ShownLemmas

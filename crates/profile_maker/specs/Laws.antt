@@ -4,7 +4,10 @@ use Rattle.context_map.specs.Maps.{entry_told, place_told}
 use Rattle.function_stretches.specs.Stretches.{function_at}
 use Rattle.binary_places.specs.Binary.{IsBinary}
 use Rattle.binary_places.specs.declared.binary.Binary.{Binary}
+use Rattle.report_model.specs.Report.{Sampled}
+use Rattle.profile_laws.specs.Totals.{HasKeyWays}
 use Rattle.sampled_profile.specs.Program.{program_of}
+use Rattle.sampled_profile.specs.Sampled.{profile_of}
 use Rattle.profile_writer.specs.Shown.{ShowsProgram}
 
 -- The map of a binary shows the program in it.
@@ -13,3 +16,8 @@ BinariesShowPrograms =
     (file : List ℕ) (base : Bool) (binary : Binary) → IsBinary file base binary
     → ShowsProgram (program_of file base) binary.names binary.keys binary.map.segments
     (place_told binary.map) (λ address. function_at binary.map.stretches address) (entry_told binary.map)
+
+-- Of a binary each way with a count is that of a key, so totals add up.
+abbrev pub KeyWaysAreTold : Type 0
+KeyWaysAreTold =
+    (file : List ℕ) (base : Bool) (sampled : Sampled) → HasKeyWays (profile_of (program_of file base) sampled)

@@ -5,5 +5,5 @@
 mod laws;
 mod maker;
 
-pub use laws::binaries_show_programs;
+pub use laws::{binaries_show_programs, key_ways_are_told};
 pub use maker::make;

@@ -30,16 +30,16 @@ options_of words = take (option_count words) words
 abbrev pub operands_of : List (List ℕ) → List (List ℕ)
 operands_of words = drop (option_count words) words
 
+-- The option `--base`.
+abbrev pub is_base : List ℕ → Bool
+is_base option = bytes_eq option (codes "--base")
+
 -- Whether bases are asked for, by the options of a command that has `--base` alone. No other word is an option of it,
 -- and none stands twice.
 abbrev pub base_asked : List (List ℕ) → Option Bool
 base_asked [] = Some false
-base_asked (option ∷ []) = if bytes_eq option (codes "--base") then Some true else None
+base_asked (option ∷ []) = if is_base option then Some true else None
 base_asked _ = None
-
--- The option `--base`.
-abbrev pub is_base : List ℕ → Bool
-is_base option = bytes_eq option (codes "--base")
 
 -- The name in an option `--map=NAME`, which is not empty.
 unfoldable pub map_name : List ℕ → Option (List ℕ)

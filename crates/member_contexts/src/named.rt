@@ -28,7 +28,8 @@ pub(crate) fn push_frame(
     call: &Member,
 ) -> Result<bool, NoMemory>
     ensures { IfOk result (λ named. told named calls.new.items
-        ≡ option_map (λ name. calls.old.items ++ frame_of base start call.now name ∷ []) call.now.name) }
+        ≡ option_map (λ name. calls.old.items ++ frame_of base start call.now name ∷ [])
+        call.now.name) }
 {
     let Some(name) = call.name else {
         return Ok(false);

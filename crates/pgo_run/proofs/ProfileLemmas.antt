@@ -20,7 +20,7 @@ use Rattle.sampled_profile.specs.Program.{program_of}
 use Rattle.command_model.specs.Command.{profile}
 use Rattle.binary_model.specs.Binary.{first_bad_of_binary}
 use Rattle.command_model.specs.Answer.{Answer, no_such_file, refused, writes, unless_bad, with_file, with_looked_up}
-use Rattle.pgo_run.specs.Output.{AreGoodBefore, IfReadFault, IsFaultOf, Makes, OpensFile, ReadsFile}
+use Rattle.pgo_run.specs.Output.{AreGoodBefore, IfReadFault, IsOfFile, Makes, OpensFile, ReadsFile}
 use Rattle.pgo_run.specs.BranchText.{JudgesText}
 use Rattle.pgo_run.specs.Profile.{Sampled, SamplesFile}
 use Rattle.pgo_run.specs.declared.halt.Halt.{Halt}
@@ -96,7 +96,7 @@ unread-nothing (Some files) P (Err h) stops = subst (λ x. IfReadFault {A = Vec 
 
 -- behind a good binary file 2 can fail
 good-before : (A : Type 0) (files : Store) (map : Option (List ℕ)) (base : Bool) (bin perf bytes : List ℕ) (h : Halt) → files bin ≡ Some bytes → first_bad_of_binary bytes ≡ None
-    → IsFaultOf {A = A} 2 (Err h) → IfReadFault {A = Vec ℕ} (Err h) (AreGoodBefore files (profile map base bin perf))
+    → IsOfFile {A = A} 2 (Err h) → IfReadFault {A = Vec ℕ} (Err h) (AreGoodBefore files (profile map base bin perf))
 good-before A files map base bin perf bytes (NoSuchFile j) there good second = tt
 good-before A files map base bin perf bytes (Refused place) there good second = tt
 good-before A files map base bin perf bytes (ReadFault j) there good second =
@@ -104,7 +104,7 @@ good-before A files map base bin perf bytes (ReadFault j) there good second =
 good-before A files map base bin perf bytes NoMemory there good second = tt
 
 pub good-binary : (A : Type 0) (store : Option Store) (map : Option (List ℕ)) (base : Bool) (bin perf bytes : List ℕ) (h : Halt) (r : Result (Vec ℕ) Halt)
-    → IfSome store (λ files. files bin ≡ Some bytes) → first_bad_of_binary bytes ≡ None → IsFaultOf {A = A} 2 (Err h) → IsErrAnd r (λ x. x ≡ h)
+    → IfSome store (λ files. files bin ≡ Some bytes) → first_bad_of_binary bytes ≡ None → IsOfFile {A = A} 2 (Err h) → IsErrAnd r (λ x. x ≡ h)
     → IfSome store (λ files. IfReadFault r (AreGoodBefore files (profile map base bin perf)))
 good-binary A None map base bin perf bytes h r there good second stops = tt
 good-binary A (Some files) map base bin perf bytes h (Ok out) there good second stops = absurd stops

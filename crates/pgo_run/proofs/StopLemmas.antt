@@ -10,7 +10,7 @@ use Rattle.branch_stacks.specs.Tally.{Tally}
 use Rattle.command_model.specs.Answer.{Answer, unless_bad, with_file, with_looked_up}
 use Rattle.command_model.specs.Command.{Command}
 use Rattle.pgo_run.specs.BranchText.{JudgesText}
-use Rattle.pgo_run.specs.Output.{AreGoodBefore, IfReadFault, IsFaultOf, Makes, OpensFile}
+use Rattle.pgo_run.specs.Output.{AreGoodBefore, IfReadFault, IsOfFile, Makes, OpensFile}
 use Rattle.pgo_run.specs.declared.halt.Halt.{Halt}
 use Rattle.pgo_run.specs.declared.halt.Halt.TheVariants.{NoSuchFile, Refused, ReadFault, NoMemory}
 
@@ -40,14 +40,14 @@ stopped (Some files) name left loading next h tally (Err other) opens is stops =
     (opened-stops (files name) left loading (next files) h tally opens is)
 
 -- Before the first file there is none that could be bad.
-none-before : (files : Store) (command : Command) (h : Halt) → IsFaultOf {A = Unit {0}} 1 (Err h) → IfReadFault {A = Vec ℕ} (Err h) (AreGoodBefore files command)
+none-before : (files : Store) (command : Command) (h : Halt) → IsOfFile {A = Unit {0}} 1 (Err h) → IfReadFault {A = Vec ℕ} (Err h) (AreGoodBefore files command)
 none-before files command (NoSuchFile j) first = tt
 none-before files command (Refused place) first = tt
 none-before files command (ReadFault j) first = subst (λ k. AreGoodBefore files command k) (sym first) tt
 none-before files command NoMemory first = tt
 
 pub first-of-files : (store : Option Store) (command : Command) (h : Halt) (r : Result (Vec ℕ) Halt)
-    → IsFaultOf {A = Unit {0}} 1 (Err h) → IsErrAnd r (λ x. x ≡ h) → IfSome store (λ files. IfReadFault r (AreGoodBefore files command))
+    → IsOfFile {A = Unit {0}} 1 (Err h) → IsErrAnd r (λ x. x ≡ h) → IfSome store (λ files. IfReadFault r (AreGoodBefore files command))
 first-of-files None command h r first stops = tt
 first-of-files (Some files) command h (Ok out) first stops = absurd stops
 first-of-files (Some files) command h (Err other) first stops =

@@ -43,17 +43,17 @@ tells_read_fault (Err (Refused place)) = false
 tells_read_fault (Err (ReadFault j)) = true
 tells_read_fault (Err NoMemory) = false
 
--- It tells it of the k-th file alone.
-abbrev pub IsFaultOf : {A : Type 0} → ℕ → Result A Halt → Type 0
-IsFaultOf k (Ok x) = ⊤
-IsFaultOf k (Err (NoSuchFile j)) = ⊤
-IsFaultOf k (Err (Refused place)) = ⊤
-IsFaultOf k (Err (ReadFault j)) = j ≡ k
-IsFaultOf k (Err NoMemory) = ⊤
+-- A missing file, and one that could not be read, are the k-th one.
+abbrev pub IsOfFile : {A : Type 0} → ℕ → Result A Halt → Type 0
+IsOfFile k (Ok x) = ⊤
+IsOfFile k (Err (NoSuchFile j)) = j ≡ k
+IsOfFile k (Err (Refused place)) = ⊤
+IsOfFile k (Err (ReadFault j)) = j ≡ k
+IsOfFile k (Err NoMemory) = ⊤
 
 -- Where the k-th file could not be read, the inputs' count of faults rose. It is as it was under each other answer.
 abbrev pub HasFileCause : {A : Type 0} → ℕ → ℕ → ℕ → Result A Halt → Type 0
-HasFileCause k before after answer = HasCauseWhere tells_read_fault before after answer × IsFaultOf k answer
+HasFileCause k before after answer = HasCauseWhere tells_read_fault before after answer × IsOfFile k answer
 
 -- What holds of the file that could not be read, where one could not.
 abbrev pub IfReadFault : {A : Type 0} → Result A Halt → (ℕ → Type 0) → Type 0
@@ -63,11 +63,24 @@ IfReadFault (Err (Refused place)) P = ⊤
 IfReadFault (Err (ReadFault j)) P = P j
 IfReadFault (Err NoMemory) P = ⊤
 
--- k is the number of one of the command's files, and k files were opened; a count of opens stands still at its end.
+-- A count of opens, after so many more; it stands still at its end.
+abbrev pub opens_behind : ℕ → ℕ → ℕ
+opens_behind opens more = min (opens + more) (2 ^ 64 - 1)
+
+-- k is the number of one of the command's files, and k files were opened.
 pub record Reaches (command : Command) (k opens opens_after : ℕ) : Type 0 where
   pub first : 0 < k
   pub last : k ≤ length (files_of command)
-  pub opened : opens_after ≡ min (opens + k) (2 ^ 64 - 1)
+  pub opened : opens_after ≡ opens_behind opens k
+
+-- As many files were opened as what ends the command tells: all of its files for an output, those up to a file that is
+-- missing or could not be read, and else not more than it has.
+abbrev pub HasOpened : {A : Type 0} → Command → Result A Halt → ℕ → ℕ → Type 0
+HasOpened command (Ok x) opens opens_after = opens_after ≡ opens_behind opens (length (files_of command))
+HasOpened command (Err (NoSuchFile k)) opens opens_after = Reaches command k opens opens_after
+HasOpened command (Err (Refused place)) opens opens_after = opens_after ≤ opens_behind opens (length (files_of command))
+HasOpened command (Err (ReadFault k)) opens opens_after = Reaches command k opens opens_after
+HasOpened command (Err NoMemory) opens opens_after = opens_after ≤ opens_behind opens (length (files_of command))
 
 -- The files before the k-th are there and good.
 abbrev pub AreGoodBefore : Store → Command → ℕ → Type 0

@@ -3,7 +3,7 @@ ghost use Rattle.std.specs.Option.{option_map};
 ghost use Rattle.command_model.specs.Command.{address_of as address_told, base_asked as base_told, command_of, counts_of, digits_of as digits_told, is_option as option_told, option_count as count_told, profile_of, where_of};
 ghost use Rattle.pgo_run.specs.Words.{texts_of, meaning_of};
 
-use crate::options::{Sampling, sampling_of};
+use crate::options::{Sampling, is_base, sampling_of};
 use text_scan::hex;
 
 /// The most digits of an address.
@@ -118,7 +118,7 @@ fn base_asked(options: &[Vec<u8>]) -> Option<bool>
 {
     match options {
         [] => Some(false),
-        [option] if option.as_slice() == b"--base".as_slice() => Some(true),
+        [option] if is_base(option) => Some(true),
         _ => None,
     }
 }

@@ -7,7 +7,7 @@ ghost use Rattle.branch_stacks.specs.Tally.{TellsOf};
 ghost use Rattle.command_model.specs.Answer.{answer_of_command};
 ghost use Rattle.command_model.specs.Command.{counts as counts_command};
 ghost use Rattle.command_model.specs.Counts.{counts_line, counts_text, total_line};
-ghost use Rattle.pgo_run.specs.Output.{AreGoodBefore, IfReadFault, Makes, Reaches, tells_read_fault};
+ghost use Rattle.pgo_run.specs.Output.{AreGoodBefore, HasOpened, IfReadFault, Makes, tells_read_fault};
 
 use crate::branch_text::count_text;
 use crate::halt::Halt;
@@ -29,8 +29,8 @@ pub(crate) fn output<I: Inputs>(alloc: Global, perf: &[u8], inputs: &mut I) -> R
     ensures store { I.store inputs.new ≡ I.store inputs.old }
     ensures cause { HasCauseWhere tells_read_fault
         (I.faults inputs.old) (I.faults inputs.new) result }
-    ensures reaches { IfReadFault result (λ k. Reaches (counts_command perf.now) k
-        (I.opens inputs.old) (I.opens inputs.new)) }
+    ensures opened { HasOpened (counts_command perf.now) result
+        (I.opens inputs.old) (I.opens inputs.new) }
     ensures good_before { IfSome (I.store inputs.old) (λ files. IfReadFault result
         (AreGoodBefore files (counts_command perf.now))) }
 {

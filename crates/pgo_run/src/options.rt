@@ -54,7 +54,7 @@ fn with_option<'a>(sampling: Sampling<'a>, option: &'a [u8]) -> Option<Sampling<
 }
 
 /// Whether an option is `--base`.
-fn is_base(option: &[u8]) -> bool
+pub(crate) fn is_base(option: &[u8]) -> bool
     ensures { result ≡ base_told option.now }
 {
     option == b"--base".as_slice()

@@ -7,7 +7,7 @@ ghost use Rattle.elf_model.specs.Segments.{code_loads};
 ghost use Rattle.branch_stacks.specs.Reader.{new_reading_by};
 ghost use Rattle.command_model.specs.Answer.{answer_of_command};
 ghost use Rattle.sampled_profile.specs.Output.{loading_of};
-ghost use Rattle.pgo_run.specs.Output.{AreGoodBefore, HasFileCause, IfReadFault, Makes, Reaches, tells_read_fault};
+ghost use Rattle.pgo_run.specs.Output.{AreGoodBefore, HasFileCause, HasOpened, IfReadFault, Makes, tells_read_fault};
 ghost use Rattle.pgo_run.specs.Profile.{SamplesFile};
 ghost use Rattle.pgo_run.specs.Words.{profile_asked};
 
@@ -40,9 +40,8 @@ pub(crate) fn output<I: Inputs>(
     ensures store { I.store inputs.new ≡ I.store inputs.old }
     ensures cause { HasCauseWhere tells_read_fault
         (I.faults inputs.old) (I.faults inputs.new) result }
-    ensures reaches { IfReadFault result (λ k. Reaches
-        (profile_asked sampling.entry binary.now perf.now) k
-        (I.opens inputs.old) (I.opens inputs.new)) }
+    ensures opened { HasOpened (profile_asked sampling.entry binary.now perf.now) result
+        (I.opens inputs.old) (I.opens inputs.new) }
     ensures good_before { IfSome (I.store inputs.old) (λ files. IfReadFault result
         (AreGoodBefore files (profile_asked sampling.entry binary.now perf.now))) }
 {

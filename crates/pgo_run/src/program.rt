@@ -5,8 +5,8 @@ ghost use Rattle.io_edge.specs.Sink.{AppendsPrefix};
 ghost use Rattle.refusal.specs.declared.place.Place.{Place};
 ghost use Rattle.command_model.specs.Answer.{answer_of, answer_of_command, fails_check, no_such_file, refused, writes};
 ghost use Rattle.command_model.specs.Command.{command_of};
-ghost use Rattle.pgo_run.specs.Run.{ComesExactly, HasWritten, IsWithoutFault, IsWithoutOutput};
-ghost use Rattle.pgo_run.specs.Output.{AreGoodBefore, IfReadFault, Makes, Reaches, tells_read_fault};
+ghost use Rattle.pgo_run.specs.Run.{AgreesWithOpens, ComesExactly, HasWritten, IsWithoutFault, IsWithoutOutput};
+ghost use Rattle.pgo_run.specs.Output.{AreGoodBefore, HasOpened, IfReadFault, Makes, Reaches, tells_read_fault};
 ghost use Rattle.pgo_run.specs.Words.{meaning_of, texts_of};
 
 use crate::command::{Command, parse};
@@ -61,6 +61,8 @@ pub fn run<I: Inputs, O: Sink>(
         Rises (I.faults inputs.old) (I.faults inputs.new)
         × IsSomeAnd (command_of (texts_of words.now)) (λ command.
         Reaches command k (I.opens inputs.old) (I.opens inputs.new)) }
+    ensures opened { IfSome (command_of (texts_of words.now)) (λ command.
+        AgreesWithOpens command result (I.opens inputs.old) (I.opens inputs.new)) }
     ensures good_before { IfSome (I.store inputs.old) (λ files. (k : ℕ) →
         result ≡ Status.ReadFault k → IsSomeAnd (command_of (texts_of words.now)) (λ command.
         AreGoodBefore files command k)) }
@@ -97,8 +99,8 @@ fn output<I: Inputs>(alloc: Global, command: Command<'_>, inputs: &mut I) -> Res
     ensures store { I.store inputs.new ≡ I.store inputs.old }
     ensures cause { HasCauseWhere tells_read_fault
         (I.faults inputs.old) (I.faults inputs.new) result }
-    ensures reaches { IfReadFault result (λ k. Reaches (meaning_of command.entry) k
-        (I.opens inputs.old) (I.opens inputs.new)) }
+    ensures opened { HasOpened (meaning_of command.entry) result
+        (I.opens inputs.old) (I.opens inputs.new) }
     ensures good_before { IfSome (I.store inputs.old) (λ files. IfReadFault result
         (AreGoodBefore files (meaning_of command.entry))) }
 {

@@ -78,7 +78,8 @@ fn put(buf: &mut [u8; 256], at: usize, bytes: &[u8]) -> usize
     end
 }
 
-/// Puts a number's decimal digits, of which there are at most 20; 20 places more are left behind them.
+/// Puts a number's decimal digits, of which there are at most 20; 20 places more are left behind
+/// them.
 fn put_number(buf: &mut [u8; 256], at: usize, n: u64) -> usize
     requires { at ≤ 216 }
     ensures end { result ≡ at + length (decimal_text n) }

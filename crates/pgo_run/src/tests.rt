@@ -2,6 +2,7 @@ ghost use Rattle.std.specs.Prelude.{◌<◌};
 
 mod mixed;
 mod profile;
+mod shared;
 mod where_;
 
 use crate::{Status, run, status_line};

@@ -10,7 +10,7 @@ ghost use Rattle.binary_places.specs.Binary.{IsGiven, Shows};
 ghost use Rattle.command_model.specs.Answer.{answer_of_command};
 ghost use Rattle.command_model.specs.Command.{where_ as where_command};
 ghost use Rattle.command_model.specs.Where.{place_text, where_text, way_text};
-ghost use Rattle.pgo_run.specs.Output.{AreGoodBefore, IfReadFault, Makes, Reaches, tells_read_fault};
+ghost use Rattle.pgo_run.specs.Output.{AreGoodBefore, HasOpened, IfReadFault, Makes, tells_read_fault};
 ghost use Rattle.pgo_run.specs.Where.{call_text};
 
 use crate::halt::Halt;
@@ -38,8 +38,8 @@ pub(crate) fn output<I: Inputs>(
     ensures store { I.store inputs.new ≡ I.store inputs.old }
     ensures cause { HasCauseWhere tells_read_fault
         (I.faults inputs.old) (I.faults inputs.new) result }
-    ensures reaches { IfReadFault result (λ k. Reaches (where_command base binary.now address) k
-        (I.opens inputs.old) (I.opens inputs.new)) }
+    ensures opened { HasOpened (where_command base binary.now address) result
+        (I.opens inputs.old) (I.opens inputs.new) }
     ensures good_before { IfSome (I.store inputs.old) (λ files. IfReadFault result
         (AreGoodBefore files (where_command base binary.now address))) }
 {

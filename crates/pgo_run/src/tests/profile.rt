@@ -3,10 +3,11 @@ use super::{file, sink, words};
 use crate::{Status, run};
 use case_maker::{CasePart, make};
 use io_edge::{Fail, MemoryInputs, StoredFile};
+use memchr::memchr;
 use refusal::{Kind, Place};
 use std::alloc::{AllocError, Global};
 use std::test;
-use text_scan::push_hex;
+use text_scan::{Lines, push_hex};
 
 /// A generated file of the program of n functions.
 fn made(alloc: Global, n: u64, part: CasePart) -> Result<Vec<u8>, test::Fail> {
@@ -229,7 +230,26 @@ fn many_ranges(alloc: Global) -> Result<Vec<u8>, test::Fail> {
     Ok(text)
 }
 
-// Scans over lists of pairs, ranges or segments do not end here in a test's time.
+/// What stands in a text from its first `#` on.
+fn report_in(text: &[u8]) -> &[u8] {
+    let (_, report) = text.split_at(memchr(b'#', text).unwrap_or(text.len()));
+    report
+}
+
+/// How many lines of a text begin with these bytes.
+fn lines_with(front: &[u8], text: &[u8]) -> u64 {
+    let mut count = 0u64;
+    for line in Lines::new(text) {
+        if line.bytes.starts_with(front) {
+            count = count.wrapping_add(1);
+        }
+    }
+    count
+}
+
+// Scans over lists of pairs, ranges or segments do not end here in a test's time. From outside 64
+// addresses of each function are branched to: its first one, which enters it, and 63 others. All
+// branches back are one for each function.
 #[test]
 fn a_quarter_of_a_million_ranges_are_counted(rt: HostRuntime) -> Result<(), test::Fail> {
     let alloc = rt.alloc();
@@ -243,9 +263,14 @@ fn a_quarter_of_a_million_ranges_are_counted(rt: HostRuntime) -> Result<(), test
     let status = run(alloc, &words(alloc, PROFILE)?, &mut inputs, &mut out);
     assert_eq!(rt; status, Status::Done);
     let first = b"f0000:168:1\n 0: 8\n 1: 16\n 2.2: 48\n 3: 64\n 2.1: g:32\n  1: 32\nf0001:";
-    let last = b"\n# ranges ran 262144\n# ranges reversed 0\n# ranges outside 0\n\
+    let report = b"# branches 524288\n# entries 4096\n# inside 0\n\
+# unmapped FromOutside 0x9 0x401001 1\n";
+    let last = b" 64\n# ranges ran 262144\n# ranges reversed 0\n# ranges outside 0\n\
 # ranges crossing 0\n# units read 1 passed 0\n";
     assert!(rt; out.written().starts_with(first));
+    assert!(rt; report_in(out.written()).starts_with(report));
+    assert_eq!(rt; lines_with(b"# unmapped", out.written()), 262_144);
+    assert_eq!(rt; lines_with(b"# unmapped ToOutside", out.written()), 4096);
     assert!(rt; out.written().ends_with(last));
     Ok(())
 }

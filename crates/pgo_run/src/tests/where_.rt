@@ -1,5 +1,6 @@
 // `where`, on the generated binary of one function and on others with some of its bytes changed.
 use super::mixed::MIXED;
+use super::shared::SHARED;
 use super::{file, sink, words};
 use crate::{Status, run};
 use case_maker::{CasePart, make};
@@ -107,6 +108,27 @@ fn units_of_both_versions_are_mapped(rt: HostRuntime) -> Result<(), test::Fail> 
         (b"402010", b"hi 1\n"),
         (b"40201f", b"hi 1\n"),
         (b"402020", b"outside\n"),
+    ];
+    for (address, want) in cases {
+        let (status, written) = answer(alloc, &bytes, &[b"where", b"bin", address])?;
+        assert_eq!(rt; status, Status::Done);
+        assert_eq!(rt; written.as_slice(), want);
+    }
+    Ok(())
+}
+
+#[test]
+fn units_that_share_a_line_program_are_mapped(rt: HostRuntime) -> Result<(), test::Fail> {
+    let alloc = rt.alloc();
+    let mut bytes = Vec::new(alloc);
+    for part in SHARED {
+        bytes.extend_from_slice(part)?;
+    }
+    let cases: [(&[u8], &[u8]); 4] = [
+        (b"401000", b"a 1\n"),
+        (b"401010", b"b 2\n"),
+        (b"401020", b"c 1\n"),
+        (b"401030", b"outside\n"),
     ];
     for (address, want) in cases {
         let (status, written) = answer(alloc, &bytes, &[b"where", b"bin", address])?;

@@ -388,6 +388,152 @@ def full_lines(n):
     return b"".join(b" ".join(b"0x%x/0x%x" % (CODE + (k * i) % 977, CODE + i) for i in range(1024)) + b"\n" for k in range(n))
 
 
+def lined_functions(n, names=None):
+    """A binary of n functions of 16 bytes, each with a row at its start and one 8 bytes behind it."""
+    names = names or [b"f%d\0" % k for k in range(n)]
+    abbrevs = ROOT_WITH_LINES + abbreviation(2, 0x2E, 0, *FUNCTION) + b"\0"
+    entries = b"\x01" + bytes(4) + b"".join(
+        b"\x02" + name + b"\x05" + struct.pack("<QI", CODE + 16 * k, 16) for k, name in enumerate(names)
+    )
+    rows = set_address(CODE) + b"\x03\x09\x01" + b"\x02\x08\x03\x01\x01" * (2 * n - 1) + b"\x02\x08" + END
+    return binary(abbrevs, unit(entries), 16 * n, line=line_program(rows))
+
+
+def alike_functions(n):
+    """The same with names that have one beginning of 200 bytes."""
+    return lined_functions(n, [b"n" * 200 + b"%07d\0" % k for k in range(n)])
+
+
+def lined_addresses(n):
+    """A function of n bytes with a row for each of them."""
+    return with_lines(set_address(CODE) + b"\x03\x09\x01\x02\x01" * n + END, n)
+
+
+def deep_line(n):
+    """A function of n bytes in one line, with 254 inlined calls of as many bytes, and a function behind it."""
+    abbrevs = ROOT_WITH_LINES + abbreviation(2, 0x2E, 1, *FUNCTION)
+    abbrevs += abbreviation(3, 0x1D, 1, (ORIGIN, REF4), (LOW, ADDR), (HIGH, DATA4), (CALL_LINE, DATA2))
+    abbrevs += abbreviation(4, 0x2E, 0, *FUNCTION) + b"\0"
+    body = b"\x01" + bytes(4) + b"\x02f\0\x05" + struct.pack("<QI", CODE, n)
+    body += b"".join(b"\x03" + struct.pack("<IQIH", 16, CODE, n, 5 + d) for d in range(254)) + bytes(255)
+    body += b"\x04g\0\x05" + struct.pack("<QI", CODE + n, 16)
+    lines = set_address(CODE) + b"\x03\x09\x01" + b"\x02" + uleb(n + 16) + END
+    return binary(abbrevs, unit(body), n + 16, line=line_program(lines))
+
+
+def code_segments(n):
+    """A function in the last of up to 65,534 segments of code."""
+    made = with_lines(set_address(CODE) + b"\x03\x09\x01\x02\x10" + END, 16)
+    count = min(n, 65534)
+    end = len(made)
+    other = struct.pack("<IIQQQQQQ", 1, 5, 1 << 40, 1, 1, 0, 1, 0x1000)
+    head = made[:32] + struct.pack("<Q", end) + made[40:56] + struct.pack("<H", count) + made[58:64]
+    return head + made[64:] + other * (count - 1) + made[64:120]
+
+
+def load_line(start, size, name=b"/bin/x"):
+    return b"x 7 PERF_RECORD_MMAP2 7/7: [0x%x(0x%x) @ 0 08:02 5 0]: r-xp %s\n" % (start, size, name)
+
+
+# Where the code is loaded whose addresses are moved.
+LOADED = 0x7F0000000000
+
+
+def calls_of_each(n, at=CODE):
+    """A text in which each of n functions of 16 bytes calls each of the next three."""
+    out = []
+    for k in range(n):
+        of = [at + 16 * ((k + d) % n) for d in range(4)]
+        out.append(b"0x%x/0x%x 0x%x/0x%x 0x%x/0x%x\n" % (of[0] + 9, of[3], of[0] + 9, of[2], of[0] + 9, of[1]))
+    return b"".join(out)
+
+
+def moved_calls(n):
+    """The same text behind a load line."""
+    return load_line(LOADED, 16 * n) + calls_of_each(n, LOADED)
+
+
+def calls_to_one(n):
+    """A text of n branches from as many addresses to the function behind them."""
+    return b"".join(b"0x%x/0x%x\n" % (CODE + k, CODE + n) for k in range(n))
+
+
+def ranges_within(n, at=CODE):
+    """A text of n/2 ranges over n addresses, each within the one before."""
+    return b"".join(b"0x%x/0x9 0x9/0x%x\n" % (at + n - 1 - k, at + k) for k in range(n // 2))
+
+
+def moved_ranges_within(n):
+    """The same text behind a load line."""
+    return load_line(LOADED, n) + ranges_within(n, LOADED)
+
+
+def ranges_from_one(n):
+    """A text of n ranges that all begin at one address, over n addresses."""
+    return b"".join(b"0x%x/0x9 0x9/0x%x\n" % (CODE + k, CODE) for k in range(n))
+
+
+def one_range(n):
+    """A text of one range over n addresses."""
+    return b"0x%x/0x9 0x9/0x%x\n" % (CODE + n - 1, CODE)
+
+
+def ranges_of_one(n):
+    """A text of n ranges of one address, two addresses apart."""
+    return b"".join(b"0x%x/0x9 0x9/0x%x\n" % (CODE + 2 * k, CODE + 2 * k) for k in range(n))
+
+
+def ranges_of_kilobytes(n):
+    """A text of n ranges over 1,024 addresses each."""
+    return b"".join(b"0x%x/0x9 0x9/0x%x\n" % (CODE + 1024 * k + 1023, CODE + 1024 * k) for k in range(n))
+
+
+def ranges_across(n):
+    """A text of n ranges that each begin in one function of 16 bytes and end in another."""
+    return b"".join(b"0x%x/0x9 0x9/0x%x\n" % (CODE + 16 * n - 1 - k, CODE + k) for k in range(n))
+
+
+def calls_from_one(n):
+    """A text of n branches from one line to n functions of 16 bytes."""
+    return b"".join(b"0x%x/0x%x\n" % (CODE + 8, CODE + 16 * k) for k in range(n))
+
+
+def foreign_branches(n):
+    """A text of n branches between addresses that no function holds, of which each is new."""
+    return b"".join(
+        b"0x%x/0x%x 0x%x/0x%x\n" % (1 << 62 | k, k << 40 | 1, 1 << 61 | k, 1 << 60 | k) for k in range(n // 2)
+    )
+
+
+def loads_and_foreign_branches(n):
+    """A text of n load lines, and behind them n branches between addresses that no load holds."""
+    return b"".join(load_line(LOADED + 4096 * k, 4096) for k in range(n)) + foreign_branches(n)
+
+
+def loads_of_others(n):
+    """A text of a load line, n load lines of other files, and behind them n/2 ranges that the first one moves."""
+    others = b"".join(load_line(LOADED + (1 << 40) + 4096 * k, 4096, b"/lib/%d" % k) for k in range(n))
+    return load_line(LOADED, n) + others + ranges_within(n, LOADED)
+
+
+def whole_machine(n):
+    """A text of a load line, 10,000 load lines of other files, and behind them n branches of the kernel."""
+    others = b"".join(load_line(LOADED + (1 << 40) + (k << 16), 0x4000, b"/lib/%d" % (k % 50)) for k in range(10000))
+    kernel = [0xFFFFFFFF81000000 + (k * 0x9E3779B1 & 0x3FFFFF) for k in range(n + 1)]
+    return load_line(LOADED, 0x1000) + others + b"".join(b"0x%x/0x%x\n" % pair for pair in zip(kernel, kernel[1:]))
+
+
+def loads_between(n):
+    """A text of n load lines over one place, each with a range behind it."""
+    return b"".join(load_line(LOADED, n) + b"0x%x/0x9 0x9/0x%x\n" % (LOADED + k, LOADED) for k in range(n))
+
+
+def branches_of_16(n):
+    """A text of a load line, and n branches between its 16 addresses and foreign ones."""
+    one = b"".join(b"0x%x/0x%x\n" % (LOADED + k, k) for k in range(16))
+    return load_line(LOADED, 16) + one * (n // 16)
+
+
 CASES = [
     small, abbreviations, shared_table, tails_of_a_table, empty_attributes, section_names, segments,
     origins, far_origins, range_lists, dead_range_lists, overlapping_ranges,
@@ -395,6 +541,10 @@ CASES = [
     repeated_rows, repeated_sequences, nested_sequences, shared_lines, shared_lines_without_rows,
     long_names, tails_of_a_name, new_branches, high_branches, colliding_branches, ascending_branches, full_lines,
     calls, depth, entries, steps, ranges,
+    lined_functions, alike_functions, lined_addresses, deep_line, code_segments,
+    calls_of_each, moved_calls, calls_from_one, calls_to_one, ranges_within, moved_ranges_within, ranges_from_one,
+    one_range, ranges_of_one, ranges_of_kilobytes, ranges_across, foreign_branches,
+    loads_and_foreign_branches, loads_of_others, whole_machine, loads_between, branches_of_16,
 ]
 
 if __name__ == "__main__":

@@ -1,0 +1,77 @@
+-- The laws on worked values: what each says of a list is computed on both its sides.
+use Rattle.std.proofs.Common.{◌≡◌, ℕ, Bool, true, false, List, [], ◌∷◌, map, take, None, Some, Result, Ok, Err, refl}
+use Rattle.std.specs.Prelude.{codes, slice_get}
+use Rattle.std.specs.List.{flat_map, range_with_len}
+use Rattle.std.specs.Option.{option_map}
+use Rattle.refusal.specs.declared.kind.Kind.{Kind}
+use Rattle.refusal.specs.declared.kind.Kind.TheVariants.{BadClass}
+use Rattle.load_model.specs.Segments.{address_of_offset}
+use Rattle.text_model.specs.Fields.{fields_of}
+use Rattle.text_model.specs.Lines.{lines_of}
+use Rattle.text_model.specs.Numbers.{number_of, prefixed_of}
+use Rattle.sample_model.specs.Line.{address_of, is_ip, entry_of, is_sample, branches_of_line}
+use Rattle.sample_model.specs.Loads.{load_line_of, extent_of, offset_of, behind_at, loads_of, name_in}
+use Rattle.sample_model.specs.Moves.{LoadMap, move_of, moved_line, moved_lines}
+use Rattle.value_model.specs.Value.{Value, addr, const}
+use Rattle.range_model.specs.Entries.{Entry, sets_base, along, from_base}
+use Rattle.range_model.specs.Lists.{Placed, ranges_from}
+use Rattle.reading_laws.specs.Loads.{loads}
+use Rattle.reading_laws.specs.Ranges.{last_base, ranges_at}
+
+-- ---- load lines
+
+-- a program that is loaded, a sample, another file over a part of it, and a sample
+lines : List (List ℕ)
+lines =
+    lines_of (codes "1 PERF_RECORD_MMAP2 7/7: [0x5000(0x1000) @ 0x1000 08:02 5 0]: r-xp /bin/x\n0x5004/0x5108\n1 PERF_RECORD_MMAP2 7/7: [0x5100(0x100) @ 0 08:02 6 0]: r-xp /bin/y\n0x5004/0x5108\n")
+
+loading : LoadMap
+loading = record { name = codes "/bin/x"; segments = record { offset = 0x1000; size = 0x500; vaddr = 0x401000 } ∷ [] }
+
+-- the samples' branches, as the definition has them and as the lines before them have
+branches_defined : (slice_get (moved_lines loading [] lines) 1 ≡ Some ((Some 0x401004, Some 0x401108) ∷ []))
+    × (slice_get (moved_lines loading [] lines) 3 ≡ Some ((Some 0x401004, None) ∷ []))
+unfolding lines loading lines_of fields_of number_of prefixed_of address_of is_ip entry_of is_sample branches_of_line load_line_of extent_of offset_of behind_at name_in move_of address_of_offset
+branches_defined = (refl, refl)
+
+branches_before :
+    (option_map (moved_line loading.segments (loads_of loading.name (take 1 lines))) (slice_get lines 1) ≡ Some ((Some 0x401004, Some 0x401108) ∷ []))
+    × (option_map (moved_line loading.segments (loads_of loading.name (take 3 lines))) (slice_get lines 3) ≡ Some ((Some 0x401004, None) ∷ []))
+    × (slice_get lines 4 ≡ None)
+unfolding lines loading lines_of fields_of number_of prefixed_of address_of is_ip entry_of is_sample branches_of_line load_line_of extent_of offset_of behind_at name_in move_of address_of_offset
+branches_before = (refl, refl, refl)
+
+-- which lines load the addresses 0x5004, 0x5108 and 0x6000
+loaded : (address : ℕ) → List (Bool)
+loaded address = map (loads loading address) lines
+
+lines_that_load : (loaded 0x5004 ≡ true ∷ false ∷ false ∷ false ∷ []) × (loaded 0x5108 ≡ true ∷ false ∷ true ∷ false ∷ []) × (loaded 0x6000 ≡ false ∷ false ∷ false ∷ false ∷ [])
+unfolding loaded lines loading lines_of fields_of number_of prefixed_of address_of load_line_of extent_of offset_of behind_at name_in
+lines_that_load = (refl, refl, refl)
+
+-- ---- range lists
+
+abbrev meant : Value → Result ℕ Kind
+meant (addr address) = Ok address
+meant _ = Err BadClass
+
+abbrev at : ℕ → Entry → Placed
+at place entry = record { at = place; entry = entry }
+
+-- two bases, the second of which means nothing, and one range before, between and behind them; one is empty
+entries : List Placed
+entries =
+    at 100 (from_base 0x10 0x20) ∷ at 103 (sets_base (addr 0x2000)) ∷ at 112 (from_base 0x10 0x20) ∷ at 115 (from_base 0x20 0x10)
+    ∷ at 118 (sets_base (const 7)) ∷ at 127 (along (addr 0x3000) 5) ∷ at 137 (from_base 0x30 0x40) ∷ []
+
+ranges_defined : ranges_from meant 0x1000 entries ≡ (0x1010, 0x1020) ∷ (0x2010, 0x2020) ∷ (0x3000, 0x3005) ∷ (0x2030, 0x2040) ∷ []
+unfolding entries
+ranges_defined = refl
+
+ranges_by_index : flat_map (ranges_at meant 0x1000 entries) (range_with_len 0 7) ≡ (0x1010, 0x1020) ∷ (0x2010, 0x2020) ∷ (0x3000, 0x3005) ∷ (0x2030, 0x2040) ∷ []
+unfolding entries
+ranges_by_index = refl
+
+bases : map (λ i. last_base meant 0x1000 (take i entries)) (range_with_len 0 7) ≡ 0x1000 ∷ 0x1000 ∷ 0x2000 ∷ 0x2000 ∷ 0x2000 ∷ 0x2000 ∷ 0x2000 ∷ []
+unfolding entries
+bases = refl

@@ -1,0 +1,24 @@
+// The definitions seen from the other side.
+ghost use Rattle.reading_laws.specs.Loads.{LastLoadMoves, LinesAreMovedByThoseBefore, UnloadedIsForeign};
+ghost use Rattle.reading_laws.specs.Ranges.{RangesAreByEntry};
+
+/// The branches of each line of a branch text are moved by the loads of the lines before it.
+pub fn lines_are_moved_by_those_before()
+    ensures { LinesAreMovedByThoseBefore }
+{}
+
+/// After some lines an address is moved by the load of the last of them whose load holds it.
+pub fn last_load_moves()
+    ensures { LastLoadMoves }
+{}
+
+/// After lines of which none has a load that holds it, an address is foreign.
+pub fn unloaded_is_foreign()
+    ensures { UnloadedIsForeign }
+{}
+
+/// The ranges of a range list are those of its entries, one behind the other, each counted from the
+/// last base that an entry before it set, or from the unit's where none did.
+pub fn ranges_are_by_entry()
+    ensures { RangesAreByEntry }
+{}

@@ -1,0 +1,9 @@
+//! What is read of a branch text and of a binary, seen from the other side: by where its parts
+//! stand, where the definition goes through them one by one.
+#![tactic(auto)]
+
+mod laws;
+
+pub use laws::{
+    last_load_moves, lines_are_moved_by_those_before, ranges_are_by_entry, unloaded_is_foreign,
+};

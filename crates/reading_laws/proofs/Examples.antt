@@ -4,7 +4,10 @@ use Rattle.std.specs.Prelude.{codes, slice_get}
 use Rattle.std.specs.List.{flat_map, range_with_len}
 use Rattle.std.specs.Option.{option_map}
 use Rattle.refusal.specs.declared.kind.Kind.{Kind}
-use Rattle.refusal.specs.declared.kind.Kind.TheVariants.{BadClass}
+use Rattle.refusal.specs.declared.kind.Kind.TheVariants.{BadClass, BadRangeEntry}
+use Rattle.refusal.specs.Place.{in_binary}
+use Rattle.byte_view.specs.Cursor.{Cursor}
+use Rattle.byte_view.specs.Reading.{field_at, uleb_at}
 use Rattle.load_model.specs.Segments.{address_of_offset}
 use Rattle.text_model.specs.Fields.{fields_of}
 use Rattle.text_model.specs.Lines.{lines_of}
@@ -13,8 +16,9 @@ use Rattle.sample_model.specs.Line.{address_of, is_ip, entry_of, is_sample, bran
 use Rattle.sample_model.specs.Loads.{load_line_of, extent_of, offset_of, behind_at, loads_of, name_in}
 use Rattle.sample_model.specs.Moves.{LoadMap, move_of, moved_line, moved_lines}
 use Rattle.value_model.specs.Value.{Value, addr, const}
-use Rattle.range_model.specs.Entries.{Entry, sets_base, along, from_base}
-use Rattle.range_model.specs.Lists.{Placed, ranges_from}
+use Rattle.range_model.specs.Entries.{Entry, coded_entry_at, pair_entry_at, sets_base, along, from_base}
+use Rattle.range_model.specs.Lists.{Placed, entries_from, ranges_from}
+use Rattle.reading_laws.specs.Lists.{Stand, Stops}
 use Rattle.reading_laws.specs.Loads.{loads}
 use Rattle.reading_laws.specs.Ranges.{last_base, ranges_at}
 
@@ -75,3 +79,33 @@ ranges_by_index = refl
 bases : map (λ i. last_base meant 0x1000 (take i entries)) (range_with_len 0 7) ≡ 0x1000 ∷ 0x1000 ∷ 0x2000 ∷ 0x2000 ∷ 0x2000 ∷ 0x2000 ∷ 0x2000 ∷ []
 unfolding entries
 bases = refl
+
+-- ---- the entries of a list
+
+cursor : ℕ → List ℕ → Cursor
+cursor place bytes = record { at = place; left = bytes }
+
+-- a base of 8 bytes, a range from it, the end of the list, and a byte behind it
+coded : List ℕ
+coded = 5 ∷ 0 ∷ 0x20 ∷ 0 ∷ 0 ∷ 0 ∷ 0 ∷ 0 ∷ 0 ∷ 4 ∷ 0x10 ∷ 0x20 ∷ 0 ∷ 9 ∷ []
+
+two_entries : List Placed
+two_entries = at 100 (sets_base (addr 0x2000)) ∷ at 109 (from_base 0x10 0x20) ∷ []
+
+read : entries_from false 100 coded ≡ record { entries = two_entries; broken = None }
+unfolding coded two_entries coded_entry_at pair_entry_at field_at uleb_at
+read = refl
+
+they_stand : Stand false (cursor 100 coded) two_entries (cursor 112 (0 ∷ 9 ∷ []))
+unfolding cursor coded two_entries coded_entry_at pair_entry_at field_at uleb_at
+they_stand =
+    (refl, cursor 109 (4 ∷ 0x10 ∷ 0x20 ∷ 0 ∷ 9 ∷ []), refl, refl, (refl, cursor 112 (0 ∷ 9 ∷ []), refl, refl, refl))
+
+they_stop : Stops false (cursor 112 (0 ∷ 9 ∷ [])) None
+unfolding cursor coded_entry_at pair_entry_at field_at uleb_at
+they_stop = refl
+
+-- no entry has the code 9
+it_breaks : Stops false (cursor 113 (9 ∷ [])) (Some (in_binary 113 BadRangeEntry))
+unfolding cursor coded_entry_at pair_entry_at field_at uleb_at
+it_breaks = (BadRangeEntry, refl, refl)

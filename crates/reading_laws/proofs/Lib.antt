@@ -1,3 +1,4 @@
 mod Examples
+pub mod ListLemmas
 pub mod LoadLemmas
 pub mod RangeLemmas

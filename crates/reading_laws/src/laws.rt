@@ -1,4 +1,5 @@
 // The definitions seen from the other side.
+ghost use Rattle.reading_laws.specs.Lists.{ListsAreWhole, WholeListsAreRead};
 ghost use Rattle.reading_laws.specs.Loads.{LastLoadMoves, LinesAreMovedByThoseBefore, UnloadedIsForeign};
 ghost use Rattle.reading_laws.specs.Ranges.{RangesAreByEntry};
 
@@ -21,4 +22,15 @@ pub fn unloaded_is_foreign()
 /// last base that an entry before it set, or from the unit's where none did.
 pub fn ranges_are_by_entry()
     ensures { RangesAreByEntry }
+{}
+
+/// A range list has the entries that stand from its start on, each where the one before ends, up to
+/// what ends the list or breaks it there.
+pub fn lists_are_whole()
+    ensures { ListsAreWhole }
+{}
+
+/// Entries that stand so, with what ends or breaks them, are those of the list.
+pub fn whole_lists_are_read()
+    ensures { WholeListsAreRead }
 {}

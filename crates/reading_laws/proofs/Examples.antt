@@ -1,7 +1,7 @@
 -- The laws on worked values: what each says of a list is computed on both its sides.
-use Rattle.std.proofs.Common.{◌≡◌, ℕ, Bool, true, false, List, [], ◌∷◌, map, take, None, Some, Result, Ok, Err, refl}
-use Rattle.std.specs.Prelude.{codes, slice_get}
-use Rattle.std.specs.List.{flat_map, range_with_len}
+use Rattle.std.proofs.Common.{◌≡◌, ℕ, Bool, true, false, List, [], ◌∷◌, map, take, None, Some, Result, Ok, Err, refl, arith}
+use Rattle.std.specs.Prelude.{codes, count_by, slice_get}
+use Rattle.std.specs.List.{filter_map, flat_map, range_with_len}
 use Rattle.std.specs.Option.{option_map}
 use Rattle.refusal.specs.declared.kind.Kind.{Kind}
 use Rattle.refusal.specs.declared.kind.Kind.TheVariants.{BadClass, BadRangeEntry}
@@ -19,7 +19,14 @@ use Rattle.value_model.specs.Value.{Value, addr, const}
 use Rattle.range_model.specs.Entries.{Entry, coded_entry_at, pair_entry_at, sets_base, along, from_base}
 use Rattle.range_model.specs.Lists.{Placed, entries_from, ranges_from}
 use Rattle.reading_laws.specs.Lists.{Stand, Stops}
+use Rattle.abbrev_model.specs.Abbrev.{find_code}
+use Rattle.abbrev_model.specs.Table.{next_abbrev, table}
+use Rattle.placed_view.specs.Reader.{field, uleb}
+use Rattle.unit_model.specs.Entries.{entries as unit_entries}
+use Rattle.unit_model.specs.Header.{abbrevs_at, address_size, header, header_4, sized, unit_length}
+use Rattle.unit_model.specs.Units.{Units, next_unit, unit_body, units}
 use Rattle.reading_laws.specs.Loads.{loads}
+use Rattle.reading_laws.specs.Units.{Follow, Part, has, passed, passed_of, read as read_unit, spans_of, unit_of}
 use Rattle.reading_laws.specs.Ranges.{last_base, ranges_at}
 
 -- ---- load lines
@@ -109,3 +116,32 @@ they_stop = refl
 it_breaks : Stops false (cursor 113 (9 ∷ [])) (Some (in_binary 113 BadRangeEntry))
 unfolding cursor coded_entry_at pair_entry_at field_at uleb_at
 it_breaks = (BadRangeEntry, refl, refl)
+
+-- ---- units
+
+-- a unit of DWARF 3, one of length 0, and one of DWARF 4 without entries, in a section at place 166
+info : List ℕ
+info = 2 ∷ 0 ∷ 0 ∷ 0 ∷ 3 ∷ 0 ∷ 0 ∷ 0 ∷ 0 ∷ 0 ∷ 7 ∷ 0 ∷ 0 ∷ 0 ∷ 4 ∷ 0 ∷ 0 ∷ 0 ∷ 0 ∷ 0 ∷ 8 ∷ []
+
+told : Units
+told = record {
+  units = record { at = 176; end = 187; version = 4; wide = false; first = 0; count = 0 } ∷ [];
+  entries = [];
+  skipped = (166, 172) ∷ (172, 176) ∷ [];
+}
+
+units_told : units (Some (cursor 120 (0 ∷ []))) (cursor 166 info) ≡ Ok (told, cursor 187 [])
+unfolding cursor info told abbrevs_at address_size unit_entries field field_at find_code header header_4 next_abbrev next_unit sized table uleb uleb_at unit_body unit_length units
+units_told = refl
+
+parts : List Part
+parts = passed (166, 172) ∷ passed (172, 176) ∷ read_unit (record { at = 176; end = 187; version = 4; wide = false; first = 0; count = 0 }) ∷ []
+
+they_fill : Follow 166 parts 187 × (filter_map unit_of parts ≡ told.units) × (filter_map passed_of parts ≡ told.skipped)
+unfolding parts told
+they_fill = ((refl, omega arith, (refl, omega arith, (refl, omega arith, refl))), refl, refl)
+
+units_of_bytes : map (λ place. count_by (has place) (spans_of told)) (165 ∷ 166 ∷ 171 ∷ 172 ∷ 175 ∷ 176 ∷ 186 ∷ 187 ∷ [])
+    ≡ 0 ∷ 1 ∷ 1 ∷ 1 ∷ 1 ∷ 1 ∷ 1 ∷ 0 ∷ []
+unfolding told
+units_of_bytes = refl

@@ -1,3 +1,4 @@
 pub mod Lists
 pub mod Loads
 pub mod Ranges
+pub mod Units

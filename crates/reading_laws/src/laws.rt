@@ -2,6 +2,7 @@
 ghost use Rattle.reading_laws.specs.Lists.{ListsAreWhole, WholeListsAreRead};
 ghost use Rattle.reading_laws.specs.Loads.{LastLoadMoves, LinesAreMovedByThoseBefore, UnloadedIsForeign};
 ghost use Rattle.reading_laws.specs.Ranges.{RangesAreByEntry};
+ghost use Rattle.reading_laws.specs.Units.{BytesHaveOneUnit, UnitsFillSections};
 
 /// The branches of each line of a branch text are moved by the loads of the lines before it.
 pub fn lines_are_moved_by_those_before()
@@ -33,4 +34,15 @@ pub fn lists_are_whole()
 /// Entries that stand so, with what ends or breaks them, are those of the list.
 pub fn whole_lists_are_read()
     ensures { WholeListsAreRead }
+{}
+
+/// The units of `.debug_info`, those that are read and those that are passed over, fill the section
+/// from its start to its end: each begins where the one before ends.
+pub fn units_fill_sections()
+    ensures { UnitsFillSections }
+{}
+
+/// Each byte of `.debug_info` is of one unit, and no unit has a byte elsewhere.
+pub fn bytes_have_one_unit()
+    ensures { BytesHaveOneUnit }
 {}

@@ -5,6 +5,6 @@
 mod laws;
 
 pub use laws::{
-    last_load_moves, lines_are_moved_by_those_before, lists_are_whole, ranges_are_by_entry,
-    unloaded_is_foreign, whole_lists_are_read,
+    bytes_have_one_unit, last_load_moves, lines_are_moved_by_those_before, lists_are_whole,
+    ranges_are_by_entry, units_fill_sections, unloaded_is_foreign, whole_lists_are_read,
 };

@@ -1,1 +1,3 @@
+mod Examples
+pub mod OffsetLemmas
 pub mod SpanLemmas

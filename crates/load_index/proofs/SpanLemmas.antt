@@ -1,14 +1,14 @@
 -- That spans tell the last load that holds an address.
 use Rattle.std.proofs.Common.{◌≡◌, ℕ, ◌+◌, ◌-◌, ◌^◌, ◌<◌, ◌≤◌, nat_lt, nat_le, Bool, true, false, ◌&&◌, List, [], ◌∷◌, ◌++◌, length, take, drop, Option, None, Some, refl, sym, ap, subst, ◌∙◌, arith, suc, zero, take-append-drop}
-use Rattle.std.specs.Prelude.{⊤, find, reverse, slice_get, min, option_and_then, if◌then◌else◌}
-use Rattle.std.specs.Option.{option_map, option_or}
+use Rattle.std.specs.Prelude.{⊤, find, reverse, slice_get, min, option_and_then}
+use Rattle.std.specs.Option.{option_or}
 use Rattle.std.proofs.lemmas.List.{length-reverse, reverse-append, reverse-reverse}
 use Rattle.std.proofs.lemmas.List.Folds.{find-append}
 use Rattle.address_spans.specs.declared.span.Span.{Span}
-use Rattle.address_spans.specs.Spans.{AreDisjoint, holds as span_holds, owner_at}
+use Rattle.address_spans.specs.Spans.{holds as span_holds, owner_at}
 use Rattle.sample_model.specs.declared.load.Load.{Load}
 use Rattle.sample_model.specs.Moves.{holds, last_load}
-use Rattle.load_index.specs.Spans.{IsSpanned, newest_first, span_of}
+use Rattle.load_index.specs.Spans.{newest_first, span_of}
 
 -- ---- the last load of a list
 
@@ -91,10 +91,10 @@ wider : (n : ℕ) (o : Option ℕ) → Within n o → Within (suc n) o
 wider n None within = tt
 wider n (Some i) within = omega arith
 
-owner_here : (s : Span) (spans : List Span) (address : ℕ) → span_holds address s ≡ true → owner_at (s ∷ spans) address ≡ Some s.owner
+pub owner_here : (s : Span) (spans : List Span) (address : ℕ) → span_holds address s ≡ true → owner_at (s ∷ spans) address ≡ Some s.owner
 owner_here s spans address here = rw here refl
 
-owner_there : (s : Span) (spans : List Span) (address : ℕ) → span_holds address s ≡ false → owner_at (s ∷ spans) address ≡ owner_at spans address
+pub owner_there : (s : Span) (spans : List Span) (address : ℕ) → span_holds address s ≡ false → owner_at (s ∷ spans) address ≡ owner_at spans address
 owner_there s spans address here = rw here refl
 
 found_here : (load : Load) (older : List Load) (address : ℕ) → holds address load ≡ true → find (holds address) (load ∷ older) ≡ Some load

@@ -1,4 +1,5 @@
-use crate::LoadIndex;
+use crate::{LoadIndex, SegmentIndex};
+use load_model::LoadSegment;
 use sample_model::Load;
 use std::test;
 
@@ -9,6 +10,14 @@ const fn load(start: u64, len: u64, offset: u64) -> Load {
         len,
         offset,
         is_wanted: true,
+    }
+}
+
+const fn segment(offset: u64, vaddr: u64, size: u64) -> LoadSegment {
+    LoadSegment {
+        offset,
+        vaddr,
+        size,
     }
 }
 
@@ -46,5 +55,40 @@ fn the_last_load_is_found_with_an_index_and_without(rt: HostRuntime) -> Result<(
     loads.push(load(0x2ff0, 0x20, 4))?;
     assert_eq!(rt; loads.last(0x2fef).map(|load| load.offset), Some(1));
     assert_eq!(rt; loads.last(0x3000).map(|load| load.offset), Some(4));
+    Ok(())
+}
+
+#[test]
+fn the_first_segment_is_found(rt: HostRuntime) -> Result<(), test::Fail> {
+    // Two segments share the offsets from 0x20 up to 0x40; the last two have offsets past 64 bits.
+    let index = SegmentIndex::new(
+        rt.alloc(),
+        &[
+            segment(0, 0x401000, 0x40),
+            segment(0x20, 0x602020, 0x40),
+            segment(u64::MAX - 1, 0x1000, 4),
+            segment(u64::MAX - 3, 0xffff_ffff_ffff_fff8, u64::MAX),
+        ],
+    )?;
+    let last = u128::from(u64::MAX);
+    let cases = [
+        (0, Some(0x401000)),
+        (0x20, Some(0x401020)),
+        (0x40, Some(0x602040)),
+        (0x60, None),
+        (last - 4, None),
+        (last - 3, Some(0xffff_ffff_ffff_fff8)),
+        (last - 1, Some(0x1000)),
+        (last, Some(0x1001)),
+        (last + 2, Some(0x1003)),
+        (last + 3, Some(0xffff_ffff_ffff_fffe)),
+        (last + 4, Some(0xffff_ffff_ffff_ffff)),
+        (last + 5, None),
+        (last + last, None),
+        (u128::MAX, None),
+    ];
+    for (offset, address) in cases {
+        assert_eq!(rt; index.address_of_offset(offset), address, "{offset}");
+    }
     Ok(())
 }

@@ -1,4 +1,4 @@
-use Rattle.std.proofs.Common.{◌≡◌, ℕ, List, ap, ◌∙◌}
+use Rattle.std.proofs.Common.{List, ap, ◌∙◌}
 use Rattle.address_spans.specs.declared.span.Span.{Span}
 use Rattle.address_spans.specs.Spans.{owner_at}
 use Rattle.load_index.proofs.SpanLemmas.{told_by_spans}

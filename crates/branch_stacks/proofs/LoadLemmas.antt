@@ -1,10 +1,10 @@
 -- What is found of a load line, in the words of the definitions.
 use Rattle.std.proofs.Common.{◌≡◌, ◌≢◌, ℕ, ◌+◌, ◌<◌, ◌≤◌, nat_eq, nat_lt, Bool, true, false, List, [], ◌∷◌, ◌++◌, ◌||◌, length, map, get_or, take, drop, Option, None, Some, Bor, refl, sym, ap, subst, ◌∙◌, arith}
-use Rattle.std.specs.Prelude.{codes, find, not, reverse, if◌then◌else◌}
+use Rattle.std.specs.Prelude.{codes, not, if◌then◌else◌}
 use Rattle.std.specs.List.{filter_map, position_or_len, starts_with, zip}
 use Rattle.std.proofs.lemmas.Bool.{false_from_ne_true, lt-ltb, le-ltb}
 use Rattle.std.proofs.lemmas.Bool.Decides.{Decides-eqb}
-use Rattle.std.proofs.lemmas.List.{drop_at, length-map, map_push, reverse-append, take_more}
+use Rattle.std.proofs.lemmas.List.{drop_at, length-map, map_push, take_more}
 use Rattle.std.proofs.lemmas.List.Sums.{position_or_len_is}
 use Rattle.std.proofs.lemmas.Slice.Zip.{length-zip}
 use Rattle.std.proofs.lemmas.Slice.Eq.{starts_is}
@@ -12,10 +12,9 @@ use Rattle.memchr.specs.Find.{IsFirstByte, is_byte}
 use Rattle.text_model.proofs.LineTestLemmas.{contains-parts, parts-contains}
 use Rattle.text_model.specs.Fields.{fields_of}
 use Rattle.text_model.specs.LineTests.{contains, is_blank_line, is_comment}
-use Rattle.sample_model.specs.declared.load.Load.{Load}
 use Rattle.sample_model.specs.Line.{branches_of_line, entry_fields, entry_of, is_other_record, is_sample}
 use Rattle.sample_model.specs.Loads.{LoadLine, behind_first, behind_where, load_line_of, loads_of, parts_at}
-use Rattle.sample_model.specs.Moves.{MovedBranch, counted_branch, holds, last_load, moved_range_between, moved_ranges, or_0, range_from}
+use Rattle.sample_model.specs.Moves.{MovedBranch, counted_branch, moved_range_between, moved_ranges, or_0, range_from}
 use Rattle.branch_stacks.specs.Loads.{range_behind}
 
 -- ---- the parts around a byte

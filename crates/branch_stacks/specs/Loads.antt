@@ -10,7 +10,7 @@ use Rattle.branch_stacks.specs.Tally.{Tally, AddsSample, AddsStack}
 
 -- What moves the addresses of a program.
 abbrev pub map_in : Loads → LoadMap
-map_in loads = record { name = loads.name.items; segments = loads.segments.items }
+map_in loads = record { name = loads.name.items; segments = loads.segments }
 
 -- The same, where addresses are moved.
 abbrev pub map_of : Option Loads → Option LoadMap

@@ -1,6 +1,5 @@
 // What a text has told of the loads of a program, and the addresses that they move.
 ghost use Rattle.std.specs.Prelude.{◌≡◌, ◌++◌, ◌∷◌, [], Some, true, map, IfOk, OnErr, OnOk, IsErrOf, ◌+◌, ◌<◌, ◌≤◌, length, vec_len, vec_capacity};
-ghost use Rattle.load_model.specs.Segments as loading;
 ghost use Rattle.sample_model.specs.Limits.{max_branches};
 ghost use Rattle.sample_model.specs.Line.{branches_of_line};
 ghost use Rattle.sample_model.specs.Loads.{loads_of};
@@ -10,11 +9,11 @@ ghost use Rattle.branch_stacks.specs.Tally.{total_of};
 
 use crate::counts::{Counts, CountsStop};
 use crate::load_line::load_line;
-use load_index::LoadIndex;
+use load_index::{LoadIndex, SegmentIndex};
 use load_model::LoadSegment;
 use refusal::NoMemory;
 use sample_model::Load;
-use std::alloc::{AllocError, Global};
+use std::alloc::Global;
 
 /// The loads that a text has told of so far, and what is needed to move the addresses of a program.
 #[derive(Debug, Drop)]
@@ -22,7 +21,7 @@ pub(crate) struct Loads {
     /// The name of the program's file in load lines.
     pub name: Vec<u8>,
     /// Its segments of code.
-    pub segments: Vec<LoadSegment>,
+    pub segments: SegmentIndex,
     /// The loads, as the lines tell of them.
     pub met: LoadIndex,
     /// The moved branches of one sample, newest first.
@@ -33,13 +32,13 @@ pub(crate) struct Loads {
 
 impl Loads {
     /// No loads yet, of a program whose file has this name and these segments of code.
-    pub fn new(alloc: Global, name: &[u8], segments: &[LoadSegment]) -> Result<Loads, AllocError>
+    pub fn new(alloc: Global, name: &[u8], segments: &[LoadSegment]) -> Result<Loads, NoMemory>
         ensures { IfOk result (λ loads. (loads.name.items ≡ name.now)
-            × (loads.segments.items ≡ segments.now) × (loads.met ≡ [])) }
+            × (loads.segments ≡ segments.now) × (loads.met ≡ [])) }
     {
         Ok(Loads {
             name: Vec::from_slice(alloc, name)?,
-            segments: Vec::from_slice(alloc, segments)?,
+            segments: SegmentIndex::new(alloc, segments)?,
             met: LoadIndex::new(alloc),
             branches: Vec::new(alloc),
             ranges: Vec::new(alloc),
@@ -96,7 +95,7 @@ impl Loads {
     /// Moves the branches of a sample, newest first, and makes the ranges between them.
     fn move_branches(&mut self, branches: &[(u64, u64)]) -> Result<(), NoMemory>
         ensures branches { OnOk result (let moved = map
-            (moves.moved_branch self.old.segments.items self.old.met) branches.now in
+            (moves.moved_branch self.old.segments self.old.met) branches.now in
             (self.new.branches.items ≡ map moves.counted_branch moved)
             × (self.new.ranges.items ≡ moves.moved_ranges moved)) }
         ensures same { (map_in self.new ≡ map_in self.old)
@@ -121,47 +120,15 @@ impl Loads {
     /// The address of the program that ran at an address, unless that is foreign.
     #[tactic(auto, unfolding(sample_model::specs::Moves::move_of))]
     fn move_of(&self, address: u64) -> Option<u64>
-        ensures { result ≡ moves.move_of self.now.segments.items self.now.met address }
+        ensures { result ≡ moves.move_of self.now.segments self.now.met address }
     {
         let load = self.met.last(address)?;
         if !load.is_wanted {
             return None;
         }
         let offset = u128::from(address - load.start) + u128::from(load.offset);
-        address_of_offset(&self.segments, offset)
+        self.segments.address_of_offset(offset)
     }
-}
-
-/// The address at which the byte at an offset in the file is loaded: in the first segment that has
-/// it.
-#[tactic(auto, unfolding(load_model::specs::Segments::address_of_offset))]
-fn address_of_offset(segments: &[LoadSegment], offset: u128) -> Option<u64>
-    ensures { result ≡ loading.address_of_offset segments.now offset }
-{
-    for segment in segments {
-        if has_offset(segment, offset) {
-            return address_in(segment, offset);
-        }
-    }
-    None
-}
-
-/// Whether a segment has an offset.
-fn has_offset(segment: &LoadSegment, offset: u128) -> bool
-    ensures { result ≡ loading.has_offset offset segment.now }
-{
-    let start = u128::from(segment.offset);
-    start <= offset && offset - start < u128::from(segment.size)
-}
-
-/// The address of an offset that a segment has, if it fits 64 bits.
-fn address_in(segment: &LoadSegment, offset: u128) -> Option<u64>
-    requires { segment.now.offset ≤ offset }
-    ensures { result ≡ loading.address_in offset segment.now }
-{
-    let behind = offset - u128::from(segment.offset);
-    let address = u128::from(segment.vaddr).checked_add(behind)?;
-    u64::try_from(address).ok()
 }
 
 /// A foreign address counts as 0.

@@ -9,7 +9,7 @@ use Rattle.branch_stacks.proofs.loads.Loads.count.Goals.{then-is_empty+in_ok-mee
 
 pub add_sample-requires : goal.add_sample-requires
 add_sample-requires c =
-    let moved = map (moved_branch c.if-is_empty.self.segments.items c.if-is_empty.self.met) c.args.branches.now in
+    let moved = map (moved_branch c.if-is_empty.self.segments c.if-is_empty.self.met) c.args.branches.now in
     let parts = c.in_ok-move_branches.ensures.branches in
     omega (
       arith,

@@ -25,8 +25,8 @@ loop-from-preserved c =
     let entry : ℕ × ℕ = get_or c.args.branches.now c.loop-from.from-index (0, 0) in
     let old = c.loop-from.self in
     let segments = ap (λ (m : LoadMap). m.segments) invariant.1 in
-    let source = c.move_of-source.ensures ∙ ap (λ (s : List LoadSegment). move_of s old.met entry.0) segments ∙ ap (λ (m : List Load). move_of c.args.self.now.segments.items m entry.0) invariant.2 in
-    let target = c.move_of-target.ensures ∙ ap (λ (s : List LoadSegment). move_of s old.met entry.1) segments ∙ ap (λ (m : List Load). move_of c.args.self.now.segments.items m entry.1) invariant.2 in
+    let source = c.move_of-source.ensures ∙ ap (λ (s : List LoadSegment). move_of s old.met entry.0) segments ∙ ap (λ (m : List Load). move_of c.args.self.now.segments m entry.0) invariant.2 in
+    let target = c.move_of-target.ensures ∙ ap (λ (s : List LoadSegment). move_of s old.met entry.1) segments ∙ ap (λ (m : List Load). move_of c.args.self.now.segments m entry.1) invariant.2 in
     let pushed = c.push_reserved.ensures.items
     ∙ ap (λ (a : ℕ). old.branches.items ++ (a, c.or_0-in-loop-from.result) ∷ []) c.or_0.ensures
     ∙ ap (λ (b : ℕ). old.branches.items ++ (or_0 c.move_of-source.result, b) ∷ []) c.or_0-in-loop-from.ensures in (

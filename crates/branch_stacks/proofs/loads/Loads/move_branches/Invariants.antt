@@ -6,7 +6,7 @@ use Rattle.branch_stacks.proofs.loads.Loads.move_branches.Given as goal
 
 abbrev pub invariant-loop-from : goal.invariant-loop-from
 invariant-loop-from l =
-    MovedSoFar (moved_branch l.initial.self.segments.items l.initial.self.met) (take l.from-index l.branches) l.self.branches.items l.self.ranges.items l.newer
+    MovedSoFar (moved_branch l.initial.self.segments l.initial.self.met) (take l.from-index l.branches) l.self.branches.items l.self.ranges.items l.newer
     × (map_in l.self ≡ map_in l.initial.self)
     × (l.self.met ≡ l.initial.self.met)
     × (length l.self.branches.items ≤ l.from-index)

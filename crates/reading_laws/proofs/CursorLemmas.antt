@@ -1,13 +1,15 @@
 -- Readers and how far they go.
-use Rattle.std.proofs.Common.{◌≡◌, ℕ, ◌+◌, ◌-◌, ◌≤◌, Bool, true, false, cond, length, nat_le, nat_lt, Ok, Err, refl, ap, subst, ◌∙◌, arith}
+use Rattle.std.proofs.Common.{◌≡◌, ℕ, ◌+◌, ◌-◌, ◌≤◌, Bool, true, false, cond, length, nat_le, nat_lt, Ok, Err, refl, ap, subst, ◌∙◌, List, ◌++◌, arith}
 use Rattle.std.specs.Prelude.{◌==◌}
 use Rattle.std.proofs.lemmas.Bool.Decides.{nat_tests}
 use Rattle.std.proofs.lemmas.List.{length-append}
-use Rattle.byte_view.specs.Cursor.{Cursor}
-use Rattle.byte_view.specs.Reading.{Reading, field_at}
+use Rattle.byte_view.specs.Cursor.{Cursor, Passes, Reads}
+use Rattle.byte_view.specs.Reading.{Reading, SpellsField, field_at}
 use Rattle.byte_view.proofs.Fronts.{field_at-spelled}
+use Rattle.byte_view.proofs.Spellings.{field_at-again}
 use Rattle.refusal.specs.declared.kind.Kind.{Kind}
 use Rattle.placed_view.specs.Reader.{Read, Reader, behind, refuse_if, told_as, placed, field}
+use Rattle.placed_view.proofs.ReadLemmas.{field-ok}
 use Rattle.unit_model.specs.Header.{long_length, short_length, sized, unit_length}
 
 pub same_pair : {X : Type 0} (x y : X) (a b : Cursor) → ◌≡◌ {A = Read X} (Ok (x, a)) (Ok (y, b)) → ◌≡◌ {A = X × Cursor} (x, a) (y, b)
@@ -32,33 +34,44 @@ pub record Ahead (least : ℕ) (old new : Cursor) : Type 0 where
 same_place : (least : ℕ) (old a b : Cursor) → Ahead least old a → a ≡ b → Ahead least old b
 same_place least old a b ahead same = subst (λ (c : Cursor). Ahead least old c) same ahead
 
-ahead_field : (size : ℕ) (old new : Cursor) (n : ℕ) → field size old ≡ Ok (n, new) → Ahead size old new
+passes_front : (old : Cursor) (front left : List ℕ) → old.left ≡ front ++ left → Passes old (record { at = old.at + (length old.left - length left); left = left }) front
+passes_front old front left parts = record { left = parts; at = omega (arith, ap length parts, length-append front left) }
+
+pub reads_field : (size : ℕ) (old new : Cursor) (n : ℕ) → field size old ≡ Ok (n, new) → Reads (SpellsField size) old new n
 unfolding field
-ahead_field size old new n e = go (field_at size old.left) refl e
+reads_field size old new n e = go (field_at size old.left) refl e
   where
-    go : (answer : Reading ℕ) → field_at size old.left ≡ answer → placed old answer ≡ Ok (n, new) → Ahead size old new
+    go : (answer : Reading ℕ) → field_at size old.left ≡ answer → placed old answer ≡ Ok (n, new) → Reads (SpellsField size) old new n
     go (Err fault) is e = absurd cc
     go (Ok (m, left)) is e =
         let b = field_at-spelled size old.left left m is in
-        let long : length b.front ≡ size = b.spelled.sized in
-        let all : length old.left ≡ length b.front + length left = ap length b.parts ∙ length-append b.front left in
-        let here : Cursor = record { at = old.at + (length old.left - length left); left = left } in
-        same_place size old here new (record { places = omega (arith, long, all); ends = omega (arith, long, all) })
-        (ap (λ (p : ℕ × Cursor). p.1) (same_pair m n here new e))
+        subst (λ (p : ℕ × Cursor). Reads (SpellsField size) old p.1 p.0) (same_pair m n (record { at = old.at + (length old.left - length left); left = left }) new e)
+        (record { bytes = b.front; spelled = b.spelled; passed = passes_front old b.front left b.parts })
 
-told_as-same : {X : Type 0} (at : ℕ) (kind : Kind) (read : Read X) (x : X) (new : Cursor) → told_as at kind read ≡ Ok (x, new) → read ≡ Ok (x, new)
+pub field_reads : (size : ℕ) (old new : Cursor) (n : ℕ) → Reads (SpellsField size) old new n → field size old ≡ Ok (n, new)
+field_reads size old new n r = field-ok size old new n r (ap (field_at size) r.passed.left ∙ field_at-again size r.bytes new.left n r.spelled)
+
+ahead_field : (size : ℕ) (old new : Cursor) (n : ℕ) → field size old ≡ Ok (n, new) → Ahead size old new
+ahead_field size old new n e =
+    let r = reads_field size old new n e in
+    let long : length r.bytes ≡ size = r.spelled.sized in
+    let all : length old.left ≡ length r.bytes + length new.left = ap length r.passed.left ∙ length-append r.bytes new.left in
+    let at = r.passed.at in
+    record { places = omega (arith, long, at); ends = omega (arith, long, at, all) }
+
+pub told_as-same : {X : Type 0} (at : ℕ) (kind : Kind) (read : Read X) (x : X) (new : Cursor) → told_as at kind read ≡ Ok (x, new) → read ≡ Ok (x, new)
 told_as-same at kind (Ok r) x new e = e
 told_as-same at kind (Err place) x new e = absurd cc
 
-second : {X : Type 0} (x y : X) (a b : Cursor) → ◌≡◌ {A = Read X} (Ok (x, a)) (Ok (y, b)) → a ≡ b
+pub second : {X : Type 0} (x y : X) (a b : Cursor) → ◌≡◌ {A = Read X} (Ok (x, a)) (Ok (y, b)) → a ≡ b
 second {X = X} x y a b e = ap (λ (p : X × Cursor). p.1) (same_pair x y a b e)
 
 -- Nothing is in the way.
-record Unless (cause : Bool) (old new : Cursor) : Type 0 where
-  holds_not : cause ≡ false
-  stays : old ≡ new
+pub record Unless (cause : Bool) (old new : Cursor) : Type 0 where
+  pub holds_not : cause ≡ false
+  pub stays : old ≡ new
 
-unless : (cause : Bool) (at : ℕ) (kind : Kind) (u : Unit {0}) (old new : Cursor) → refuse_if cause at kind old ≡ Ok (u, new) → Unless cause old new
+pub unless : (cause : Bool) (at : ℕ) (kind : Kind) (u : Unit {0}) (old new : Cursor) → refuse_if cause at kind old ≡ Ok (u, new) → Unless cause old new
 unless true at kind u old new e = absurd cc
 unless false at kind u old new e = record { holds_not = refl; stays = second tt u old new e }
 
@@ -91,22 +104,21 @@ ahead_sized at old new x e =
     go first cur true e = ahead_long at cur new x e
     go first cur false e = ahead_short at first cur new x e
 
--- Behind its length a unit has as many bytes as this says.
-pub record Sized (old new : Cursor) (size : ℕ) : Type 0 where
+-- The length of a unit that was read, behind which there are as many bytes.
+pub record Sized (old new : Cursor) (x : Bool × ℕ) : Type 0 where
+  pub read : sized old.at old ≡ Ok (x, new)
   pub ahead : Ahead 4 old new
-  pub room : size ≤ length new.left
+  pub room : x.1 ≤ length new.left
 
-pub unit_sized : (old new : Cursor) (x : Bool × ℕ) → unit_length old ≡ Ok (x, new) → Sized old new x.1
+pub unit_sized : (old new : Cursor) (x : Bool × ℕ) → unit_length old ≡ Ok (x, new) → Sized old new x
 unfolding unit_length
 unit_sized old new x e =
     let a = split (sized old.at old) _ x new e in
     let b = split _ _ x new a.follows in
     let u = unless (nat_lt (length a.cur.left) a.value.1) old.at _ b.value a.cur b.cur b.first in
     let p = same_pair (a.value.0, a.value.1) x b.cur new b.follows in
-    let cur_is : a.cur ≡ new = u.stays ∙ ap (λ (p : (Bool × ℕ) × Cursor). p.1) p in
-    let size_is : a.value.1 ≡ x.1 = ap (λ (p : (Bool × ℕ) × Cursor). p.0.1) p in
     let fits : a.value.1 ≤ length a.cur.left = let h = u.holds_not in grind (arith, nat_tests) in
-    record {
-      ahead = same_place 4 old a.cur new (ahead_sized old.at old a.cur a.value a.first) cur_is;
-      room = omega (arith, fits, size_is, ap (λ (c : Cursor). length c.left) cur_is);
-    }
+    let all : (a.cur ≡ b.cur) = u.stays in
+    subst (λ (p : (Bool × ℕ) × Cursor). Sized old p.1 p.0) p
+    (subst (λ (c : Cursor). Sized old c a.value) all
+    (record { read = a.first; ahead = ahead_sized old.at old a.cur a.value a.first; room = fits }))

@@ -1,13 +1,13 @@
 -- The laws on worked values: what each says of a list is computed on both its sides.
-use Rattle.std.proofs.Common.{◌≡◌, ℕ, Bool, true, false, List, [], ◌∷◌, map, take, None, Some, Result, Ok, Err, refl, arith}
+use Rattle.std.proofs.Common.{◌≡◌, ℕ, Bool, true, false, ◌+◌, List, [], ◌∷◌, ◌++◌, length, map, inl, take, None, Some, Result, Ok, Err, refl, arith}
 use Rattle.std.specs.Prelude.{codes, count_by, slice_get}
 use Rattle.std.specs.List.{filter_map, flat_map, range_with_len}
 use Rattle.std.specs.Option.{option_map}
 use Rattle.refusal.specs.declared.kind.Kind.{Kind}
 use Rattle.refusal.specs.declared.kind.Kind.TheVariants.{BadClass, BadRangeEntry}
 use Rattle.refusal.specs.Place.{in_binary}
-use Rattle.byte_view.specs.Cursor.{Cursor}
-use Rattle.byte_view.specs.Reading.{field_at, uleb_at}
+use Rattle.byte_view.specs.Cursor.{Cursor, Reads}
+use Rattle.byte_view.specs.Reading.{SpellsField, field_at, uleb_at}
 use Rattle.load_model.specs.Segments.{address_of_offset}
 use Rattle.text_model.specs.Fields.{fields_of}
 use Rattle.text_model.specs.Lines.{lines_of}
@@ -23,8 +23,9 @@ use Rattle.abbrev_model.specs.Abbrev.{find_code}
 use Rattle.abbrev_model.specs.Table.{next_abbrev, table}
 use Rattle.placed_view.specs.Reader.{field, uleb}
 use Rattle.unit_model.specs.Entries.{entries as unit_entries}
-use Rattle.unit_model.specs.Header.{abbrevs_at, address_size, header, header_4, sized, unit_length}
+use Rattle.unit_model.specs.Header.{abbrevs_at, address_size, header, header_4, header_5, header_5_behind, sized, unit_length}
 use Rattle.unit_model.specs.Units.{Units, next_unit, unit_body, units}
+use Rattle.reading_laws.specs.Headers.{SpellsHeader, version_5}
 use Rattle.reading_laws.specs.Loads.{loads}
 use Rattle.reading_laws.specs.Units.{Follow, Part, has, passed, passed_of, read as read_unit, spans_of, unit_of}
 use Rattle.reading_laws.specs.Ranges.{last_base, ranges_at}
@@ -145,3 +146,35 @@ units_of_bytes : map (λ place. count_by (has place) (spans_of told)) (165 ∷ 1
     ≡ 0 ∷ 1 ∷ 1 ∷ 1 ∷ 1 ∷ 1 ∷ 1 ∷ 0 ∷ []
 unfolding told
 units_of_bytes = refl
+
+-- ---- headers
+
+-- bytes at a place that spell a number, with others behind them
+field_of : (size at : ℕ) (bytes rest : List ℕ) (n : ℕ) → SpellsField size bytes n
+    → Reads (SpellsField size) (cursor at (bytes ++ rest)) (cursor (at + length bytes) rest) n
+unfolding cursor
+field_of size at bytes rest n spelled = record { bytes = bytes; spelled = spelled; passed = record { left = refl; at = refl } }
+
+-- a header of version 5 and of type 1, whose abbreviations begin at offset 2 of a section of 4 bytes at place 120
+spelled_5 :
+    SpellsHeader false (Some (cursor 120 (9 ∷ 9 ∷ 9 ∷ 9 ∷ []))) (cursor 4 (5 ∷ 0 ∷ 1 ∷ 8 ∷ 2 ∷ 0 ∷ 0 ∷ 0 ∷ 7 ∷ [])) (cursor 12 (7 ∷ []))
+    (Some (record { version = 5; abbrevs = cursor 122 (9 ∷ 9 ∷ []) }))
+unfolding cursor
+spelled_5 =
+    version_5 _ _ _ _ _ _ 1 (field_of 2 4 (5 ∷ 0 ∷ []) (1 ∷ 8 ∷ 2 ∷ 0 ∷ 0 ∷ 0 ∷ 7 ∷ []) 5 (record { sized = refl; value = refl }))
+    (field_of 1 6 (1 ∷ []) (8 ∷ 2 ∷ 0 ∷ 0 ∷ 0 ∷ 7 ∷ []) 1 (record { sized = refl; value = refl })) (inl refl)
+    (field_of 1 7 (8 ∷ []) (2 ∷ 0 ∷ 0 ∷ 0 ∷ 7 ∷ []) 8 (record { sized = refl; value = refl }))
+    (record {
+      offset = 2;
+      field = field_of 4 8 (2 ∷ 0 ∷ 0 ∷ 0 ∷ []) (7 ∷ []) 2 (record { sized = refl; value = refl });
+      abbrevs = cursor 120 (9 ∷ 9 ∷ 9 ∷ 9 ∷ []);
+      there = refl;
+      inside = omega arith;
+      leads = refl;
+    })
+
+read_5 :
+    header false (Some (cursor 120 (9 ∷ 9 ∷ 9 ∷ 9 ∷ []))) (cursor 4 (5 ∷ 0 ∷ 1 ∷ 8 ∷ 2 ∷ 0 ∷ 0 ∷ 0 ∷ 7 ∷ []))
+    ≡ Ok (Some (record { version = 5; abbrevs = cursor 122 (9 ∷ 9 ∷ []) }), cursor 12 (7 ∷ []))
+unfolding cursor abbrevs_at address_size field field_at header header_5 header_5_behind
+read_5 = refl

@@ -1,5 +1,6 @@
 pub mod CursorLemmas
 mod Examples
+pub mod HeaderLemmas
 pub mod ListLemmas
 pub mod LoadLemmas
 pub mod RangeLemmas

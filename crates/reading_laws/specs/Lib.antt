@@ -1,3 +1,4 @@
+pub mod Headers
 pub mod Lists
 pub mod Loads
 pub mod Ranges

@@ -13,7 +13,8 @@ base_of resolve _ = None
 
 -- The base behind some entries: the last address that one of them made the base, or the unit's base address.
 abbrev pub last_base : Resolves → ℕ → List Placed → ℕ
-last_base resolve base entries = unwrap_or (last_or None (filter_map (λ placed. base_of resolve placed.entry) entries)) base
+last_base resolve base entries =
+    unwrap_or (last_or None (filter_map (λ placed. base_of resolve placed.entry) entries)) base
 
 -- What the entry at an index of a list means, counted from the base behind the entries before it.
 abbrev pub ranges_at : Resolves → ℕ → List Placed → ℕ → List (ℕ × ℕ)

@@ -1,4 +1,5 @@
 // The definitions seen from the other side.
+ghost use Rattle.reading_laws.specs.Headers.{ReadHeadersAreSpelled, ReadLengthsAreSpelled, SpelledHeadersAreRead, SpelledLengthsAreRead};
 ghost use Rattle.reading_laws.specs.Lists.{ListsAreWhole, WholeListsAreRead};
 ghost use Rattle.reading_laws.specs.Loads.{LastLoadMoves, LinesAreMovedByThoseBefore, UnloadedIsForeign};
 ghost use Rattle.reading_laws.specs.Ranges.{RangesAreByEntry};
@@ -45,4 +46,24 @@ pub fn units_fill_sections()
 /// Each byte of `.debug_info` is of one unit, and no unit has a byte elsewhere.
 pub fn bytes_have_one_unit()
     ensures { BytesHaveOneUnit }
+{}
+
+/// What is read as the length of a unit is spelled so, and as many bytes stand behind it.
+pub fn read_lengths_are_spelled()
+    ensures { ReadLengthsAreSpelled }
+{}
+
+/// What spells the length of a unit is read as this length, where as many bytes stand behind it.
+pub fn spelled_lengths_are_read()
+    ensures { SpelledLengthsAreRead }
+{}
+
+/// What is read as the header of a unit is spelled so.
+pub fn read_headers_are_spelled()
+    ensures { ReadHeadersAreSpelled }
+{}
+
+/// What spells the header of a unit is read as this header.
+pub fn spelled_headers_are_read()
+    ensures { SpelledHeadersAreRead }
 {}

@@ -7,7 +7,7 @@ use Rattle.refusal.specs.declared.kind.Kind.{Kind}
 use Rattle.refusal.specs.declared.kind.Kind.TheVariants.{BadClass, BadRangeEntry}
 use Rattle.refusal.specs.Place.{in_binary}
 use Rattle.byte_view.specs.Cursor.{Cursor, Reads}
-use Rattle.byte_view.specs.Reading.{SpellsField, field_at, uleb_at}
+use Rattle.byte_view.specs.Reading.{SpellsField, field_at, run_at, sleb_at, uleb_at}
 use Rattle.load_model.specs.Segments.{address_of_offset}
 use Rattle.text_model.specs.Fields.{fields_of}
 use Rattle.text_model.specs.Lines.{lines_of}
@@ -19,6 +19,10 @@ use Rattle.value_model.specs.Value.{Value, addr, const}
 use Rattle.range_model.specs.Entries.{Entry, coded_entry_at, pair_entry_at, sets_base, along, from_base}
 use Rattle.range_model.specs.Lists.{Placed, entries_from, ranges_from}
 use Rattle.reading_laws.specs.Lists.{Stand, Stops}
+use Rattle.line_model.specs.declared.row.Row.{Row}
+use Rattle.line_model.specs.Fields.{unit_at, version_at, sizes_at, opcodes_at, operations_at, lengths_at, header_at, program_at}
+use Rattle.line_model.specs.Program.{rows_at, rows_in}
+use Rattle.line_model.specs.Reading.{operation_at, code_at, extended_at, ulebs_at}
 use Rattle.abbrev_model.specs.Abbrev.{find_code}
 use Rattle.abbrev_model.specs.Table.{next_abbrev, table}
 use Rattle.placed_view.specs.Reader.{field, uleb}
@@ -178,3 +182,19 @@ read_5 :
     ≡ Ok (Some (record { version = 5; abbrevs = cursor 122 (9 ∷ 9 ∷ []) }), cursor 12 (7 ∷ []))
 unfolding cursor abbrevs_at address_size field field_at header header_5 header_5_behind
 read_5 = refl
+
+-- ---- rows
+
+-- a program of version 4: an address, a row, 16 bytes of code, and the end of the sequence
+abbrev program : List ℕ
+program =
+    0x2b ∷ 0 ∷ 0 ∷ 0 ∷ 4 ∷ 0 ∷ 0x14 ∷ 0 ∷ 0 ∷ 0 ∷ 1 ∷ 1 ∷ 1 ∷ 0xfb ∷ 0x0e ∷ 0x0d ∷ 0 ∷ 1 ∷ 1 ∷ 1 ∷ 1 ∷ 0 ∷ 0 ∷ 0 ∷ 1 ∷ 0 ∷ 0 ∷ 1 ∷ 0 ∷ 0 ∷
+    0 ∷ 9 ∷ 2 ∷ 0 ∷ 0x10 ∷ 0x40 ∷ 0 ∷ 0 ∷ 0 ∷ 0 ∷ 0 ∷ 1 ∷ 2 ∷ 0x10 ∷ 0 ∷ 1 ∷ 1 ∷ []
+
+abbrev two_rows : List Row
+two_rows =
+    record { address = 0x401000; line = 1; disc = 0; ends = false } ∷ record { address = 0x401010; line = 1; disc = 0; ends = true } ∷ []
+
+rows_alone : (rows_at 7 (record { at = 229; left = program }) ≡ Ok two_rows) × (rows_at 0 (record { at = 229; left = program }) ≡ Ok two_rows)
+unfolding field_at run_at uleb_at sleb_at operation_at code_at extended_at ulebs_at unit_at version_at sizes_at opcodes_at operations_at lengths_at header_at program_at rows_at rows_in
+rows_alone = (refl, refl)

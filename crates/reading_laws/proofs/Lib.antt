@@ -3,5 +3,6 @@ mod Examples
 pub mod HeaderLemmas
 pub mod ListLemmas
 pub mod LoadLemmas
+pub mod ProgramLemmas
 pub mod RangeLemmas
 pub mod UnitLemmas

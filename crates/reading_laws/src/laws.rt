@@ -2,6 +2,7 @@
 ghost use Rattle.reading_laws.specs.Headers.{ReadHeadersAreSpelled, ReadLengthsAreSpelled, SpelledHeadersAreRead, SpelledLengthsAreRead};
 ghost use Rattle.reading_laws.specs.Lists.{ListsAreWhole, WholeListsAreRead};
 ghost use Rattle.reading_laws.specs.Loads.{LastLoadMoves, LinesAreMovedByThoseBefore, UnloadedIsForeign};
+ghost use Rattle.reading_laws.specs.Programs.{RowsAreOfTheirProgram};
 ghost use Rattle.reading_laws.specs.Ranges.{RangesAreByEntry};
 ghost use Rattle.reading_laws.specs.Units.{BytesHaveOneUnit, UnitsFillSections};
 
@@ -66,4 +67,9 @@ pub fn read_headers_are_spelled()
 /// What spells the header of a unit is read as this header.
 pub fn spelled_headers_are_read()
     ensures { SpelledHeadersAreRead }
+{}
+
+/// The rows of a line program are its own, however many rows stand before them.
+pub fn rows_are_of_their_program()
+    ensures { RowsAreOfTheirProgram }
 {}

@@ -89,11 +89,23 @@ Function jumps(int size) {
     return made;
 }
 
-// Functions of 5 to 200 blocks.
-std::vector<Function> several(int count) {
+// How many blocks the function with a number has, of 5 to 200: each size as often, or as in a compiled program, of which
+// each tenth of the functions lies between two of these borders.
+int even_size(int function) {
+    return 5 + mixed(function) % 196;
+}
+
+int compiled_size(int function) {
+    const int borders[] = {5, 6, 8, 10, 13, 16, 20, 27, 36, 58, 201};
+    const Number number = mixed(function);
+    const int *tenth = borders + number % 10;
+    return tenth[0] + number / 10 % (tenth[1] - tenth[0]);
+}
+
+std::vector<Function> several(int count, int (*size)(int)) {
     std::vector<Function> made;
     for (int at = 0; at < count; at++)
-        made.push_back(jumps(5 + mixed(at) % 196));
+        made.push_back(jumps(size(at)));
     return made;
 }
 
@@ -188,7 +200,8 @@ int main(int argc, char **argv) {
     take_a_minute_at_most();
     const std::string name = argv[1], shape = argv[2];
     const int number = std::atoi(argv[3]), times = std::max(1, std::atoi(argv[4]));
-    const auto functions = shape == "mixed" ? several(number)
+    const auto functions = shape == "mixed" ? several(number, even_size)
+        : shape == "compiled" ? several(number, compiled_size)
         : std::vector<Function>{shape == "chain" ? chain(number) : shape == "jumps" ? jumps(number) : diamonds(number)};
     // Each solver gets the form that it solves faster.
     if (name == "CapacityScaling")

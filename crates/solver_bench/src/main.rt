@@ -4,7 +4,9 @@
 //! sampled once; `solver_bench diamonds BLOCKS TIMES` a row of choices of two ways, whose weights
 //! are off by a few per cent; `solver_bench jumps BLOCKS TIMES` blocks of which every second one
 //! jumps ahead, with such weights; `solver_bench mixed FUNCTIONS TIMES` so many functions of 5 to
-//! 200 such blocks. It prints how many times each was solved and what the counts cost.
+//! 200 such blocks, each size as often; `solver_bench compiled FUNCTIONS TIMES` so many of the
+//! sizes that compiled functions have. It prints how many times each was solved and what the counts
+//! cost.
 #![tactic(auto)]
 
 mod shapes;
@@ -12,6 +14,7 @@ mod shapes;
 use flow_network::{Net, Solved, cost};
 use flow_solver::solve;
 use refusal::NoMemory;
+use shapes::Sizes;
 use std::alloc::Global;
 use std::process::ExitCode;
 use std::rt::Env;
@@ -42,7 +45,8 @@ fn costs_of(alloc: Global, shape: &str, size: u32, times: u32) -> Option<u128> {
         "chain" => shapes::chain(alloc, size).ok()?,
         "jumps" => shapes::jumps(alloc, size).ok()?,
         "diamonds" => shapes::diamonds(alloc, size).ok()?,
-        "mixed" => return solved_each(alloc, size, times).ok(),
+        "mixed" => return solved_each(alloc, size, times, Sizes::Even).ok(),
+        "compiled" => return solved_each(alloc, size, times, Sizes::Compiled).ok(),
         _ => return None,
     };
     solved(alloc, &net, times).ok()
@@ -50,10 +54,10 @@ fn costs_of(alloc: Global, shape: &str, size: u32, times: u32) -> Option<u128> {
 
 /// What the least counts of so many functions of 5 to 200 blocks cost together, each solved so many
 /// times.
-fn solved_each(alloc: Global, functions: u32, times: u32) -> Result<u128, NoMemory> {
+fn solved_each(alloc: Global, functions: u32, times: u32, sizes: Sizes) -> Result<u128, NoMemory> {
     let mut costs: u128 = 0;
     for number in 0..functions {
-        let net = shapes::jumps(alloc, shapes::size_of(number))?;
+        let net = shapes::jumps(alloc, sizes.of(number))?;
         costs = costs.saturating_add(solved(alloc, &net, times)?);
     }
     Ok(costs)

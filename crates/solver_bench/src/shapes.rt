@@ -62,9 +62,42 @@ pub(crate) fn jumps(alloc: Global, size: u32) -> Result<Net, NoMemory> {
     made(alloc, blocks, edges, &weights, &edge_weights)
 }
 
-/// How many blocks the function with this number has: 5 to 200.
-pub(crate) fn size_of(function: u32) -> u32 {
-    5 + (mixed(u64::from(function)) % 196) as u32
+/// How the sizes of functions are spread over 5 to 200 blocks.
+#[derive(Clone, Copy)]
+pub(crate) enum Sizes {
+    /// Each size as often.
+    Even,
+    /// As in a compiled program.
+    Compiled,
+}
+
+impl Sizes {
+    /// How many blocks the function with this number has.
+    pub(crate) fn of(self, function: u32) -> u32 {
+        let number = (mixed(u64::from(function)) % (1 << 32)) as u32;
+        match self {
+            Sizes::Even => 5 + number % 196,
+            Sizes::Compiled => compiled_size(number % 10, number / 10),
+        }
+    }
+}
+
+/// A size from one tenth of a program's functions, ordered by their sizes. The borders of the
+/// tenths are those of the 4,250 functions of CPython 3.11 that have 5 to 200 blocks (gcc 12,
+/// x86-64), counted by their jumps.
+fn compiled_size(tenth: u32, number: u32) -> u32 {
+    match tenth {
+        0 => 5,
+        1 => 6 + number % 2,
+        2 => 8 + number % 2,
+        3 => 10 + number % 3,
+        4 => 13 + number % 3,
+        5 => 16 + number % 4,
+        6 => 20 + number % 7,
+        7 => 27 + number % 9,
+        8 => 36 + number % 22,
+        _ => 58 + number % 143,
+    }
 }
 
 /// The edges from one block on.

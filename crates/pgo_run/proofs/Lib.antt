@@ -1,9 +1,5 @@
 pub mod BranchTextLemmas
-pub mod CountsLemmas
 mod Examples
-pub mod CommandLemmas
-pub mod OptionLemmas
 pub mod ProfileLemmas
-pub mod WhereLemmas
 pub mod StopLemmas
 pub mod UnreadLemmas

@@ -1,9 +1,6 @@
 pub mod BranchText
 pub mod Halt
-pub mod Options
 pub mod Output
 pub mod Profile
 pub mod Run
 pub mod Status
-pub mod Words
-pub mod Where

@@ -5,10 +5,8 @@
 #![tactic(auto)]
 
 mod branch_text;
-mod command;
 mod counts;
 mod halt;
-mod options;
 mod order;
 mod profile;
 mod program;

@@ -9,14 +9,14 @@ ghost use Rattle.command_model.specs.Answer.{answer_of_command};
 ghost use Rattle.sampled_profile.specs.Output.{loading_of};
 ghost use Rattle.pgo_run.specs.Output.{AreGoodBefore, HasFileCause, HasOpened, IfReadFault, Makes, tells_read_fault};
 ghost use Rattle.pgo_run.specs.Profile.{SamplesFile};
-ghost use Rattle.pgo_run.specs.Words.{profile_asked};
+ghost use Rattle.command_words.specs.Words.{profile_asked};
 
 use crate::branch_text::count_text;
 use crate::halt::Halt;
-use crate::options::Sampling;
 use crate::order::{MAX_BINARY, open_file, read_file};
 use binary_places::read;
 use branch_stacks::{Counts, Reader};
+use command_words::Sampling;
 use io_edge::Inputs;
 use load_model::LoadSegment;
 use profile_maker::make;

@@ -7,12 +7,12 @@ ghost use Rattle.command_model.specs.Answer.{answer_of, answer_of_command, fails
 ghost use Rattle.command_model.specs.Command.{command_of};
 ghost use Rattle.pgo_run.specs.Run.{AgreesWithOpens, ComesExactly, HasWritten, IsWithoutFault, IsWithoutOutput};
 ghost use Rattle.pgo_run.specs.Output.{AreGoodBefore, HasOpened, IfReadFault, Makes, Reaches, tells_read_fault};
-ghost use Rattle.pgo_run.specs.Words.{meaning_of, texts_of};
+ghost use Rattle.command_words.specs.Words.{meaning_of, texts_of};
 
-use crate::command::{Command, parse};
 use crate::halt::Halt;
 use crate::status::Status;
 use crate::{counts, profile, where_};
+use command_words::{Command, parse};
 use io_edge::{Inputs, Sink, write_all};
 use std::alloc::Global;
 

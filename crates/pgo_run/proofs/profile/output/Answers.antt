@@ -7,7 +7,7 @@ use Rattle.sampled_profile.specs.Output.{profile_output}
 use Rattle.command_model.specs.Answer.{answer_of_command, with_file, writes}
 use Rattle.pgo_run.specs.Output.{AreGoodBefore}
 use Rattle.pgo_run.specs.Profile.{SamplesFile}
-use Rattle.pgo_run.specs.Words.{profile_asked, told_sampling}
+use Rattle.command_words.specs.Words.{profile_asked, told_sampling}
 use Rattle.pgo_run.proofs.UnreadLemmas.{unread}
 use Rattle.pgo_run.proofs.ProfileLemmas.{all-written, good-binary, is-there, stopped-text, unread-nothing, unsaid, written}
 use Rattle.pgo_run.proofs.profile.output.Goals as goal

@@ -2,8 +2,8 @@ use Rattle.binary_model.specs.Places.{place_of_address}
 use Rattle.binary_places.proofs.ShownLemmas.{places_shown}
 use Rattle.pgo_run.proofs.where_.line_of.Goals as goal
 
-pub print-requires : goal.print-requires
-print-requires c = (
+pub place_line-requires : goal.place_line-requires
+place_line-requires c = (
   place_of_address c.args.file.now c.args.base c.args.address,
   rw c.place.ensures (places_shown c.args.file.now c.args.base c.in_ok-binary.binary c.in_ok-binary.ensures.1 c.args.address),
 )
@@ -11,6 +11,6 @@ print-requires c = (
 pub returns : goal.returns
 returns c = (
   c.in_ok-binary.ensures.0,
-  c.in_ok-print.ensures (place_of_address c.args.file.now c.args.base c.args.address)
+  c.in_ok-place_line.ensures (place_of_address c.args.file.now c.args.base c.args.address)
       (rw c.place.ensures (places_shown c.args.file.now c.args.base c.in_ok-binary.binary c.in_ok-binary.ensures.1 c.args.address)),
 )

@@ -1,0 +1,149 @@
+ghost use Rattle.std.specs.Prelude.{◌≡◌, ◌≤◌, length};
+ghost use Rattle.std.specs.Option.{option_map};
+ghost use Rattle.command_model.specs.Command.{address_of as address_told, base_asked as base_told, command_of, counts_of, digits_of as digits_told, is_option as option_told, option_count as count_told, profile_of, where_of};
+ghost use Rattle.command_words.specs.Words.{texts_of, meaning_of};
+
+use crate::options::{Sampling, is_base, sampling_of};
+use text_scan::hex;
+
+/// The most digits of an address.
+const MOST_DIGITS: usize = 16;
+
+/// What a user asks for.
+#[derive(Clone, Copy, Debug)]
+pub enum Command<'a> {
+    /// The branches of this branch text, counted.
+    Counts(&'a [u8]),
+    /// The place of an address of this binary, with bases in place of discriminators where `base`
+    /// asks for them.
+    Where {
+        base: bool,
+        binary: &'a [u8],
+        address: u64,
+    },
+    /// The profile of this binary and this branch text, and the report on it.
+    Profile {
+        sampling: Sampling<'a>,
+        binary: &'a [u8],
+        perf: &'a [u8],
+    },
+}
+
+/// The command that the words spell.
+#[tactic(auto, unfolding(command_model::specs::Command::command_of))]
+pub fn parse(words: &[Vec<u8>]) -> Option<Command<'_>>
+    ensures { option_map meaning_of result ≡ command_of (texts_of words.now) }
+{
+    let Some((name, words)) = words.split_first() else {
+        return None;
+    };
+    let (options, operands) = words.split_at(option_count(words));
+    if name.as_slice() == b"counts".as_slice() {
+        parse_counts(options, operands)
+    } else if name.as_slice() == b"where".as_slice() {
+        parse_where(options, operands)
+    } else if name.as_slice() == b"profile".as_slice() {
+        parse_profile(options, operands)
+    } else {
+        None
+    }
+}
+
+/// How many words in front are options.
+fn option_count(words: &[Vec<u8>]) -> usize
+    ensures counted { result ≡ count_told (texts_of words.now) }
+    ensures within { result ≤ length words.now }
+{
+    let mut count = 0;
+    for word in words {
+        if !is_option(word) {
+            return count;
+        }
+        count += 1;
+    }
+    count
+}
+
+/// Whether a word begins with `--`.
+fn is_option(word: &[u8]) -> bool
+    ensures { result ≡ option_told word.now }
+{
+    word.starts_with(b"--")
+}
+
+/// `counts PERF`
+fn parse_counts<'a>(options: &[Vec<u8>], operands: &'a [Vec<u8>]) -> Option<Command<'a>>
+    ensures { option_map meaning_of result
+        ≡ counts_of (texts_of options.now) (texts_of operands.now) }
+{
+    match (options, operands) {
+        ([], [perf]) => Some(Command::Counts(perf)),
+        _ => None,
+    }
+}
+
+/// `where [--base] BIN HEX`
+fn parse_where<'a>(options: &[Vec<u8>], operands: &'a [Vec<u8>]) -> Option<Command<'a>>
+    ensures { option_map meaning_of result
+        ≡ where_of (texts_of options.now) (texts_of operands.now) }
+{
+    match operands {
+        [binary, hex] => Some(Command::Where {
+            base: base_asked(options)?,
+            binary,
+            address: address_of(hex)?,
+        }),
+        _ => None,
+    }
+}
+
+/// `profile [--map=NAME] [--base] BIN PERF`
+fn parse_profile<'a>(options: &'a [Vec<u8>], operands: &'a [Vec<u8>]) -> Option<Command<'a>>
+    ensures { option_map meaning_of result
+        ≡ profile_of (texts_of options.now) (texts_of operands.now) }
+{
+    match operands {
+        [binary, perf] => Some(Command::Profile {
+            sampling: sampling_of(options)?,
+            binary,
+            perf,
+        }),
+        _ => None,
+    }
+}
+
+/// Whether `--base` is among the options of a command that has no other option.
+fn base_asked(options: &[Vec<u8>]) -> Option<bool>
+    ensures { result ≡ base_told (texts_of options.now) }
+{
+    match options {
+        [] => Some(false),
+        [option] if is_base(option) => Some(true),
+        _ => None,
+    }
+}
+
+/// The digits of an address, which may stand behind `0x`.
+fn digits_of(word: &[u8]) -> &[u8]
+    ensures { result.now ≡ digits_told word.now }
+{
+    match word.strip_prefix(b"0x") {
+        Some(digits) => digits,
+        None => word,
+    }
+}
+
+/// The address that one to sixteen hexadecimal digits spell, with `0x` before them or not.
+#[tactic(auto, unfolding(command_model::specs::Command::address_of))]
+fn address_of(word: &[u8]) -> Option<u64>
+    ensures { result ≡ address_told word.now }
+{
+    let digits = digits_of(word);
+    if digits.len() > MOST_DIGITS {
+        return None;
+    }
+    match hex(digits) {
+        Ok(address) => Some(address),
+        Err(_) => None,
+    }
+}

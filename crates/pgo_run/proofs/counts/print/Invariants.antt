@@ -1,7 +1,0 @@
-use Rattle.std.proofs.Common.{◌≡◌, take}
-use Rattle.std.specs.List.{flat_map}
-use Rattle.pgo_run.proofs.CountsLemmas.{row_line}
-use Rattle.pgo_run.proofs.counts.print.Given as goal
-
-abbrev pub invariant-loop-row : goal.invariant-loop-row
-invariant-loop-row l = l.out.items ≡ flat_map row_line (take l.row-index l.row-items)

@@ -16,10 +16,15 @@ usage:
   pgo --version               the version
 
 PERF is what `perf script -F ip,brstack` prints, in a file. BIN is a 64-bit ELF
-file with DWARF 4 or 5, HEX an address in hexadecimal digits. With --base the
-discriminators are taken apart as clang packs them. With --map=NAME addresses
-are moved by the load lines of the branch text, in which the binary has this
-name. Messages count file words and lines from 1, and places in a binary from 0.
+file with DWARF 4 or 5, HEX an address in hexadecimal digits.
+
+--base      discriminators are taken apart as clang packs them: give it for
+            binaries of clang and rustc, and not for those of gcc
+--map=NAME  addresses are moved by the load lines of the branch text, in which
+            the binary has this name: position-independent programs and shared
+            objects need it, and `perf script --show-mmap-events`
+
+Messages count file words and lines from 1, and places in a binary from 0.
 
 exit status:
   0  done, the whole output was written

@@ -5,8 +5,8 @@ use Rattle.std.specs.List.Sorted.{IsSorted}
 use Rattle.std.proofs.lemmas.List.Folds.{flat_map-map}
 use Rattle.sample_model.specs.Pairs.{times_of, distinct_pairs}
 use Rattle.sample_model.specs.declared.pair.Pair.{Pair}
-use Rattle.branch_stacks.specs.Pair.{pair_cmp}
-use Rattle.branch_stacks.specs.Table.{pair_of, total_in, Tallies}
+use Rattle.branch_counts.specs.Pair.{pair_cmp}
+use Rattle.branch_counts.specs.Table.{pair_of, total_in, Tallies}
 use Rattle.command_model.specs.Counts.{counts_line, counts_text, total_line}
 use Rattle.tally_law.specs.Laws.{told_of}
 use Rattle.tally_law.proofs.OrderLemmas.{rows_tally_in_any_order, sorted_rows_are_distinct_pairs}

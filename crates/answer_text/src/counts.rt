@@ -1,11 +1,11 @@
 // What `counts` writes.
 ghost use Rattle.std.specs.Prelude.{◌≡◌, ◌++◌, List, ℕ, IfOk, OnOk};
 ghost use Rattle.sample_model.specs.Samples.{branches_of_lines};
-ghost use Rattle.branch_stacks.specs.Table.{pair_of};
-ghost use Rattle.branch_stacks.specs.Tally.{TellsOf};
+ghost use Rattle.branch_counts.specs.Table.{pair_of};
+ghost use Rattle.branch_counts.specs.Tally.{TellsOf};
 ghost use Rattle.command_model.specs.Counts as model;
 
-use branch_stacks::Counts;
+use branch_counts::Counts;
 use refusal::NoMemory;
 use sample_model::Pair;
 use std::alloc::Global;

@@ -22,7 +22,7 @@ use Rattle.sample_model.specs.Moves.{LoadMap}
 use Rattle.sample_model.proofs.JudgingLemmas.{next_item, bad_places_stay, first_bad_of_piece-within, first_bad_of_text-within, judged_lines_of-cut, judged_lines_of-whole, lines_before_bad-all, lines_before_bad-more, lines_before_bad-some, lines_of-ended_first}
 use Rattle.branch_stacks.specs.Loads.{AddsLine}
 use Rattle.branch_stacks.specs.Reader.{Reading, HasRead, behind_line, new_reading, new_reading_by, held_of, room_of, ended_text, Feeds, Finishes, ReadsMore}
-use Rattle.branch_stacks.specs.Tally.{Tally, Tells, TellsOf}
+use Rattle.branch_counts.specs.Tally.{Tally, Tells, TellsOf}
 use Rattle.branch_stacks.specs.Text.{item_of_counted, TellsBefore, TellsLinesBefore}
 use Rattle.branch_stacks.proofs.ReaderLemmas.{HasRead-ended, HasRead-sized, item_is, line_stop, text_ended}
 use Rattle.branch_stacks.proofs.TextLemmas.{Tells-nothing}

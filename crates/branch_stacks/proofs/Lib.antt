@@ -3,5 +3,4 @@ pub mod FeedLemmas
 pub mod LineLemmas
 pub mod LoadLemmas
 pub mod ReaderLemmas
-pub mod TableLemmas
 pub mod TextLemmas

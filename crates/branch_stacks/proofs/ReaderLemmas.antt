@@ -26,7 +26,7 @@ use Rattle.sample_model.specs.Samples.{branches_of_lines}
 use Rattle.sample_model.proofs.JudgingLemmas.{next_item, ended_lines_of-append, first_bad_of_lines-good, first_bad_of_lines-bad, lines_before_bad-all, lines_before_bad-at, lines_before_bad-some}
 use Rattle.branch_stacks.specs.Loads.{met_in, AddsLine}
 use Rattle.branch_stacks.specs.Reader.{Reading, HasRead, behind_line, held_of, ended_text, ReadsMore}
-use Rattle.branch_stacks.specs.Tally.{Tally, total_of, Tells}
+use Rattle.branch_counts.specs.Tally.{Tally, total_of, Tells}
 use Rattle.branch_stacks.specs.Text.{item_of_counted, TellsBefore}
 use Rattle.branch_stacks.proofs.LineLemmas.{take-again, cause-held, cause-short}
 use Rattle.branch_stacks.proofs.TextLemmas.{Tells-more, met_in-more, total_told}

@@ -11,9 +11,9 @@ use Rattle.sample_model.specs.Moves.{LoadMap, MovedBranch, branches_by, counted_
 use Rattle.sample_model.specs.Samples.{ranges_between, ranges_of_line, branches_of_lines, ranges_of_lines}
 use Rattle.sample_model.specs.declared.pair.Pair.{Pair}
 use Rattle.branch_stacks.specs.Loads.{met_in, AddsLine}
-use Rattle.branch_stacks.specs.Table.{Tallies, IsTable, total_in}
-use Rattle.branch_stacks.specs.Tally.{Tally, counted, total_of, AddsStack, Tells, TellsOf, IsCounted}
-use Rattle.branch_stacks.proofs.TableLemmas.{Tallies-more}
+use Rattle.branch_counts.specs.Table.{Tallies, IsTable, total_in}
+use Rattle.branch_counts.specs.Tally.{Tally, counted, total_of, AddsStack, Tells, TellsOf, IsCounted}
+use Rattle.branch_counts.proofs.TableLemmas.{Tallies-more}
 
 of_lines-push : (f : List ℕ → List (ℕ × ℕ)) (lines : List (List ℕ)) (line : List ℕ) → flat_map f (lines ++ line ∷ []) ≡ flat_map f lines ++ f line
 of_lines-push f lines line = flat_map-append f lines (line ∷ []) ∙ ap (λ (ps : List (ℕ × ℕ)). flat_map f lines ++ ps) (append-nil (f line))

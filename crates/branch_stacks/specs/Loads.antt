@@ -6,7 +6,7 @@ use Rattle.sample_model.specs.Line.{branches_of_line}
 use Rattle.sample_model.specs.Loads.{loads_of}
 use Rattle.sample_model.specs.Moves.{LoadMap, counted_branch, moved_line, moved_ranges, range_from}
 use Rattle.branch_stacks.specs.declared.loads.Loads.{Loads}
-use Rattle.branch_stacks.specs.Tally.{Tally, AddsSample, AddsStack}
+use Rattle.branch_counts.specs.Tally.{Tally, AddsSample, AddsStack}
 
 -- What moves the addresses of a program.
 abbrev pub map_in : Loads → LoadMap

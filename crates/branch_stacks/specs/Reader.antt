@@ -10,7 +10,7 @@ use Rattle.sample_model.specs.Limits.{max_line_bytes, max_text_bytes}
 use Rattle.sample_model.specs.declared.load.Load.{Load}
 use Rattle.sample_model.specs.Moves.{LoadMap}
 use Rattle.branch_stacks.specs.Loads.{met_in, AddsLine}
-use Rattle.branch_stacks.specs.Tally.{Tally, Tells}
+use Rattle.branch_counts.specs.Tally.{Tally, Tells}
 use Rattle.branch_stacks.specs.Text.{item_of_counted, TellsBefore}
 
 -- What a reader shows: the file, what moves the addresses, if they are moved, how many lines have ended, the loads that

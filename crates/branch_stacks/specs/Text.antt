@@ -6,7 +6,7 @@ use Rattle.refusal.specs.declared.place.Stop.{Stop}
 use Rattle.refusal.specs.declared.place.Stop.TheVariants.{Refused, NoMemory}
 use Rattle.sample_model.specs.Judging.{cause_of_line, lines_before_bad}
 use Rattle.sample_model.specs.Moves.{LoadMap}
-use Rattle.branch_stacks.specs.Tally.{Tally, total_of, Tells}
+use Rattle.branch_counts.specs.Tally.{Tally, total_of, Tells}
 
 -- The place of a line of this number behind those that were counted, if it is refused.
 abbrev pub item_of_counted : ℕ → Tally → ℕ → List ℕ → Option Place

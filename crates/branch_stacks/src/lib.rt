@@ -6,17 +6,14 @@
 //! prints (perf-script(1), "brstack").
 #![tactic(auto)]
 
-mod counts;
 mod line;
 mod load_line;
 mod loads;
-mod order;
 mod reader;
-mod table;
 #[cfg(test)]
 mod tests;
 mod text;
 
-pub use counts::{Counts, CountsStop};
+pub use branch_counts::{Counts, CountsStop};
 pub use reader::Reader;
 pub use text::read_text;

@@ -5,10 +5,10 @@ ghost use Rattle.sample_model.specs.Line.{branches_of_line};
 ghost use Rattle.sample_model.specs.Loads.{loads_of};
 ghost use Rattle.sample_model.specs.Moves as moves;
 ghost use Rattle.branch_stacks.specs.Loads.{map_in, range_behind, AddsLine};
-ghost use Rattle.branch_stacks.specs.Tally.{total_of};
+ghost use Rattle.branch_counts.specs.Tally.{total_of};
 
-use crate::counts::{Counts, CountsStop};
 use crate::load_line::load_line;
+use branch_counts::{Counts, CountsStop};
 use load_index::{LoadIndex, SegmentIndex};
 use load_model::LoadSegment;
 use refusal::NoMemory;

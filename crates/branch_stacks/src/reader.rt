@@ -7,10 +7,10 @@ ghost use Rattle.branch_stacks.specs.Loads.{AddsLine};
 ghost use Rattle.branch_stacks.specs.Reader.{behind_line, new_reading, new_reading_by, held_of, room_of, EndsLine, Feeds, Finishes, ReadsMore};
 ghost use Rattle.branch_stacks.specs.Text.{item_of_counted};
 
-use crate::counts::Counts;
 use crate::line::{MAX_KEPT, MAX_LINE_BYTES};
 use crate::loads::Loads;
 use crate::text::count_line;
+use branch_counts::Counts;
 use load_model::LoadSegment;
 use memchr::memchr;
 use refusal::{Kind, NoMemory, Place, Stop, refuse_if};

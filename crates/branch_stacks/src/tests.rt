@@ -1,6 +1,6 @@
 ghost use Rattle.std.specs.Prelude.{◌<◌};
 
-use crate::{Counts, CountsStop, Reader, read_text};
+use crate::{Counts, Reader, read_text};
 use load_model::LoadSegment;
 use refusal::{Kind, NoMemory, Place, Stop};
 use sample_model::Pair;
@@ -64,35 +64,6 @@ fn distinct_branches_and_ranges_are_counted(rt: HostRuntime) -> Result<(), Fail>
     assert_eq!(rt; counts.branches(), branches.as_slice());
     assert_eq!(rt; counts.ranges(), ranges.as_slice());
     assert_eq!(rt; counts.total(), 5);
-    Ok(())
-}
-
-#[test]
-fn full_counts_refuse_and_stay(rt: HostRuntime) -> Result<(), Fail> {
-    let mut counts = Counts::new(rt.alloc())?;
-    assert_eq!(rt;
-        counts.add_branch(1, 2, 4_294_967_296),
-        Err(CountsStop::TooMany)
-    );
-    assert_eq!(rt; counts.add_branch(1, 2, 4_294_967_295), Ok(()));
-    assert_eq!(rt; counts.add_branch(1, 2, 1), Err(CountsStop::TooMany));
-    assert_eq!(rt; counts.add_stack(&[(3, 4)]), Err(CountsStop::TooMany));
-    assert_eq!(rt; counts.add_stack(&[]), Ok(()));
-    assert_eq!(rt; counts.branches(), [pair(1, 2, 4_294_967_295)].as_slice());
-    assert_eq!(rt; counts.ranges(), [].as_slice());
-    assert_eq!(rt; counts.total(), 4_294_967_295);
-    Ok(())
-}
-
-#[test]
-fn a_stack_counts_the_ranges_between_its_neighbours(rt: HostRuntime) -> Result<(), Fail> {
-    let mut counts = Counts::new(rt.alloc())?;
-    assert_eq!(rt; counts.add_stack(&[(1, 2), (3, 4), (1, 2), (3, 4)]), Ok(()));
-    assert_eq!(rt;
-        counts.branches(),
-        [pair(1, 2, 2), pair(3, 4, 2)].as_slice()
-    );
-    assert_eq!(rt; counts.ranges(), [pair(4, 1, 2), pair(2, 3, 1)].as_slice());
     Ok(())
 }
 
@@ -281,21 +252,6 @@ fn long_lines_go_over_many_pieces(rt: HostRuntime) -> Result<(), Fail> {
     let ended = refused(1, Kind::LineTooLong);
     assert_eq!(rt; reader.feed(b"\n0x1/0x2", &mut counts), ended);
     assert_eq!(rt; reader.finish(&mut counts), ended);
-    Ok(())
-}
-
-#[test]
-fn counts_of_branches_leave_ranges_out(rt: HostRuntime) -> Result<(), Fail> {
-    let mut counts = Counts::of_branches(rt.alloc())?;
-    let stack = [(3, 4), (1, 2), (3, 4), (1, 1), (1, 2), (3, 3)];
-    assert_eq!(rt; counts.add_stack(&stack), Ok(()));
-    assert_eq!(rt; counts.ranges(), [].as_slice());
-    assert_eq!(rt; counts.total(), 6);
-    let sorted = [pair(1, 1, 1), pair(1, 2, 2), pair(3, 3, 1), pair(3, 4, 2)];
-    assert_eq!(rt;
-        counts.into_sorted_branches()?.as_slice(),
-        sorted.as_slice()
-    );
     Ok(())
 }
 

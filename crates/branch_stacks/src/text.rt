@@ -7,14 +7,14 @@ ghost use Rattle.sample_model.specs.Judging.{first_bad_of_text, judged_lines_of}
 ghost use Rattle.sample_model.specs.Line.{branches_of_line};
 ghost use Rattle.sample_model.specs.Limits.{max_branches};
 ghost use Rattle.branch_stacks.specs.Loads.{map_of, met_of, met_in, AddsLine};
-ghost use Rattle.branch_stacks.specs.Tally.{total_of, TellsOf};
+ghost use Rattle.branch_counts.specs.Tally.{total_of, TellsOf};
 ghost use Rattle.branch_stacks.specs.Text.{item_of_counted, TellsLinesBefore};
 ghost use Rattle.branch_stacks.specs.declared.line.TheConstants.{MAX_KEPT};
 
-use crate::counts::{Counts, CountsStop};
 use crate::line::read_line;
 use crate::loads::Loads;
 use crate::reader::Reader;
+use branch_counts::{Counts, CountsStop};
 use refusal::{Kind, Place, Stop};
 use text_scan::Line;
 

@@ -10,7 +10,7 @@ use Rattle.sample_model.specs.Limits.{max_text_bytes}
 use Rattle.sample_model.specs.Moves.{LoadMap}
 use Rattle.sample_model.proofs.JudgingLemmas.{bad_places_stay, first_bad_of_text-within}
 use Rattle.branch_stacks.specs.Reader.{Reading, HasRead, new_reading_by, Feeds, Finishes}
-use Rattle.branch_stacks.specs.Tally.{Tally, Tells, TellsOf}
+use Rattle.branch_counts.specs.Tally.{Tally, Tells, TellsOf}
 use Rattle.branch_stacks.proofs.FeedLemmas.{HasRead-start}
 use Rattle.pgo_run.specs.BranchText.{FeedsText, JudgesText}
 use Rattle.pgo_run.specs.Halt.{halt_of_stop}

@@ -12,7 +12,7 @@ use Rattle.sample_model.specs.Moves.{LoadMap}
 use Rattle.text_model.specs.Lines.{lines_of}
 use Rattle.load_model.specs.declared.load_segment.LoadSegment.{LoadSegment}
 use Rattle.elf_model.specs.Segments.{code_loads}
-use Rattle.branch_stacks.specs.Tally.{Tally, Tells}
+use Rattle.branch_counts.specs.Tally.{Tally, Tells}
 use Rattle.binary_places.specs.declared.binary.Binary.{Binary}
 use Rattle.binary_places.specs.Binary.{IsBinary}
 use Rattle.sampled_profile.specs.Output.{loading_of, output_text, profile_output, sampled_by}

@@ -6,7 +6,7 @@ use Rattle.std.specs.Result.{IsErrAnd}
 use Rattle.io_edge.specs.Inputs.{Store}
 use Rattle.sample_model.specs.Judging.{first_bad_of_text}
 use Rattle.sample_model.specs.Moves.{LoadMap}
-use Rattle.branch_stacks.specs.Tally.{Tally}
+use Rattle.branch_counts.specs.Tally.{Tally}
 use Rattle.command_model.specs.Answer.{Answer, unless_bad, with_file, with_looked_up}
 use Rattle.command_model.specs.Command.{Command}
 use Rattle.pgo_run.specs.BranchText.{JudgesText}

@@ -5,7 +5,7 @@ use Rattle.sample_model.specs.Judging.{first_bad_of_text}
 use Rattle.sample_model.specs.Limits.{max_text_bytes}
 use Rattle.sample_model.specs.Moves.{LoadMap}
 use Rattle.branch_stacks.specs.Reader.{Reading, HasRead}
-use Rattle.branch_stacks.specs.Tally.{Tally, Tells}
+use Rattle.branch_counts.specs.Tally.{Tally, Tells}
 use Rattle.pgo_run.specs.declared.halt.Halt.{Halt}
 use Rattle.pgo_run.specs.declared.halt.Halt.TheVariants.{NoSuchFile, Refused, ReadFault, NoMemory}
 

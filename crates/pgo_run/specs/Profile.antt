@@ -3,7 +3,7 @@ use Rattle.std.specs.Prelude.{◌≡◌, ℕ, ⊤, true, List, Option, None, Som
 use Rattle.text_model.specs.Lines.{lines_of}
 use Rattle.sample_model.specs.Judging.{first_bad_of_text}
 use Rattle.sample_model.specs.Moves.{LoadMap}
-use Rattle.branch_stacks.specs.Tally.{Tally, Tells}
+use Rattle.branch_counts.specs.Tally.{Tally, Tells}
 use Rattle.pgo_run.specs.declared.halt.Halt.{Halt}
 use Rattle.pgo_run.specs.declared.halt.Halt.TheVariants.{NoSuchFile, Refused, ReadFault, NoMemory}
 

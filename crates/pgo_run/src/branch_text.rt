@@ -1,7 +1,7 @@
 // A branch text, read piece by piece.
 ghost use Rattle.std.specs.Prelude.{◌≡◌, [], IfSome, Option};
 ghost use Rattle.branch_stacks.specs.Reader.{new_reading_by};
-ghost use Rattle.branch_stacks.specs.Tally.{TellsOf};
+ghost use Rattle.branch_counts.specs.Tally.{TellsOf};
 ghost use Rattle.sample_model.specs.Moves.{LoadMap};
 ghost use Rattle.pgo_run.specs.BranchText.{FeedsText, JudgesText};
 ghost use Rattle.pgo_run.specs.Output.{HasFileCause};

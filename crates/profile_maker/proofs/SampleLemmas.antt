@@ -5,9 +5,9 @@ use Rattle.std.proofs.lemmas.List.Sorted.{sum_by-IsPermutation}
 use Rattle.sample_model.specs.Limits.{max_branches}
 use Rattle.sample_model.specs.Moves.{LoadMap, branches_by, ranges_by}
 use Rattle.sample_model.specs.declared.pair.Pair.{Pair}
-use Rattle.branch_stacks.specs.Pair.{pair_cmp}
-use Rattle.branch_stacks.specs.Table.{Tallies, total_in}
-use Rattle.branch_stacks.specs.Tally.{Tally, Tells, counted, total_of}
+use Rattle.branch_counts.specs.Pair.{pair_cmp}
+use Rattle.branch_counts.specs.Table.{Tallies, total_in}
+use Rattle.branch_counts.specs.Tally.{Tally, Tells, counted, total_of}
 use Rattle.tally_law.proofs.OrderLemmas.{rows_tally_in_any_order}
 use Rattle.profile_report.specs.declared.report.Units.{Units}
 use Rattle.sampled_profile.specs.Output.{sampled_by, units_in}

@@ -1,12 +1,12 @@
 ghost use Rattle.std.specs.Prelude.{◌≡◌, ℕ, Bool, List, Option, true, IfOk};
 ghost use Rattle.binary_places.specs.Binary.{IsBinary};
-ghost use Rattle.branch_stacks.specs.Tally.{Tells};
+ghost use Rattle.branch_counts.specs.Tally.{Tells};
 ghost use Rattle.sample_model.specs.Moves.{LoadMap};
 ghost use Rattle.sampled_profile.specs.Output.{output_text, sampled_by};
 ghost use Rattle.sampled_profile.specs.Program.{program_of};
 
 use binary_places::Binary;
-use branch_stacks::Counts;
+use branch_counts::Counts;
 use profile_writer::{Samples, Units, write};
 use refusal::NoMemory;
 use std::alloc::Global;

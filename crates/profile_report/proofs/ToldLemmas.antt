@@ -5,7 +5,7 @@ use Rattle.std.specs.List.{flat_map}
 use Rattle.std.proofs.lemmas.List.Sums.{sum_by-cons}
 use Rattle.sample_model.specs.Pairs.{distinct_pairs, times_of}
 use Rattle.sample_model.specs.declared.pair.Pair.{Pair}
-use Rattle.branch_stacks.specs.Table.{total_in}
+use Rattle.branch_counts.specs.Table.{total_in}
 use Rattle.tally_law.specs.Laws.{times_where as pairs_where, told_of}
 use Rattle.tally_law.proofs.OrderLemmas.{sorted_rows_are_distinct_pairs}
 use Rattle.tally_law.proofs.TallyLemmas.{tables_count_members}

@@ -4,8 +4,8 @@ use Rattle.std.specs.List.{flat_map}
 use Rattle.std.specs.List.Sorted.{IsSorted}
 use Rattle.text_model.specs.Numbers.{decimal_text}
 use Rattle.sample_model.specs.declared.pair.Pair.{Pair}
-use Rattle.branch_stacks.specs.Pair.{pair_cmp}
-use Rattle.branch_stacks.specs.Table.{Tallies}
+use Rattle.branch_counts.specs.Pair.{pair_cmp}
+use Rattle.branch_counts.specs.Table.{Tallies}
 use Rattle.class_model.specs.declared.class.Class.{Class}
 use Rattle.class_model.specs.declared.class.RangeClass.{RangeClass}
 use Rattle.class_model.specs.declared.class.RangeClass.TheVariants.{Ran, Reversed, RangeOutside, Crossing}

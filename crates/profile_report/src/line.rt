@@ -1,6 +1,6 @@
 // One line of the report.
 ghost use Rattle.std.specs.Prelude.{◌≡◌, ◌++◌, OnOk};
-ghost use Rattle.branch_stacks.specs.Table.{pair_of};
+ghost use Rattle.branch_counts.specs.Table.{pair_of};
 ghost use Rattle.report_model.specs.Report.{number_line, unmapped_line, word_of};
 
 use branch_class::Reason;

@@ -12,7 +12,7 @@ use Rattle.key_types.specs.declared.places.Where.{Where}
 use Rattle.key_types.specs.declared.places.Where.TheVariants.{Outside, Nameless, NoLine, At}
 use Rattle.sample_model.specs.Limits.{max_branches}
 use Rattle.sample_model.specs.declared.pair.Pair.{Pair}
-use Rattle.branch_stacks.specs.Table.{Tallies, total_in}
+use Rattle.branch_counts.specs.Table.{Tallies, total_in}
 use Rattle.class_model.specs.declared.class.Class.{Class}
 use Rattle.class_model.specs.declared.class.Class.TheVariants.{Entry, Inside, Unmapped}
 use Rattle.class_model.specs.declared.class.Reason.{Reason}

@@ -18,7 +18,7 @@ use Rattle.key_types.specs.declared.key.Key.{Key}
 use Rattle.key_types.specs.declared.places.Seg.{Seg}
 use Rattle.key_types.specs.declared.places.Where.{Where}
 use Rattle.sample_model.specs.declared.pair.Pair.{Pair}
-use Rattle.branch_stacks.specs.Table.{Tallies}
+use Rattle.branch_counts.specs.Table.{Tallies}
 use Rattle.class_model.specs.declared.class.RangeClass.{RangeClass}
 use Rattle.class_model.specs.declared.class.RangeClass.TheVariants.{Ran, Reversed, RangeOutside, Crossing}
 use Rattle.class_model.specs.Ranges.{is_class, range_class}

@@ -9,8 +9,8 @@ use Rattle.key_types.specs.declared.places.Seg.{Seg}
 use Rattle.key_types.specs.declared.places.Where.{Where}
 use Rattle.key_types.specs.declared.places.Where.TheVariants.{Outside, Nameless, NoLine, At}
 use Rattle.sample_model.specs.declared.pair.Pair.{Pair}
-use Rattle.branch_stacks.specs.Pair.{pair_cmp}
-use Rattle.branch_stacks.specs.Table.{Tallies}
+use Rattle.branch_counts.specs.Pair.{pair_cmp}
+use Rattle.branch_counts.specs.Table.{Tallies}
 use Rattle.binary_model.specs.Places.{Place, outside, nameless, no_line, at_way}
 use Rattle.profile_report.specs.declared.report.Units.{Units}
 use Rattle.profile_tree.specs.Said.{way_at}

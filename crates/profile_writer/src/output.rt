@@ -1,6 +1,6 @@
 // The whole output.
 ghost use Rattle.std.specs.Prelude.{◌≡◌, ◌≤◌, All, IfOk, length};
-ghost use Rattle.branch_stacks.specs.Table.{total_in};
+ghost use Rattle.branch_counts.specs.Table.{total_in};
 ghost use Rattle.key_counts.specs.Segments.{AllFit, AreSegments};
 ghost use Rattle.profile_tree.specs.Known.{HasNames};
 ghost use Rattle.report_model.specs.Report.{Sampled};

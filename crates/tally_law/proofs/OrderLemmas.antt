@@ -11,8 +11,8 @@ use Rattle.sample_model.specs.Laws.{IsAscending, has_pair, IsDistinctPairs}
 use Rattle.sample_model.specs.Pairs.{same_pair, pair_lt, times_of}
 use Rattle.sample_model.proofs.PairLemmas.{same_pair-refl, same_pair-equal, above-trans, distinct_pairs_are_unique}
 use Rattle.sample_model.specs.declared.pair.Pair.{Pair}
-use Rattle.branch_stacks.specs.Pair.{pair_cmp}
-use Rattle.branch_stacks.specs.Table.{pair_of, times_of_row, times_in, AllDistinct, Tallies}
+use Rattle.branch_counts.specs.Pair.{pair_cmp}
+use Rattle.branch_counts.specs.Table.{pair_of, times_of_row, times_in, AllDistinct, Tallies}
 use Rattle.tally_law.specs.Laws.{RowsTallyInAnyOrder, SortedRowsAreDistinctPairs, told_of}
 
 -- one for a pair that is the same

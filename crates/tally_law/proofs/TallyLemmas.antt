@@ -4,7 +4,7 @@ use Rattle.std.specs.Prelude.{count_by, filter, sum_by}
 use Rattle.std.proofs.lemmas.Bool.{cases_Bool}
 use Rattle.std.proofs.lemmas.List.Sums.{sum_by-cons}
 use Rattle.sample_model.specs.declared.pair.Pair.{Pair}
-use Rattle.branch_stacks.specs.Table.{pair_of, times_in}
+use Rattle.branch_counts.specs.Table.{pair_of, times_in}
 use Rattle.sample_model.specs.Pairs.{same_pair}
 use Rattle.sample_model.proofs.PairLemmas.{same_pair-refl, same_pair-equal}
 use Rattle.tally_law.specs.Laws.{TablesCountMembers, times_where}

@@ -3,8 +3,8 @@ use Rattle.std.specs.Prelude.{◌≡◌, ℕ, Bool, List, IsPermutation, count_b
 use Rattle.std.specs.List.Sorted.{IsSorted}
 use Rattle.sample_model.specs.Pairs.{distinct_pairs, times_of}
 use Rattle.sample_model.specs.declared.pair.Pair.{Pair}
-use Rattle.branch_stacks.specs.Pair.{pair_cmp}
-use Rattle.branch_stacks.specs.Table.{Tallies, pair_of}
+use Rattle.branch_counts.specs.Pair.{pair_cmp}
+use Rattle.branch_counts.specs.Table.{Tallies, pair_of}
 
 -- How often the rows say that pairs of a kind stand.
 abbrev pub times_where : (ℕ × ℕ → Bool) → List Pair → ℕ

@@ -1,7 +1,7 @@
 use Rattle.std.proofs.Common.{subst, Ok, Err}
 use Rattle.std.specs.Prelude.{IfSome}
 use Rattle.std.specs.Option.{option_map}
-use Rattle.branch_stacks.specs.Tally.{Tally}
+use Rattle.branch_counts.specs.Tally.{Tally}
 use Rattle.sample_model.specs.Judging.{first_bad_of_text}
 use Rattle.sampled_profile.specs.Output.{profile_output}
 use Rattle.command_model.specs.Answer.{answer_of_command, with_file, writes}

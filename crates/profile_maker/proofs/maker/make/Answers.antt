@@ -4,7 +4,7 @@ use Rattle.std.proofs.lemmas.Result.{IfOk-weaker}
 use Rattle.key_counts.specs.Segments.{AllFit, AreSegments}
 use Rattle.key_types.specs.declared.places.Seg.{Seg}
 use Rattle.sample_model.specs.Limits.{max_branches}
-use Rattle.branch_stacks.specs.Pair.{pair_cmp}
+use Rattle.branch_counts.specs.Pair.{pair_cmp}
 use Rattle.context_map.specs.Maps.{entry_told, place_told}
 use Rattle.function_stretches.specs.Stretches.{function_at}
 use Rattle.map_laws.proofs.NameLemmas.{keys_have_names}

@@ -1,6 +1,6 @@
 use Rattle.std.proofs.Common.{ℕ, ap, arith, length, length-drop}
-use Rattle.branch_stacks.proofs.TableLemmas.{AddsRangesSoFar-more, AddsRangesSoFar-all}
-use Rattle.branch_stacks.proofs.table.Table.add_ranges.Goals as goal
+use Rattle.branch_counts.proofs.TableLemmas.{AddsRangesSoFar-more, AddsRangesSoFar-all}
+use Rattle.branch_counts.proofs.table.Table.add_ranges.Goals as goal
 
 pub loop-neighbours-preserved-then-neighbours-lt3 :
     goal.loop-neighbours-preserved-then-neighbours-lt3

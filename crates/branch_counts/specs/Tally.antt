@@ -4,7 +4,7 @@ use Rattle.sample_model.specs.Limits.{max_branches}
 use Rattle.sample_model.specs.Moves.{LoadMap, branches_by, ranges_by}
 use Rattle.sample_model.specs.Samples.{ranges_between}
 use Rattle.sample_model.specs.declared.pair.Pair.{Pair}
-use Rattle.branch_stacks.specs.Table.{AddsPairs, IsTable, Tallies, total_in}
+use Rattle.branch_counts.specs.Table.{AddsPairs, IsTable, Tallies, total_in}
 
 -- The distinct branches and the distinct sampled ranges, each with how often it stands, and whether ranges are
 -- counted.

@@ -1,9 +1,9 @@
 ghost use Rattle.std.specs.Prelude.{◌≡◌, ◌≢◌, ◌<◌, ◌≤◌, ◌+◌, ◌↔◌, true, false, [], length, IfOk, OnOk, OnErr, IsErrOf, IsPermutation, IsSorted, replicate};
 ghost use Rattle.sample_model.specs.Limits.{max_branches};
-ghost use Rattle.branch_stacks.specs.Pair.{pair_cmp};
-ghost use Rattle.branch_stacks.specs.Table.{AddsPairs, IsTable, total_in};
-ghost use Rattle.branch_stacks.specs.Tally.{AddsSample, AddsStack, IsCounted, counted, total_of};
-ghost use Rattle.branch_stacks.specs.declared.counts.CountsStop.TheVariants.{NoMemory as no_memory};
+ghost use Rattle.branch_counts.specs.Pair.{pair_cmp};
+ghost use Rattle.branch_counts.specs.Table.{AddsPairs, IsTable, total_in};
+ghost use Rattle.branch_counts.specs.Tally.{AddsSample, AddsStack, IsCounted, counted, total_of};
+ghost use Rattle.branch_counts.specs.declared.counts.CountsStop.TheVariants.{NoMemory as no_memory};
 
 use crate::order::sort_pairs;
 use crate::table::Table;
@@ -53,7 +53,7 @@ pub struct Counts {
 // The counts of nothing have room for a first branch.
 impl Model for Counts {
     ghost use Rattle.std.specs.Prelude.{◌≡◌, ◌<◌};
-    ghost use Rattle.branch_stacks.specs.Tally.{Tally, IsCounted};
+    ghost use Rattle.branch_counts.specs.Tally.{Tally, IsCounted};
 
     ghost Value = { Tally };
 
@@ -145,12 +145,12 @@ impl Counts {
     }
 
     /// The allocator of the rows.
-    pub(crate) fn allocator(&self) -> Global {
+    pub fn allocator(&self) -> Global {
         self.branches.allocator()
     }
 
     /// What is kept of all counts, for a proof that rests on it. Nothing is done.
-    pub(crate) fn keeps(&self)
+    pub fn keeps(&self)
         ensures { IsCounted self.now (total_of self.now) }
     {
         let _total = self.total;
@@ -217,12 +217,13 @@ impl Counts {
         self.total += count as u64;
         Ok(())
     }
+
     /// Counts the branches of one sample and these ranges, of which there are not more.
     ///
     /// # Errors
     /// `TooMany` where the total would pass 2^32 - 1, and else `NoMemory`. The counts are then as
     /// they were.
-    pub(crate) fn add_sample(
+    pub fn add_sample(
         &mut self,
         branches: &[(u64, u64)],
         ranges: &[(u64, u64)],

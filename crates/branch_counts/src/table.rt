@@ -1,7 +1,7 @@
 // A table of pairs: a row for each distinct pair, found by an index.
 ghost use Rattle.std.specs.Prelude.{◌≡◌, ◌+◌, ◌<◌, ◌≤◌, ◌^◌, [], length, IfOk, OnOk, IsOk, replicate};
 ghost use Rattle.sample_model.specs.Samples.{ranges_between};
-ghost use Rattle.branch_stacks.specs.Table.{AddsPairs, total_in};
+ghost use Rattle.branch_counts.specs.Table.{AddsPairs, total_in};
 
 use indexmap::IndexSet;
 use sample_model::Pair;
@@ -19,7 +19,7 @@ pub(crate) struct Table {
 impl Model for Table {
     ghost use Rattle.std.specs.Prelude.{◌≡◌, ◌-◌, map, min, vec_len, vec_capacity};
     ghost use Rattle.indexmap.specs.IndexSet.{spare};
-    ghost use Rattle.branch_stacks.specs.Table as model;
+    ghost use Rattle.branch_counts.specs.Table as model;
 
     ghost Value = { model.Table };
 

@@ -1,6 +1,6 @@
 use Rattle.std.proofs.Common.{◌+◌, ◌≤◌, take}
-use Rattle.branch_stacks.specs.Table.{AddsPairs}
-use Rattle.branch_stacks.proofs.table.Table.add_pairs.Given as goal
+use Rattle.branch_counts.specs.Table.{AddsPairs}
+use Rattle.branch_counts.proofs.table.Table.add_pairs.Given as goal
 
 abbrev pub invariant-loop-from : goal.invariant-loop-from
 invariant-loop-from l =

@@ -1,5 +1,5 @@
 ghost use Rattle.std.specs.Prelude.{IsPermutation, IsSorted, OnOk};
-ghost use Rattle.branch_stacks.specs.Pair.{pair_cmp};
+ghost use Rattle.branch_counts.specs.Pair.{pair_cmp};
 
 use sample_model::Pair;
 use std::alloc::AllocError;

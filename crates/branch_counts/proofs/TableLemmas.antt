@@ -14,8 +14,8 @@ use Rattle.sample_model.specs.Pairs.{same_pair, times_of}
 use Rattle.sample_model.proofs.PairLemmas.{same_pair-equal}
 use Rattle.sample_model.specs.Samples.{ranges_between, range_between}
 use Rattle.sample_model.specs.declared.pair.Pair.{Pair}
-use Rattle.branch_stacks.specs.Table.{pair_of, times_of_row, times_in, total_in, AllDistinct, IsTable, AddsPairs, Tallies}
-use Rattle.branch_stacks.specs.Tally.{Tally, IsCounted, counted as counted_of}
+use Rattle.branch_counts.specs.Table.{pair_of, times_of_row, times_in, total_in, AllDistinct, IsTable, AddsPairs, Tallies}
+use Rattle.branch_counts.specs.Tally.{Tally, IsCounted, counted as counted_of}
 use Rattle.sample_model.specs.Limits.{max_branches}
 
 -- one for an element that passes

@@ -1,7 +1,7 @@
 use Rattle.std.proofs.Common.{◌≡◌, ap, sym, ◌∙◌, arith}
-use Rattle.branch_stacks.specs.Tally.{Tally, counted}
-use Rattle.branch_stacks.proofs.TableLemmas.{IsCounted-sample}
-use Rattle.branch_stacks.proofs.counts.Counts.add_sample.Goals as goal
+use Rattle.branch_counts.specs.Tally.{Tally, counted}
+use Rattle.branch_counts.proofs.TableLemmas.{IsCounted-sample}
+use Rattle.branch_counts.proofs.counts.Counts.add_sample.Goals as goal
 
 pub invariant_of-self-2 : goal.invariant_of-self-2
 invariant_of-self-2 c = (

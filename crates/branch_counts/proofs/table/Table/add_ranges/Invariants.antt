@@ -1,7 +1,7 @@
 use Rattle.std.proofs.Common.{◌≡◌, ◌≤◌, length}
 use Rattle.std.specs.Slice.Iter.{windows_rest, windows_size}
-use Rattle.branch_stacks.proofs.TableLemmas.{AddsRangesSoFar}
-use Rattle.branch_stacks.proofs.table.Table.add_ranges.Given as goal
+use Rattle.branch_counts.proofs.TableLemmas.{AddsRangesSoFar}
+use Rattle.branch_counts.proofs.table.Table.add_ranges.Given as goal
 
 abbrev pub invariant-loop-neighbours : goal.invariant-loop-neighbours
 invariant-loop-neighbours l =

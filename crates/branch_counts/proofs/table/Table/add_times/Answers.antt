@@ -1,8 +1,8 @@
 -- The pair stands in the index, so its row grows; or it does not, and gets a row.
 use Rattle.std.proofs.Common.{sym, ap, ◌∙◌}
-use Rattle.branch_stacks.specs.Table.{Table}
-use Rattle.branch_stacks.proofs.TableLemmas.{AddsPairs-at, AddsPairs-new, pairs-at, insert_key-present}
-use Rattle.branch_stacks.proofs.table.Table.add_times.Goals as goal
+use Rattle.branch_counts.specs.Table.{Table}
+use Rattle.branch_counts.proofs.TableLemmas.{AddsPairs-at, AddsPairs-new, pairs-at, insert_key-present}
+use Rattle.branch_counts.proofs.table.Table.add_times.Goals as goal
 
 pub invariant_of-self-else-is_new : goal.invariant_of-self-else-is_new
 invariant_of-self-else-is_new c =

@@ -1,9 +1,13 @@
 -- The counts so far.
-use Rattle.std.proofs.Common.{◌≡◌, ◌≢◌, ◌⊎◌, ◌≤◌, ◌<◌, ℕ, ◌+◌, ◌*◌, max, List, [], ◌∷◌, ◌++◌, drop, take, length, get_or, set, replicate, sym, ap, subst, ◌∙◌, inl, inr, arith, get_or-set_same, get_or-set_other}
+use Rattle.std.proofs.Common.{◌≡◌, ◌≢◌, ◌⊎◌, ◌≤◌, ◌<◌, ℕ, ◌+◌, ◌*◌, ◌-◌, ◌^◌, max, map, List, [], ◌∷◌, ◌++◌, drop, take, length, get_or, set, replicate, sym, ap, subst, ◌∙◌, inl, inr, arith, get_or-set_same, get_or-set_other}
+use Rattle.std.specs.List.{AllByRecursion}
 use Rattle.std.proofs.lemmas.List.{take_more, drop_more, length-replicate, length-set, get_or-replicate}
 use Rattle.hit_model.specs.Hits.{IsLargestIn}
 use Rattle.key_types.specs.declared.places.Seg.{Seg}
-use Rattle.key_counts.specs.Segments.{AreSegments, AllFit, Gives, GivesNoMore, OneIs, AllAre, IsSegmentCount, AreCounts}
+use Rattle.address_spans.specs.Spans.{AreBetween}
+use Rattle.address_spans.proofs.SpanLemmas.{AreBetween-lower}
+use Rattle.key_segments.specs.Segments.{span_of}
+use Rattle.key_counts.specs.Segments.{AllFit, Gives, GivesNoMore, OneIs, IsSegmentCount, AreCounts}
 use Rattle.std.proofs.Math.Nat.{mul-le-mul_right}
 
 one_left : (P : Seg → Type 0) (xs ys : List Seg) → OneIs P xs → OneIs P (xs ++ ys)
@@ -14,11 +18,11 @@ one_right : (P : Seg → Type 0) (xs : List Seg) (y : Seg) → P y → OneIs P (
 one_right P [] y p = inl p
 one_right P (x ∷ xs) y p = inr (one_right P xs y p)
 
-all_push : (P : Seg → Type 0) (xs : List Seg) (y : Seg) → AllAre P xs → P y → AllAre P (xs ++ y ∷ [])
+all_push : (P : Seg → Type 0) (xs : List Seg) (y : Seg) → AllByRecursion P xs → P y → AllByRecursion P (xs ++ y ∷ [])
 all_push P [] y all p = (p, tt)
 all_push P (x ∷ xs) y all p = (all.0, all_push P xs y all.1 p)
 
-all_more : (hits : ℕ → ℕ) (key low high : ℕ) (xs : List Seg) → low ≤ high → AllAre (GivesNoMore hits key low) xs → AllAre (GivesNoMore hits key high) xs
+all_more : (hits : ℕ → ℕ) (key low high : ℕ) (xs : List Seg) → low ≤ high → AllByRecursion (GivesNoMore hits key low) xs → AllByRecursion (GivesNoMore hits key high) xs
 all_more hits key low high [] h all = tt
 all_more hits key low high (x ∷ xs) h all = ((λ a f b k. let g : hits a * x.factor ≤ low = all.0 a f b k in omega arith), all_more hits key low high xs h all.1)
 
@@ -76,33 +80,33 @@ no_segments hits n key below =
     let h : key < n = omega (arith, length-replicate {A = ℕ} n 0) in
     record { attained = inl (get_or-replicate {A = ℕ} n key 0 0 h); largest = tt }
 
+-- segments lie from an address on, one behind the other
+abbrev pub LieFrom : ℕ → List Seg → Type 0
+LieFrom from segments = AreBetween from (2 ^ 64 - 1) (map span_of segments)
+
 -- what is left of segments in order
-pub left_in_order : (from : ℕ) (xs : List Seg) (i : ℕ) (d : Seg) → i < length xs → AreSegments from (drop i xs) → AreSegments from (get_or xs i d ∷ drop (i + 1) xs)
-left_in_order from xs i d h up = subst (AreSegments from) (drop_more xs i d h) up
+pub left_in_order : (from : ℕ) (xs : List Seg) (i : ℕ) (d : Seg) → i < length xs → LieFrom from (drop i xs) → LieFrom from (get_or xs i d ∷ drop (i + 1) xs)
+left_in_order from xs i d h up = subst (LieFrom from) (drop_more xs i d h) up
 
 pub left_fit : (keys : ℕ) (xs : List Seg) (i : ℕ) (d : Seg) → i < length xs → AllFit keys (drop i xs) → AllFit keys (get_or xs i d ∷ drop (i + 1) xs)
 left_fit keys xs i d h up = subst (AllFit keys) (drop_more xs i d h) up
 
-pub from_lower : (low high : ℕ) (xs : List Seg) → low ≤ high → AreSegments high xs → AreSegments low xs
-from_lower low high [] h up = tt
-from_lower low high (x ∷ xs) h up = (omega (arith, up.0), up.1, up.2)
-
 pub record CountsSoFar (hits : ℕ → ℕ) (segments : List Seg) (keys i from : ℕ) (counts : List ℕ) : Type 0 where
   pub len : length counts ≡ keys
-  pub ahead : AreSegments from (drop i segments)
+  pub ahead : LieFrom from (drop i segments)
   pub fit : AllFit keys (drop i segments)
   pub so_far : AreCounts (take i segments) hits counts
 
 pub segment_step : (hits : ℕ → ℕ) (segments : List Seg) (keys i from behind largest : ℕ) (d : Seg) (counts new : List ℕ) → i < length segments → CountsSoFar hits segments keys i from counts → IsLargestIn (get_or segments i d).lo (get_or segments i d).hi hits largest → behind ≤ (get_or segments i d).hi → new ≡ set counts (get_or segments i d).key.0 (max (get_or counts (get_or segments i d).key.0 0) (largest * (get_or segments i d).factor)) → CountsSoFar hits segments keys (i + 1) behind new
 segment_step hits segments keys i from behind largest d counts new h far is up e =
     let y = get_or segments i d in
-    let order : AreSegments from (y ∷ drop (i + 1) segments) = left_in_order from segments i d h far.ahead in
+    let order : LieFrom from (y ∷ drop (i + 1) segments) = left_in_order from segments i d h far.ahead in
     let fits : AllFit keys (y ∷ drop (i + 1) segments) = left_fit keys segments i d h far.fit in
     let value = max (get_or counts y.key.0 0) (largest * y.factor) in
     let in_range : y.key.0 < length counts = omega (arith, fits.0, far.len) in
     record {
       len = ap length e ∙ length-set counts y.key.0 value ∙ far.len;
-      ahead = from_lower behind y.hi (drop (i + 1) segments) up order.2;
+      ahead = AreBetween-lower y.hi behind (2 ^ 64 - 1) (map span_of (drop (i + 1) segments)) order.2 up;
       fit = fits.2;
       so_far = subst (λ xs. AreCounts xs hits new) (sym (take_more segments i d h)) (subst (AreCounts (take i segments ++ y ∷ []) hits) (sym e) (one_more_segment hits counts (take i segments) y largest in_range is far.so_far));
     }

@@ -1,11 +1,7 @@
 -- Segments of a program, and the counts of keys that they give.
 use Rattle.std.specs.Prelude.{◌≡◌, ◌⊎◌, ◌<◌, ◌≤◌, ℕ, ◌*◌, List, [], ◌∷◌, length, slice_index}
+use Rattle.std.specs.List.{AllByRecursion}
 use Rattle.key_types.specs.declared.places.Seg.{Seg}
-
--- Segments that are disjoint, ascending and not empty, from an address on.
-abbrev pub AreSegments : ℕ → List Seg → Type 0
-AreSegments from [] = Unit {0}
-AreSegments from (seg ∷ segments) = (from ≤ seg.lo) × (seg.lo < seg.hi) × AreSegments seg.hi segments
 
 -- All keys of segments are among so many, and all factors are below 4,096.
 abbrev pub AllFit : ℕ → List Seg → Type 0
@@ -30,15 +26,10 @@ abbrev pub OneIs : (Seg → Type 0) → List Seg → Type 0
 OneIs P [] = ⊥
 OneIs P (seg ∷ segments) = P seg ⊎ OneIs P segments
 
--- All segments are such.
-abbrev pub AllAre : (Seg → Type 0) → List Seg → Type 0
-AllAre P [] = Unit {0}
-AllAre P (seg ∷ segments) = P seg × AllAre P segments
-
 -- The count of a key is the largest that a segment gives it, and 0 where none does.
 pub record IsSegmentCount (segments : List Seg) (hits : ℕ → ℕ) (key count : ℕ) : Type 0 where
   pub attained : (count ≡ 0) ⊎ OneIs (Gives hits key count) segments
-  pub largest : AllAre (GivesNoMore hits key count) segments
+  pub largest : AllByRecursion (GivesNoMore hits key count) segments
 
 -- The counts of all keys, each at its number.
 abbrev pub AreCounts : List Seg → (ℕ → ℕ) → List ℕ → Type 0

@@ -1,7 +1,8 @@
 // Counts, one for each key.
 ghost use Rattle.std.specs.Prelude.{◌≡◌, ◌^◌, ◌<◌, length, max, replicate, slice_index, slice_set, IfOk, ℕ};
 ghost use Rattle.hit_model.specs.Steps.{hits_by};
-ghost use Rattle.key_counts.specs.Segments.{AllFit, AreSegments, AreCounts};
+ghost use Rattle.key_segments.specs.Segments.{AreSegments};
+ghost use Rattle.key_counts.specs.Segments.{AllFit, AreCounts};
 
 use key_types::Seg;
 use range_counts::Hits;
@@ -21,7 +22,7 @@ pub fn counts_of(
     hits: &Hits,
     keys: u32,
 ) -> Result<Vec<u64>, NoMemory>
-    requires segments { AreSegments 0 segments.now }
+    requires segments { AreSegments segments.now }
     requires fit { AllFit keys segments.now }
     requires hits { (a : ℕ) → hits_by hits.now a < 2 ^ 32 }
     ensures counts { IfOk result (λ counts.

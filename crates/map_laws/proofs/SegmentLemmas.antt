@@ -15,18 +15,9 @@ use Rattle.chain_model.specs.Places.{LineAndDisc, Place, chain_members, factor_a
 use Rattle.key_segments.specs.Segments.{HasSegment, IsGiven, segment_at, span_of, told, key_and_factor}
 use Rattle.part_segments.specs.Parts.{with_factor}
 use Rattle.context_map.specs.Maps.{wanted, rows_of}
-use Rattle.key_counts.specs.Segments.{AllFit, AreSegments}
+use Rattle.key_counts.specs.Segments.{AllFit}
 use Rattle.binary_model.specs.Binary.{tables_in}
-use Rattle.map_laws.specs.Laws.{SegmentsAscend, SegmentsFit}
-
--- ---- the order of segments
-
-ascends : (from to : ℕ) (segments : List Seg) → AreBetween from to (map span_of segments) → AreSegments from segments
-ascends from to [] h = tt
-ascends from to (s ∷ segments) h = (h.0, h.1, ascends s.hi to segments h.2)
-
-pub segments_ascend : SegmentsAscend
-segments_ascend file base binary is = ascends 0 (2 ^ 64 - 1) binary.map.segments is.map.ascend
+use Rattle.map_laws.specs.Laws.{SegmentsFit}
 
 -- ---- a segment holds its first address
 

@@ -4,18 +4,13 @@ use Rattle.std.specs.List.{All}
 use Rattle.key_types.specs.declared.ids.KeyId.{KeyId}
 use Rattle.key_types.specs.declared.ids.NameId.{NameId}
 use Rattle.key_types.specs.declared.places.Where.TheVariants.{At}
-use Rattle.key_counts.specs.Segments.{AllFit, AreSegments}
+use Rattle.key_counts.specs.Segments.{AllFit}
 use Rattle.profile_tree.specs.Known.{HasNames}
 use Rattle.context_map.specs.Maps.{entry_told, place_told}
 use Rattle.binary_places.specs.declared.binary.Binary.{Binary}
 use Rattle.binary_places.specs.Binary.{IsBinary}
 
--- The segments of a binary's map ascend, none is empty, and no two hold one address.
-abbrev pub SegmentsAscend : Type 0
-SegmentsAscend = (file : List ℕ) (base : Bool) (binary : Binary) → IsBinary file base binary
-    → AreSegments 0 binary.map.segments
-
--- Their keys are among the binary's, and their factors are below 4,096.
+-- The keys of a map's segments are among the binary's, and their factors are below 4,096.
 abbrev pub SegmentsFit : Type 0
 SegmentsFit = (file : List ℕ) (base : Bool) (binary : Binary) → IsBinary file base binary
     → AllFit (length binary.keys) binary.map.segments

@@ -1,10 +1,5 @@
 // What follows of a binary that was read.
-ghost use Rattle.map_laws.specs.Laws.{EntriesAreGiven, KeysHaveNames, PlacesAreGiven, SegmentsAscend, SegmentsFit};
-
-/// The segments of a binary's map ascend, none is empty, and no two hold one address.
-pub fn segments_ascend()
-    ensures { SegmentsAscend }
-{}
+ghost use Rattle.map_laws.specs.Laws.{EntriesAreGiven, KeysHaveNames, PlacesAreGiven, SegmentsFit};
 
 /// The key of each segment is among the keys of the binary, and its factor is below 4,096.
 pub fn segments_fit()

@@ -6,6 +6,4 @@
 
 mod laws;
 
-pub use laws::{
-    entries_are_given, keys_have_names, places_are_given, segments_ascend, segments_fit,
-};
+pub use laws::{entries_are_given, keys_have_names, places_are_given, segments_fit};

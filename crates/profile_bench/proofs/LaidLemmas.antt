@@ -1,12 +1,14 @@
 -- One key, one segment, one call more.
-use Rattle.std.proofs.Common.{◌≡◌, ◌⊎◌, ◌≤◌, ◌<◌, ℕ, ◌+◌, ◌==◌, Bool, true, false, cond, ◌&&◌, List, [], ◌∷◌, ◌++◌, length, get_or, sum_by, All, Some, sym, ap, subst, ◌∙◌, inl, inr, arith}
+use Rattle.std.proofs.Common.{◌≡◌, ◌⊎◌, ◌≤◌, ◌<◌, ℕ, ◌+◌, ◌-◌, ◌^◌, ◌==◌, Bool, true, false, cond, ◌&&◌, List, [], ◌∷◌, ◌++◌, length, map, get_or, sum_by, All, Some, sym, ap, subst, ◌∙◌, inl, inr, arith}
 use Rattle.std.proofs.lemmas.List.Sums.{sum_by-le-sum_by}
 use Rattle.std.proofs.lemmas.Option.{slice_get_within, get_or_from_slice_get, slice_get-get_or}
 use Rattle.std.specs.List.{slice_get}
-use Rattle.key_counts.specs.Segments.{AllFit, AreSegments}
+use Rattle.address_spans.specs.Spans.{AreBetween}
+use Rattle.key_counts.specs.Segments.{AllFit}
+use Rattle.key_segments.specs.Segments.{AreSegments, span_of}
+use Rattle.key_segments.proofs.ToldLemmas.{AreBetween-wider}
 use Rattle.key_types.specs.Numbers.{Adds}
 use Rattle.key_types.specs.declared.places.Seg.{Seg}
-use Rattle.profile_bench.specs.Laid.{LieUpTo}
 use Rattle.profile_tree.specs.Sums.{calls_of, entries_of}
 use Rattle.profile_tree.specs.declared.head.Head.{Head}
 use Rattle.target_lists.specs.declared.pairs.Call.{Call}
@@ -46,13 +48,12 @@ not_fewer {V} (x ∷ old) new item adds =
     omega (arith, low)
 
 -- a segment behind others
-pub laid_more : (from end : ℕ) (xs : List Seg) (s : Seg) → LieUpTo from end xs → end ≤ s.lo → s.lo < s.hi → LieUpTo from s.hi (xs ++ s ∷ [])
-laid_more from end [] s lie h g = (omega (arith, lie), g, omega arith)
+pub laid_more : (from end : ℕ) (xs : List Seg) (s : Seg) → AreBetween from end (map span_of xs) → end ≤ s.lo → s.lo < s.hi → AreBetween from s.hi (map span_of (xs ++ s ∷ []))
+laid_more from end [] s lie h g = (omega (arith, lie, h), g, omega arith)
 laid_more from end (x ∷ xs) s lie h g = (lie.0, lie.1, laid_more x.hi end xs s lie.2 h g)
 
-pub are_laid : (from end : ℕ) (xs : List Seg) → LieUpTo from end xs → AreSegments from xs
-are_laid from end [] lie = tt
-are_laid from end (x ∷ xs) lie = (lie.0, lie.1, are_laid x.hi end xs lie.2)
+pub are_laid : (end : ℕ) (xs : List Seg) → AreBetween 0 end (map span_of xs) → end ≤ 2 ^ 64 - 1 → AreSegments xs
+are_laid end xs lie low = AreBetween-wider (map span_of xs) 0 end (2 ^ 64 - 1) lie low
 
 pub fit_more : (m n : ℕ) (xs : List Seg) (s : Seg) → m ≤ n → AllFit m xs → s.key.0 < n → s.factor < 4096 → AllFit n (xs ++ s ∷ [])
 fit_more m n [] s h fit key factor = (key, factor, tt)

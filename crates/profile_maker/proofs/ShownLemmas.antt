@@ -21,7 +21,7 @@ use Rattle.chain_model.proofs.ChainLemmas.{begin_with_the_function}
 use Rattle.entry_names.specs.Meaning.{IsNumberOf}
 use Rattle.tree_model.specs.Members.{Told}
 use Rattle.inline_tree.specs.Told.{AreTold, IsTold}
-use Rattle.key_counts.specs.Laws.{factor_by, holds, place_by}
+use Rattle.key_counts.specs.Laws.{factor_by, place_by}
 use Rattle.key_segments.specs.Segments as segments
 use Rattle.key_segments.specs.Segments.{segment_at, key_told}
 use Rattle.line_model.specs.declared.row.Row.{Row}
@@ -167,22 +167,6 @@ number_by segment = option_map (λ segment. segment.key.0) segment
 abbrev factor_in : Option Seg → ℕ
 factor_in segment = unwrap_or (option_map (λ segment. segment.factor) segment) 1
 
-key_if : (b : Bool) (s : Seg) (rest : Option Seg) (more : Option ℕ) → more ≡ number_by rest → cond b (Some s.key.0) more ≡ number_by (cond b (Some s) rest)
-key_if true s rest more e = refl
-key_if false s rest more e = e
-
-factor_if : (b : Bool) (s : Seg) (rest : Option Seg) (more : ℕ) → more ≡ factor_in rest → cond b s.factor more ≡ factor_in (cond b (Some s) rest)
-factor_if true s rest more e = refl
-factor_if false s rest more e = e
-
-key_by_segment : (parts : List Seg) (address : ℕ) → place_by parts address ≡ number_by (segment_at parts address)
-key_by_segment [] address = refl
-key_by_segment (s ∷ parts) address = key_if (holds address s) s (segment_at parts address) (place_by parts address) (key_by_segment parts address)
-
-factor_by_segment : (parts : List Seg) (address : ℕ) → factor_by parts address ≡ factor_in (segment_at parts address)
-factor_by_segment [] address = refl
-factor_by_segment (s ∷ parts) address = factor_if (holds address s) s (segment_at parts address) (factor_by parts address) (factor_by_segment parts address)
-
 key_of_place : (segment : Option Seg) (function span : Option ℕ) → number_by segment ≡ key_of (maps.place_by (option_map (λ s. s.key) segment) function span)
 key_of_place (Some s) function span = refl
 key_of_place None None span = refl
@@ -258,12 +242,11 @@ programs_shown file base binary is =
       entrances = λ address.
           subst (ShowsName binary.names (entered_at file address)) (sym (is.map.entry address))
           (same_entry binary.names others address (function_of is.members address) (function_of cs address) (same address));
-      keys_told = λ address. key_by_segment binary.map.segments address ∙ key_of_place (segment address) _ _;
+      keys_told = λ address. key_of_place (segment address) _ _;
       factors_told = λ address some.
           let factor : ℕ → Option LineAndDisc → ℕ = λ _ row. unwrap_or (option_map (λ row. if base then packed.factor row.1 else 1) row) 1 in
-          factor_by_segment binary.map.segments address
-          ∙ factor_there binary.keys (segment address) _ _ (by_number.place_at rows base is.members address) (factor_at rows base is.members address) (is.map.place address)
-          (subst IsSome (key_by_segment binary.map.segments address) some) (is.map.tell address)
+          factor_there binary.keys (segment address) _ _ (by_number.place_at rows base is.members address) (factor_at rows base is.members address) (is.map.place address)
+          some (is.map.tell address)
           ∙ ap (factor 0)
           (row_by_function rows is.members address
           ∙ same_row binary.names others rows (row_in (tables_in file)) (rows_agree (tables_in file)) address (function_of is.members address) (function_of cs address) (same address)

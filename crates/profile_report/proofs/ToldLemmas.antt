@@ -1,11 +1,11 @@
 -- What rows in order print is the report on what they tell of.
 use Rattle.std.proofs.Common.{◌≡◌, ℕ, ◌+◌, Bool, true, false, cond, List, [], ◌∷◌, ◌++◌, map, refl, sym, ap, ◌∙◌, arith}
-use Rattle.std.specs.Prelude.{filter, sum_by}
+use Rattle.std.specs.Prelude.{codes, count_by, filter, length, sum_by}
 use Rattle.std.specs.List.{flat_map}
 use Rattle.std.proofs.lemmas.List.Sums.{sum_by-cons}
 use Rattle.sample_model.specs.Pairs.{distinct_pairs, times_of}
 use Rattle.sample_model.specs.declared.pair.Pair.{Pair}
-use Rattle.branch_counts.specs.Table.{total_in}
+use Rattle.branch_counts.specs.Table.{Tallies, total_in}
 use Rattle.tally_law.specs.Laws.{times_where as pairs_where, told_of}
 use Rattle.tally_law.proofs.OrderLemmas.{sorted_rows_are_distinct_pairs}
 use Rattle.tally_law.proofs.TallyLemmas.{tables_count_members}
@@ -15,12 +15,12 @@ use Rattle.class_model.specs.declared.class.RangeClass.TheVariants.{Ran, Reverse
 use Rattle.class_model.specs.declared.class.Reason.{Reason}
 use Rattle.class_model.specs.Branches.{is_entry, is_inside, is_unmapped}
 use Rattle.class_model.specs.Ranges.{is_class}
-use Rattle.report_model.specs.Report.{Classes, Sampled, branches_text, branches_where, ranges_of_class, ranges_text, reasons, report_text, units_text, unmapped_line}
+use Rattle.report_model.specs.Report.{Classes, Sampled, branches_text, branches_where, number_line, ranges_of_class, ranges_text, reasons, unmapped_line}
 use Rattle.report_model.specs.Report.{lines_for as told_lines_for}
 use Rattle.profile_report.specs.declared.classed.Classed.{Classed}
 use Rattle.profile_report.specs.declared.report.Units.{Units}
 use Rattle.profile_report.specs.Classed.{all_times, classed_by, line_for, lines_for, times_where}
-use Rattle.profile_report.specs.Told.{Tells, branch_lines, range_lines, units_line}
+use Rattle.profile_report.specs.Told.{Tells}
 
 by_row : (t : Bool) (n a b s : ℕ) → a ≡ n + b → s ≡ b → cond t a b ≡ cond t n 0 + s
 by_row true n a b s more is = omega (arith, more, is)
@@ -63,51 +63,39 @@ flat_map-same {A} {B} f g (x ∷ xs) same = ap (λ (ys : List B). ys ++ flat_map
 told_line : Reason → (ℕ × ℕ) × ℕ → List ℕ
 told_line reason told = unmapped_line reason told.0 told.1
 
--- the class of a pair by its two addresses
-of_ends : {C : Type 0} → (ℕ × ℕ → C) → ℕ → ℕ → C
-of_ends class from to = class (from, to)
+-- how often rows of a kind say that their pairs stand, as a count of these
+times-told : {C : Type 0} (class : ℕ × ℕ → C) (pairs : List (ℕ × ℕ)) (rows : List Pair) (classed : List (Classed C)) (is : C → Bool)
+    → classed ≡ map (classed_by (λ from to. class (from, to))) rows → Tallies pairs rows → times_where is classed ≡ count_by (λ p. is (class p)) pairs
+times-told class pairs rows classed is classed_are tallied =
+    ap (times_where is) classed_are ∙ where-classed (λ from to. class (from, to)) is rows ∙ tables_count_members pairs rows (λ p. is (class p)) tallied
 
-lines-told : (classes : Classes) (sampled : Sampled) (branches : List (Classed Class)) (ranges : List (Classed RangeClass)) (units : Units)
-    → Tells classes sampled branches ranges units → (reason : Reason) → lines_for branches reason ≡ told_lines_for classes sampled reason
-unfolding told_line
-lines-told classes sampled branches ranges units tells reason =
-    let class = classes.of_branch in
-    let is : (ℕ × ℕ) × ℕ → Bool = λ told. is_unmapped reason (class told.0) in
-    let rows = tells.branch_rows in
-    ap (λ (rs : List (Classed Class)). lines_for rs reason) tells.branches_are
-    ∙ flat-filter-map (line_for reason) (λ (r : Classed Class). is_unmapped reason r.class) (classed_by (λ from to. class (from, to))) rows
-    ∙ sym (flat-filter-map (told_line reason) is told_of rows)
-    ∙ ap (λ (ts : List ((ℕ × ℕ) × ℕ)). flat_map (told_line reason) (filter is ts)) (sorted_rows_are_distinct_pairs sampled.branches rows tells.of_branches tells.in_order)
-    ∙ flat-filter-map (told_line reason) is (λ p. (p, times_of p sampled.branches)) (distinct_pairs sampled.branches)
+module _ (classes : Classes) (sampled : Sampled) (branches : List (Classed Class)) (ranges : List (Classed RangeClass)) (units : Units) (tells : Tells classes sampled branches ranges units) where
+  lines-told : (reason : Reason) → lines_for branches reason ≡ told_lines_for classes sampled reason
+  unfolding told_line
+  lines-told reason =
+      let class = classes.of_branch in
+      let is : (ℕ × ℕ) × ℕ → Bool = λ told. is_unmapped reason (class told.0) in
+      let rows = tells.branch_rows in
+      ap (λ (rs : List (Classed Class)). lines_for rs reason) tells.branches_are
+      ∙ flat-filter-map (line_for reason) (λ (r : Classed Class). is_unmapped reason r.class) (classed_by (λ from to. class (from, to))) rows
+      ∙ sym (flat-filter-map (told_line reason) is told_of rows)
+      ∙ ap (λ (ts : List ((ℕ × ℕ) × ℕ)). flat_map (told_line reason) (filter is ts)) (sorted_rows_are_distinct_pairs sampled.branches rows tells.of_branches tells.in_order)
+      ∙ flat-filter-map (told_line reason) is (λ p. (p, times_of p sampled.branches)) (distinct_pairs sampled.branches)
 
-three : {A : Type 0} (f : ℕ → A) (x y : ℕ) → x ≡ y → f x ≡ f y
-three f x y is = ap f is
+  pub branches_told : (all entries inside : ℕ) → all ≡ all_times branches → entries ≡ times_where is_entry branches → inside ≡ times_where is_inside branches
+      → number_line (codes "branches") all ++ (number_line (codes "entries") entries ++ (number_line (codes "inside") inside ++ flat_map (lines_for branches) reasons)) ≡ branches_text classes sampled
+  branches_told all entries inside all_is entries_is inside_is =
+      let whole : all_times branches ≡ length sampled.branches =
+      ap all_times tells.branches_are ∙ all-classed (λ from to. classes.of_branch (from, to)) tells.branch_rows ∙ tells.of_branches.total in
+      let count : (is : Class → Bool) → times_where is branches ≡ branches_where classes sampled is =
+      λ is. times-told classes.of_branch sampled.branches tells.branch_rows branches is tells.branches_are tells.of_branches in
+      let lines = flat_map-same (lines_for branches) (told_lines_for classes sampled) reasons lines-told in
+      rw (all_is ∙ whole, entries_is ∙ count is_entry, inside_is ∙ count is_inside, lines) refl
 
-branches-told : (classes : Classes) (sampled : Sampled) (branches : List (Classed Class)) (ranges : List (Classed RangeClass)) (units : Units)
-    → Tells classes sampled branches ranges units → branch_lines branches ≡ branches_text classes sampled
-branches-told classes sampled branches ranges units tells =
-    let class = classes.of_branch in
-    let rows = tells.branch_rows in
-    let all = ap all_times tells.branches_are ∙ all-classed (λ from to. class (from, to)) rows ∙ tells.of_branches.total in
-    let count : (is : Class → Bool) → times_where is branches ≡ branches_where classes sampled is =
-    λ is. ap (times_where is) tells.branches_are ∙ where-classed (λ from to. class (from, to)) is rows ∙ tables_count_members sampled.branches rows (λ p. is (class p)) tells.of_branches in
-    let lines = flat_map-same (lines_for branches) (told_lines_for classes sampled) reasons (lines-told classes sampled branches ranges units tells) in
-    rw (all, count is_entry, count is_inside, lines) refl
-
-ranges-told : (classes : Classes) (sampled : Sampled) (branches : List (Classed Class)) (ranges : List (Classed RangeClass)) (units : Units)
-    → Tells classes sampled branches ranges units → range_lines ranges ≡ ranges_text classes sampled
-ranges-told classes sampled branches ranges units tells =
-    let class = classes.of_range in
-    let rows = tells.range_rows in
-    let count : (c : RangeClass) → times_where (is_class c) ranges ≡ ranges_of_class classes sampled c =
-    λ c. ap (times_where (is_class c)) tells.ranges_are ∙ where-classed (λ from to. class (from, to)) (is_class c) rows ∙ tables_count_members sampled.ranges rows (λ p. is_class c (class p)) tells.of_ranges in
-    rw (count Ran, count Reversed, count RangeOutside, count Crossing) refl
-
-pub report_told : (classes : Classes) (sampled : Sampled) (branches : List (Classed Class)) (ranges : List (Classed RangeClass)) (units : Units)
-    → Tells classes sampled branches ranges units → branch_lines branches ++ (range_lines ranges ++ units_line units) ≡ report_text classes sampled
-unfolding report_text
-report_told classes sampled branches ranges units tells =
-    let last : units_line units ≡ units_text sampled = rw (tells.read, tells.passed) refl in
-    ap (λ (t : List ℕ). t ++ (range_lines ranges ++ units_line units)) (branches-told classes sampled branches ranges units tells)
-    ∙ ap (λ (t : List ℕ). branches_text classes sampled ++ (t ++ units_line units)) (ranges-told classes sampled branches ranges units tells)
-    ∙ ap (λ (t : List ℕ). branches_text classes sampled ++ (ranges_text classes sampled ++ t)) last
+  pub ranges_told : (ran reversed outside crossing : ℕ) → ran ≡ times_where (is_class Ran) ranges → reversed ≡ times_where (is_class Reversed) ranges
+      → outside ≡ times_where (is_class RangeOutside) ranges → crossing ≡ times_where (is_class Crossing) ranges
+      → number_line (codes "ranges ran") ran ++ (number_line (codes "ranges reversed") reversed ++ (number_line (codes "ranges outside") outside ++ number_line (codes "ranges crossing") crossing)) ≡ ranges_text classes sampled
+  ranges_told ran reversed outside crossing ran_is reversed_is outside_is crossing_is =
+      let count : (c : RangeClass) → times_where (is_class c) ranges ≡ ranges_of_class classes sampled c =
+      λ c. times-told classes.of_range sampled.ranges tells.range_rows ranges (is_class c) tells.ranges_are tells.of_ranges in
+      rw (ran_is ∙ count Ran, reversed_is ∙ count Reversed, outside_is ∙ count RangeOutside, crossing_is ∙ count Crossing) refl

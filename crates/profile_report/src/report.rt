@@ -1,9 +1,9 @@
 // The whole report.
-ghost use Rattle.std.specs.Prelude.{◌≡◌, ◌++◌, ◌≤◌, OnOk};
+ghost use Rattle.std.specs.Prelude.{◌≡◌, ◌++◌, ◌≤◌, List, OnOk};
 ghost use Rattle.sample_model.specs.Limits.{max_branches};
-ghost use Rattle.report_model.specs.Report.{Classes, Sampled, report_text};
+ghost use Rattle.report_model.specs.Report.{Classes, Sampled, branches_text, ranges_text, report_text, units_text};
 ghost use Rattle.profile_report.specs.Classed.{all_times};
-ghost use Rattle.profile_report.specs.Told.{Tells, branch_lines, range_lines, units_line};
+ghost use Rattle.profile_report.specs.Told.{Tells};
 
 use crate::branches::count_taken;
 use crate::classed::Classed;
@@ -46,7 +46,10 @@ pub fn write(
 /// Appends what became of the branches.
 fn push_branches(out: &mut Vec<u8>, branches: &[Classed<Class>]) -> Result<(), NoMemory>
     requires { all_times branches.now ≤ max_branches }
-    ensures { OnOk result (out.new.items ≡ out.old.items ++ branch_lines branches.now) }
+    ensures { OnOk result ((classes : Classes) (sampled : Sampled)
+        (ranges : List (Classed RangeClass)) (units : Units)
+        → Tells classes sampled branches.now ranges units
+        → out.new.items ≡ out.old.items ++ branches_text classes sampled) }
 {
     let taken = count_taken(branches);
     push_number_line(out, b"branches", taken.all)?;
@@ -58,7 +61,10 @@ fn push_branches(out: &mut Vec<u8>, branches: &[Classed<Class>]) -> Result<(), N
 /// Appends what became of the ranges.
 fn push_ranges(out: &mut Vec<u8>, ranges: &[Classed<RangeClass>]) -> Result<(), NoMemory>
     requires { all_times ranges.now ≤ max_branches }
-    ensures { OnOk result (out.new.items ≡ out.old.items ++ range_lines ranges.now) }
+    ensures { OnOk result ((classes : Classes) (sampled : Sampled)
+        (branches : List (Classed Class)) (units : Units)
+        → Tells classes sampled branches ranges.now units
+        → out.new.items ≡ out.old.items ++ ranges_text classes sampled) }
 {
     let times = count_ranges(ranges);
     push_number_line(out, b"ranges ran", times.ran)?;
@@ -69,7 +75,10 @@ fn push_ranges(out: &mut Vec<u8>, ranges: &[Classed<RangeClass>]) -> Result<(), 
 
 /// Appends what became of the units of the binary.
 fn push_units(out: &mut Vec<u8>, units: Units) -> Result<(), NoMemory>
-    ensures { OnOk result (out.new.items ≡ out.old.items ++ units_line units) }
+    ensures { OnOk result ((classes : Classes) (sampled : Sampled)
+        (branches : List (Classed Class)) (ranges : List (Classed RangeClass))
+        → Tells classes sampled branches ranges units
+        → out.new.items ≡ out.old.items ++ units_text sampled) }
 {
     out.extend_from_slice(b"# units read ")?;
     push_number(out, u128::from(units.read))?;

@@ -1,7 +1,8 @@
 // A profile, from what was counted.
 ghost use Rattle.std.specs.Prelude.{◌≡◌, ◌<◌, ◌^◌, ℕ, All, IfOk, length, map};
 ghost use Rattle.hit_model.specs.Steps.{hits_by};
-ghost use Rattle.key_counts.specs.Segments.{AllFit, AreSegments};
+ghost use Rattle.key_counts.specs.Segments.{AllFit};
+ghost use Rattle.key_segments.specs.Segments.{AreSegments};
 ghost use Rattle.key_types.specs.Numbers.{IsNumbered};
 ghost use Rattle.profile_model.specs.Profile.{lines_of};
 ghost use Rattle.profile_tree.specs.Known.{HasNames, IsGiven};
@@ -44,7 +45,7 @@ pub fn build(
     keys: &Keys,
     names: &Names,
 ) -> Result<Tree, NoMemory>
-    requires segments { AreSegments 0 segments.now }
+    requires segments { AreSegments segments.now }
     requires fit { AllFit (length keys.now) segments.now }
     requires hits { (a : ℕ) → hits_by hits.now a < 2 ^ 32 }
     requires key_names { All (HasNames (length names.now)) keys.now }

@@ -1,7 +1,8 @@
 // The whole output.
 ghost use Rattle.std.specs.Prelude.{◌≡◌, ◌≤◌, All, IfOk, length};
 ghost use Rattle.branch_counts.specs.Table.{total_in};
-ghost use Rattle.key_counts.specs.Segments.{AllFit, AreSegments};
+ghost use Rattle.key_counts.specs.Segments.{AllFit};
+ghost use Rattle.key_segments.specs.Segments.{AreSegments};
 ghost use Rattle.profile_tree.specs.Known.{HasNames};
 ghost use Rattle.report_model.specs.Report.{Sampled};
 ghost use Rattle.sample_model.specs.Limits.{max_branches};
@@ -40,7 +41,7 @@ pub fn write<P: Places>(
     keys: &Keys,
     names: &Names,
 ) -> Result<Vec<u8>, NoMemory>
-    requires segments { AreSegments 0 segments.now }
+    requires segments { AreSegments segments.now }
     requires fit { AllFit (length keys.now) segments.now }
     requires key_names { All (HasNames (length names.now)) keys.now }
     requires few_branches { total_in samples.now.branches.now ≤ max_branches }

@@ -2,7 +2,8 @@
 ghost use Rattle.std.specs.Prelude.{◌≡◌, ◌<◌, ◌≤◌, ◌^◌, ℕ, All, IfOk, OnOk, false, length, map, nat_lt};
 ghost use Rattle.std.specs.List.{filter_map};
 ghost use Rattle.hit_model.specs.Hits.{AreRanges, hits_at};
-ghost use Rattle.key_counts.specs.Segments.{AllFit, AreSegments};
+ghost use Rattle.key_counts.specs.Segments.{AllFit};
+ghost use Rattle.key_segments.specs.Segments.{AreSegments};
 ghost use Rattle.key_types.specs.Numbers.{IsNumbered};
 ghost use Rattle.profile_model.specs.Profile.{lines_of};
 ghost use Rattle.profile_report.specs.Classed.{all_times};
@@ -31,7 +32,7 @@ pub(crate) fn tree_of<P: Places>(
     keys: &Keys,
     names: &Names,
 ) -> Result<Tree, NoMemory>
-    requires segments { AreSegments 0 segments.now }
+    requires segments { AreSegments segments.now }
     requires fit { AllFit (length keys.now) segments.now }
     requires keys { IsNumbered keys.now }
     requires names { IsNumbered names.now }

@@ -1,14 +1,15 @@
 use Rattle.std.proofs.Common.{◌≤◌, ℕ, List, IsPermutation, subst, sym, ◌∙◌}
 use Rattle.std.specs.List.Sorted.{IsSorted}
 use Rattle.std.proofs.lemmas.Result.{IfOk-weaker}
-use Rattle.key_counts.specs.Segments.{AllFit, AreSegments}
+use Rattle.key_counts.specs.Segments.{AllFit}
+use Rattle.key_segments.specs.Segments.{AreSegments}
 use Rattle.key_types.specs.declared.places.Seg.{Seg}
 use Rattle.sample_model.specs.Limits.{max_branches}
 use Rattle.branch_counts.specs.Pair.{pair_cmp}
 use Rattle.context_map.specs.Maps.{entry_told, place_told}
 use Rattle.function_stretches.specs.Stretches.{function_at}
 use Rattle.map_laws.proofs.NameLemmas.{keys_have_names}
-use Rattle.map_laws.proofs.SegmentLemmas.{segments_ascend, segments_fit}
+use Rattle.map_laws.proofs.SegmentLemmas.{segments_fit}
 use Rattle.sampled_profile.specs.Output.{sampled_by}
 use Rattle.sampled_profile.specs.Program.{program_of}
 use Rattle.profile_writer.specs.Shown.{ShowsProgram}
@@ -18,8 +19,7 @@ use Rattle.profile_maker.proofs.maker.make.Goals as goal
 
 pub write-requires-clause-segments : goal.write-requires-clause-segments
 write-requires-clause-segments c =
-    let is = c.requires in
-    subst (AreSegments 0) (sym c.segments.ensures) (segments_ascend is.0 is.1 c.args.binary.now is.2)
+    subst AreSegments (sym c.segments.ensures) c.requires.2.map.ascend
 
 pub write-requires-clause-fit : goal.write-requires-clause-fit
 write-requires-clause-fit c =

@@ -1,22 +1,30 @@
 use Rattle.std.proofs.Common.{◌≡◌, ◌++◌, List, ℕ, ap, append_assoc, ◌∙◌}
 use Rattle.indexmap.proofs.MapLemmas.{OnOk-map}
-use Rattle.report_model.specs.Report.{Classes, Sampled, report_text}
-use Rattle.profile_report.specs.Told.{Tells, branch_lines, range_lines, units_line}
-use Rattle.profile_report.proofs.ToldLemmas.{report_told}
+use Rattle.class_model.specs.declared.class.Class.{Class}
+use Rattle.class_model.specs.declared.class.RangeClass.{RangeClass}
+use Rattle.report_model.specs.Report.{Classes, Sampled, branches_text, ranges_text, report_text, units_text}
+use Rattle.profile_report.specs.declared.classed.Classed.{Classed}
+use Rattle.profile_report.specs.Told.{Tells}
 use Rattle.profile_report.proofs.report.write.Goals as goal
 
 pub returns : goal.returns
+unfolding report_text
 returns c =
     let out = c.args.out.now.items in
     let branches = c.args.branches.now in
     let ranges = c.args.ranges.now in
-    let told : c.push_units.new.out.items ≡ c.push_ranges.new.out.items ++ units_line c.args.units
-    → (classes : Classes) (sampled : Sampled) → Tells classes sampled branches ranges c.args.units
+    let units = c.args.units in
+    let told : ((classes : Classes) (sampled : Sampled) (bs : List (Classed Class)) (rs : List (Classed RangeClass)) → Tells classes sampled bs rs units
+    → c.push_units.new.out.items ≡ c.push_ranges.new.out.items ++ units_text sampled)
+    → (classes : Classes) (sampled : Sampled) → Tells classes sampled branches ranges units
     → c.push_units.new.out.items ≡ out ++ report_text classes sampled =
     λ last classes sampled tells.
-    last
-    ∙ ap (λ (t : List ℕ). t ++ units_line c.args.units) (c.in_ok-push_ranges.ensures ∙ ap (λ (t : List ℕ). t ++ range_lines ranges) c.in_ok-push_branches.ensures)
-    ∙ append_assoc (out ++ branch_lines branches) (range_lines ranges) (units_line c.args.units)
-    ∙ append_assoc out (branch_lines branches) (range_lines ranges ++ units_line c.args.units)
-    ∙ ap (λ (t : List ℕ). out ++ t) (report_told classes sampled branches ranges c.args.units tells) in
+    let of_branches = branches_text classes sampled in
+    let of_ranges = ranges_text classes sampled in
+    let of_units = units_text sampled in
+    last classes sampled branches ranges tells
+    ∙ ap (λ (t : List ℕ). t ++ of_units)
+    (c.in_ok-push_ranges.ensures classes sampled branches units tells ∙ ap (λ (t : List ℕ). t ++ of_ranges) (c.in_ok-push_branches.ensures classes sampled ranges units tells))
+    ∙ append_assoc (out ++ of_branches) of_ranges of_units
+    ∙ append_assoc out of_branches (of_ranges ++ of_units) in
     OnOk-map _ _ _ told c.push_units.ensures

@@ -1,8 +1,9 @@
-use Rattle.std.proofs.Common.{◌<◌, length, subst, sym, arith}
+use Rattle.std.proofs.Common.{◌<◌, List, length, map, subst, sym, arith}
+use Rattle.address_spans.specs.Spans.{AreBetween}
 use Rattle.key_counts.specs.Segments.{AllFit}
+use Rattle.key_segments.specs.Segments.{span_of}
 use Rattle.key_types.specs.declared.places.Seg.{Seg}
 use Rattle.profile_bench.proofs.LaidLemmas.{all_added, not_fewer, laid_more, fit_more}
-use Rattle.profile_bench.specs.Laid.{LieUpTo}
 use Rattle.profile_tree.specs.Known.{HasNames}
 use Rattle.profile_bench.proofs.program.Laid.lay.Goals as goal
 
@@ -18,5 +19,5 @@ returns-clause-laid c =
       named = all_added (HasNames (length c.args.names.now)) old.keys new c.args.key c.in_ok-key.key.0 c.in_ok-key.ensures.added c.in_ok-key.ensures.number c.in_ok-key.ensures.one_more c.requires.laid.named c.requires.named;
       fit = subst (AllFit (length new)) (sym c.in_ok-push.ensures.items)
           (fit_more (length old.keys) (length new) segments s (not_fewer old.keys new c.args.key c.in_ok-key.ensures.added) c.requires.laid.fit c.in_ok-key.ensures.given few);
-      lie = subst (LieUpTo 0 c.args.hi) (sym c.in_ok-push.ensures.items) (laid_more 0 c.args.lo segments s c.requires.laid.lie (omega arith) c.requires.some);
+      lie = subst (λ (xs : List Seg). AreBetween 0 c.args.hi (map span_of xs)) (sym c.in_ok-push.ensures.items) (laid_more 0 c.args.lo segments s c.requires.laid.lie (omega arith) c.requires.some);
     }

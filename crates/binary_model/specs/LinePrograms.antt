@@ -7,7 +7,7 @@ use Rattle.byte_view.specs.Cursor.{Cursor}
 use Rattle.placed_view.specs.Reader.{cursor_behind}
 use Rattle.unit_model.specs.Values.{Found}
 use Rattle.unit_model.specs.Units.{Unit, Units}
-use Rattle.unit_bases.specs.Bases.{root_attribute, section_place}
+use Rattle.base_model.specs.Bases.{root_attribute, section_place}
 use Rattle.line_model.specs.declared.row.Row.{Row}
 use Rattle.line_model.specs.Fields.{Judged, ◌>>=◌}
 use Rattle.line_model.specs.Program.{rows_at}

@@ -5,7 +5,7 @@ use Rattle.std.specs.Option.{option_map, option_or}
 use Rattle.std.proofs.lemmas.List.Folds.{find-append}
 use Rattle.unit_model.specs.Values.{Found}
 use Rattle.unit_model.specs.Entries.{Entry}
-use Rattle.unit_bases.specs.Bases.{attribute}
+use Rattle.base_model.specs.Bases.{attribute}
 use Rattle.way_model.specs.Origin.{Held, attributes_on, first_on, held_by}
 use Rattle.entry_names.specs.Meaning.{AreFound, held_of}
 use Rattle.entry_names.specs.declared.findings.Held as code

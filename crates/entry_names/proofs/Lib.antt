@@ -3,3 +3,4 @@ pub mod FoundLemmas
 pub mod NameLemmas
 pub mod StepLemmas
 pub mod MemoLemmas
+pub mod OrderLemmas

@@ -8,7 +8,7 @@ use Rattle.refusal.specs.Place.{in_binary}
 use Rattle.range_model.specs.Texts.{Sections}
 use Rattle.unit_model.specs.Entries.{Entry}
 use Rattle.unit_model.specs.Units.{Units}
-use Rattle.unit_bases.specs.Bases.{attribute}
+use Rattle.base_model.specs.Bases.{attribute}
 use Rattle.way_model.specs.Way.{Info, entry_beginning_at, going_on, is_passed_over, led_to, max_steps, met, next_by, next_on_way, way, way_from, with_first}
 use Rattle.way_model.specs.Origin.{Origin, first_on, line_on, name_said, naming, number_of, origin, said_on, with_line}
 use Rattle.entry_names.specs.Memo.{LeadsOn, SaysNothing}

@@ -9,7 +9,7 @@ use Rattle.std.proofs.lemmas.List.Sums.{position_or_len_is}
 use Rattle.std.proofs.lemmas.Option.{slice_get_past, slice_get_within, get_or_from_slice_get}
 use Rattle.unit_model.specs.Entries.{Entry}
 use Rattle.dwarf_info.specs.Found.{FindsEntry}
-use Rattle.way_model.specs.Order.{AreInOrder}
+use Rattle.entry_names.specs.Order.{AreInOrder}
 use Rattle.way_model.specs.Way.{entry_beginning_at}
 
 -- an entry begins at an offset

@@ -4,7 +4,7 @@ use Rattle.std.specs.Map.{lookup}
 use Rattle.range_model.specs.Texts.{Sections}
 use Rattle.unit_model.specs.Values.{Found}
 use Rattle.unit_model.specs.Entries.{Entry}
-use Rattle.unit_bases.specs.Bases.{attribute}
+use Rattle.base_model.specs.Bases.{attribute}
 use Rattle.way_model.specs.Way.{Info, entry_beginning_at, reference_of, target_of, way_from}
 use Rattle.way_model.specs.Origin.{said_on}
 use Rattle.entry_names.specs.Meaning.{TellsOrigin}

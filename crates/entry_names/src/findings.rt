@@ -2,7 +2,7 @@
 ghost use Rattle.std.specs.Prelude.{◌≡◌, ◌∷◌, [], List};
 ghost use Rattle.unit_model.specs.Entries.{Entry as entry_told};
 ghost use Rattle.dwarf_forms.specs.Meaning.{meaning_of};
-ghost use Rattle.way_model.specs.Order.{AreInOrder};
+ghost use Rattle.entry_names.specs.Order.{AreInOrder};
 ghost use Rattle.way_model.specs.Way.{way_from};
 ghost use Rattle.std.specs.Option.{option_map};
 ghost use Rattle.way_model.specs.Origin.{first_on, line_on, naming, number_of as number_told};

@@ -1,7 +1,7 @@
 ghost use Rattle.std.specs.Prelude.{◌<◌, ◌-◌, ◌^◌, length, Result};
 ghost use Rattle.std.specs.Option.{option_map};
 ghost use Rattle.dwarf_strings.specs.Meaning.{Means, sections_of};
-ghost use Rattle.way_model.specs.Order.{AreInOrder};
+ghost use Rattle.entry_names.specs.Order.{AreInOrder};
 ghost use Rattle.way_model.specs.Origin.{Origin as told_origin, origin as origin_told, said_on};
 ghost use Rattle.refusal.specs.declared.place.Place.{Place};
 ghost use Rattle.way_model.specs.Way.{way_from};

@@ -1,7 +1,7 @@
 ghost use Rattle.std.specs.Prelude.{◌≡◌, ◌<◌, ◌-◌, ◌^◌, [], length, IfSome, IsTrue, None, Some};
 ghost use Rattle.dwarf_strings.specs.Meaning.{sections_of};
-ghost use Rattle.unit_bases.specs.Bases.{attribute as attribute_told};
-ghost use Rattle.way_model.specs.Order.{AreInOrder};
+ghost use Rattle.base_model.specs.Bases.{attribute as attribute_told};
+ghost use Rattle.entry_names.specs.Order.{AreInOrder};
 ghost use Rattle.way_model.specs.Way.{entry_beginning_at as beginning_told, way_from};
 ghost use Rattle.way_model.specs.Origin.{origin as origin_told, said_on};
 ghost use Rattle.entry_names.specs.Meaning.{Extends, TellsOrigin, info_of};

@@ -1,5 +1,5 @@
 ghost use Rattle.std.specs.Prelude.{IfSome};
-ghost use Rattle.way_model.specs.Order.{AreInOrder};
+ghost use Rattle.entry_names.specs.Order.{AreInOrder};
 
 use crate::{Info, Origins, origin_of};
 use byte_view::Part;

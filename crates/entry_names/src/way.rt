@@ -1,7 +1,7 @@
 // The way of an entry, step by step.
 ghost use Rattle.std.specs.Prelude.{◌≡◌};
 ghost use Rattle.dwarf_forms.specs.Meaning.{meaning_of};
-ghost use Rattle.way_model.specs.Order.{AreInOrder};
+ghost use Rattle.entry_names.specs.Order.{AreInOrder};
 ghost use Rattle.way_model.specs.Way.{entry_beginning_at as entry_told, is_passed_over as passed_over_told, led_to as led_to_told, next_on_way as next_told, reference_of as reference_told, start_of_unit as start_told, target_of as target_told};
 ghost use Rattle.entry_names.specs.Meaning.{info_of};
 

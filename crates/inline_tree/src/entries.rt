@@ -1,6 +1,6 @@
 // The entries of a unit, one behind the other.
 ghost use Rattle.std.specs.Prelude.{◌≡◌, ◌+◌, ◌-◌, ◌<◌, ◌≤◌, ◌^◌, length, OnOk};
-ghost use Rattle.way_model.specs.Order.{AreInOrder};
+ghost use Rattle.entry_names.specs.Order.{AreInOrder};
 ghost use Rattle.entry_names.specs.Meaning.{Extends};
 ghost use Rattle.piece_model.specs.Pieces.{pieces as pieces_told};
 ghost use Rattle.entry_pieces.specs.Told.{Tells, in_unit};

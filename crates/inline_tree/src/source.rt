@@ -1,5 +1,5 @@
 ghost use Rattle.std.specs.Prelude.{◌<◌, ◌-◌, ◌^◌, length};
-ghost use Rattle.way_model.specs.Order.{AreInOrder};
+ghost use Rattle.entry_names.specs.Order.{AreInOrder};
 ghost use Rattle.way_model.specs.Origin.{origin as origin_told};
 ghost use Rattle.entry_names.specs.Meaning.{Extends, TellsOrigin};
 ghost use Rattle.inline_tree.specs.Told.{Knows, source_of};

@@ -9,7 +9,7 @@ use Rattle.range_model.specs.Lists.{RangeSections, bad_range, proper, ranges_of,
 use Rattle.unit_model.specs.Values.{Found}
 use Rattle.unit_model.specs.Entries.{Entry}
 use Rattle.elf_model.specs.Segments.{is_live}
-use Rattle.unit_bases.specs.Bases.{address_at, attribute}
+use Rattle.base_model.specs.Bases.{address_at, attribute}
 
 -- What the ranges of a unit's entries are read by: the sections, the unit's version, its base address, and what its
 -- indexes count from.

@@ -11,7 +11,7 @@ use Rattle.unit_model.specs.Values.{Found}
 use Rattle.unit_model.specs.Entries.{Entry}
 use Rattle.elf_model.specs.Fields.{number_at}
 use Rattle.elf_model.specs.Segments.{is_live}
-use Rattle.unit_bases.specs.Bases.{base_address, bases_of_unit, root_of}
+use Rattle.base_model.specs.Bases.{base_address, bases_of_unit, root_of}
 use Rattle.piece_model.specs.Pieces.{InUnit, pieces, spelled_ranges}
 use Rattle.way_model.specs.Way.{next_on_way, way}
 use Rattle.way_model.specs.Origin.{origin}

@@ -2,7 +2,7 @@
 use Rattle.std.specs.Prelude.{ℕ, ◌%◌, ◌^◌, Bool, ◌==◌, List, Option}
 use Rattle.std.specs.Option.{option_map_or}
 use Rattle.unit_model.specs.Entries.{Entry}
-use Rattle.unit_bases.specs.Bases.{attribute}
+use Rattle.base_model.specs.Bases.{attribute}
 use Rattle.way_model.specs.Origin.{Origin, number_of}
 
 -- DW_TAG_subprogram, and DW_TAG_inlined_subroutine.

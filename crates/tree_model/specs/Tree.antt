@@ -6,7 +6,7 @@ use Rattle.refusal.specs.Place.{in_binary}
 use Rattle.range_model.specs.Lists.{RangeSections}
 use Rattle.unit_model.specs.Entries.{Entry}
 use Rattle.unit_model.specs.Units as model
-use Rattle.unit_bases.specs.Bases.{base_address, bases_of_unit}
+use Rattle.base_model.specs.Bases.{base_address, bases_of_unit}
 use Rattle.piece_model.specs.Pieces.{InUnit, and_then, pieces}
 use Rattle.way_model.specs.Way.{Info}
 use Rattle.way_model.specs.Origin.{origin}

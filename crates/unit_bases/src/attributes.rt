@@ -1,6 +1,6 @@
 ghost use Rattle.std.specs.Prelude.{◌≡◌};
 ghost use Rattle.dwarf_strings.specs.Meaning.{bases_of, sections_of};
-ghost use Rattle.unit_bases.specs.Bases.{address_at as address_told, attribute as attribute_told};
+ghost use Rattle.base_model.specs.Bases.{address_at as address_told, attribute as attribute_told};
 
 use dwarf_info::Found;
 use dwarf_strings::{Bases, Texts, address};

@@ -1,7 +1,7 @@
 ghost use Rattle.std.specs.Prelude.{◌≡◌};
 ghost use Rattle.dwarf_forms.specs.Meaning.{meaning_of};
 ghost use Rattle.dwarf_strings.specs.Meaning.{bases_of as bases_seen, sections_of};
-ghost use Rattle.unit_bases.specs.Bases.{base_address as base_address_told, base_in as base_in_told, bases_of_unit, section_place as section_place_told};
+ghost use Rattle.base_model.specs.Bases.{base_address as base_address_told, base_in as base_in_told, bases_of_unit, section_place as section_place_told};
 
 use crate::attributes::address_at;
 use crate::root::{is_wide, root_attribute};
@@ -36,7 +36,7 @@ fn base_in(units: &Units<'_>, unit: u32, name: u64) -> Option<u64>
 ///
 /// Source: DWARF 5, section 7.5.4, table 7.5: `DW_AT_str_offsets_base`, `DW_AT_addr_base` and
 /// `DW_AT_rnglists_base`.
-#[tactic(auto, unfolding(crate::specs::Bases::bases_of_unit))]
+#[tactic(auto, unfolding(base_model::specs::Bases::bases_of_unit))]
 pub fn bases_of(units: &Units<'_>, unit: u32) -> Bases
     ensures { bases_seen result ≡ bases_of_unit units.now unit }
 {
@@ -55,7 +55,7 @@ pub fn bases_of(units: &Units<'_>, unit: u32) -> Bases
 /// What `address_at` answers for the root's `DW_AT_low_pc`.
 ///
 /// Source: DWARF 5, section 3.1.1.
-#[tactic(auto, unfolding(crate::specs::Bases::base_address))]
+#[tactic(auto, unfolding(base_model::specs::Bases::base_address))]
 pub fn base_address(units: &Units<'_>, unit: u32, texts: &Texts<'_>) -> Result<u64, Place>
     ensures { result ≡ base_address_told (sections_of texts.now) units.now unit }
 {

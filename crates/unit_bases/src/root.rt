@@ -1,5 +1,5 @@
 ghost use Rattle.std.specs.Prelude.{◌≡◌};
-ghost use Rattle.unit_bases.specs.Bases.{if_root as if_root_told, is_wide as is_wide_told, root_attribute as root_attribute_told, root_of};
+ghost use Rattle.base_model.specs.Bases.{if_root as if_root_told, is_wide as is_wide_told, root_attribute as root_attribute_told, root_of};
 
 use crate::attributes::attribute;
 use dwarf_info::{Entry, Found, Units};
@@ -21,7 +21,7 @@ fn if_root<'a, 'u>(entry: Entry<'a, 'u>) -> Option<Entry<'a, 'u>>
 }
 
 /// The root of the unit at a place among the units.
-#[tactic(auto, unfolding(crate::specs::Bases::root_of))]
+#[tactic(auto, unfolding(base_model::specs::Bases::root_of))]
 fn root<'a, 'u>(units: &'u Units<'a>, unit: u32) -> Option<Entry<'a, 'u>>
     ensures { result ≡ root_of units.now unit }
 {

@@ -8,7 +8,7 @@ use Rattle.value_model.specs.Value.{Value, const, ref, ref_info, sig, str_index,
 use Rattle.range_model.specs.Texts.{text_of}
 use Rattle.unit_model.specs.Values.{Found}
 use Rattle.unit_model.specs.Entries.{Entry}
-use Rattle.unit_bases.specs.Bases.{bases_of_unit, root_of}
+use Rattle.base_model.specs.Bases.{bases_of_unit, root_of}
 use Rattle.way_model.specs.Way.{Info, next_on_way, way}
 use Rattle.way_model.specs.Origin.{Origin, origin}
 

@@ -9,7 +9,7 @@ use Rattle.range_model.specs.Texts.{Sections, text_of}
 use Rattle.unit_model.specs.Values.{Found}
 use Rattle.unit_model.specs.Entries.{Entry}
 use Rattle.unit_model.specs.Units.{Units}
-use Rattle.unit_bases.specs.Bases.{at_value, bases_of_unit}
+use Rattle.base_model.specs.Bases.{at_value, bases_of_unit}
 use Rattle.way_model.specs.Way.{Info, way}
 
 -- An attribute on a way, with the unit of the entry that has it.

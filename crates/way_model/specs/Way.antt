@@ -9,7 +9,7 @@ use Rattle.value_model.specs.Value.{Value, ref, ref_info}
 use Rattle.unit_model.specs.Values.{Found}
 use Rattle.unit_model.specs.Entries.{Entry}
 use Rattle.unit_model.specs.Units.{Units}
-use Rattle.unit_bases.specs.Bases.{attribute}
+use Rattle.base_model.specs.Bases.{attribute}
 
 -- Where `.debug_info` begins in the file, and what it says.
 pub record Info : Type 0 where

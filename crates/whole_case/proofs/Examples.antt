@@ -59,7 +59,7 @@ use Rattle.text_model.specs.Lines.{ended_lines_of, lines_of as text_lines}
 use Rattle.text_model.specs.Numbers.{hex_text, number_of, prefixed_of}
 use Rattle.tree_model.specs.Members.{Told}
 use Rattle.tree_model.specs.Tree.{members, next_call, next_entry as next_tree_entry, next_function, next_unit as next_tree_unit}
-use Rattle.unit_bases.specs.Bases.{base_address, bases_of_unit, root_of}
+use Rattle.base_model.specs.Bases.{base_address, bases_of_unit, root_of}
 use Rattle.unit_model.specs.Entries.{entries, entry_of as unit_entry_of, entry_of_code, next_entry as next_unit_entry}
 use Rattle.unit_model.specs.Header.{abbrevs_at, address_size, header, header_4, header_5, header_5_behind, sized, unit_length}
 use Rattle.unit_model.specs.Units.{next_unit as next_unit_read, unit_body, units}

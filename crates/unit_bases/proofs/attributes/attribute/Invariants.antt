@@ -1,5 +1,5 @@
 use Rattle.std.proofs.Common.{◌≡◌, drop}
-use Rattle.unit_bases.specs.Bases.{attribute}
+use Rattle.base_model.specs.Bases.{attribute}
 use Rattle.unit_bases.proofs.attributes.attribute.Given as goal
 
 -- The attributes that are left answer as all of them do.

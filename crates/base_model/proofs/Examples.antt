@@ -7,7 +7,7 @@ use Rattle.value_model.specs.Value.{addr, addr_index, const, offset}
 use Rattle.range_model.specs.Texts.{Sections, address_of}
 use Rattle.unit_model.specs.Values.{Found}
 use Rattle.unit_model.specs.Units.{Units}
-use Rattle.unit_bases.specs.Bases.{base_address, bases_of_unit, root_of}
+use Rattle.base_model.specs.Bases.{base_address, bases_of_unit, root_of}
 
 -- a root of version 5, a function, and the root of a partial unit in 64-bit DWARF
 abbrev three : List Found → List Found → Units

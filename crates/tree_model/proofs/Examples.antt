@@ -16,7 +16,7 @@ use Rattle.piece_model.specs.Pieces.{InUnit, pieces, spelled_ranges}
 use Rattle.way_model.specs.Way.{next_on_way, way}
 use Rattle.way_model.specs.Origin.{origin}
 use Rattle.tree_model.specs.Members.{Told}
-use Rattle.tree_model.specs.Depths.{calls_above}
+use Rattle.tree_model.specs.Depths.{Standing, calls_on, inlined_into, way_up}
 use Rattle.tree_model.specs.Frames.{SoFar, nothing}
 use Rattle.tree_model.specs.Tree.{Source, members, next_call, next_entries, next_entry, next_function, next_unit}
 
@@ -122,10 +122,6 @@ nested_function_behind : members (source entries)
 unfolding members next_unit next_entry next_function next_call pieces spelled_ranges is_live number_at address_of text_of origin way next_on_way base_address bases_of_unit root_of
 nested_function_behind = refl
 
--- by the depths alone: the last entry stands below two calls, and no call of the outer function is one of the inner's
-depths_count_calls : (calls_above 4 (reverse (take 9 entries)) ≡ 2) × (calls_above 3 (reverse (take 6 entries)) ≡ 0)
-depths_count_calls = (refl, refl)
-
 -- the root's address is judged before all, a call's origin behind its pieces, and only where it has any
 bad_origin : members
     (source (entry 177 0 0x11 [] ∷ entry 182 1 0x1d (found 183 0x31 (ref 17) ∷ from 183 0x401000 4) ∷ []))
@@ -155,6 +151,22 @@ of_unit = record {
   base = 0;
   bases = record { wide = false; str_offsets = None; addr = None; rnglists = None };
 }
+
+-- by the depths alone: the last entry stands below two calls, of which one has no pieces, and no call of the outer
+-- function is one of the inner's
+abbrev way_of_last : List Standing
+way_of_last = way_up 4 (reverse (take 9 entries))
+
+abbrev way_of_inner : List Standing
+way_of_inner = way_up 3 (reverse (take 6 entries))
+
+depths_count_calls : (length (calls_on way_of_last) ≡ 2) × (length (calls_on way_of_inner) ≡ 0)
+depths_count_calls = (refl, refl)
+
+depths_tell_functions : (inlined_into (source entries) of_unit 0 way_of_last ≡ None)
+    × (inlined_into (source entries) of_unit 0 way_of_inner ≡ Some 1)
+unfolding spelled_ranges is_live number_at address_of
+depths_tell_functions = (refl, refl)
 
 abbrev how_many_frames : Result (SoFar Told) Place → Result ℕ Place
 how_many_frames (Ok so_far) = Ok (length so_far.frames)

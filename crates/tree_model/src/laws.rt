@@ -1,10 +1,11 @@
 // The definitions seen from the other side.
-ghost use Rattle.tree_model.specs.Laws.{DepthsAreByEntries, ReadEntriesGoDown};
+ghost use Rattle.tree_model.specs.Laws.{MembersAreByDepths, ReadEntriesGoDown};
 
-/// A call is as deep as there are inlined subroutines on the way from its entry up to the nearest
-/// subprogram, itself included, by the depths of the unit's entries alone.
-pub fn depths_are_by_entries()
-    ensures { DepthsAreByEntries }
+/// What each entry of a unit adds, by the depths of the entries before it alone: a subprogram with
+/// pieces a function, an inlined subroutine with pieces a call of the nearest subprogram above it,
+/// where that and all between have pieces, and any other entry nothing.
+pub fn members_are_by_depths()
+    ensures { MembersAreByDepths }
 {}
 
 /// The entries that are read of a unit go down one at a time, as the law above asks of them.

@@ -9,4 +9,4 @@
 
 mod laws;
 
-pub use laws::{depths_are_by_entries, read_entries_go_down};
+pub use laws::{members_are_by_depths, read_entries_go_down};

@@ -119,7 +119,8 @@ fn push_count_fields(out: &mut Vec<u8>) -> Result<(), NoMemory>
     Ok(())
 }
 
-/// Appends the program header: a segment of code that holds the functions, without bytes of its own.
+/// Appends the program header: a segment of code that holds the functions, without bytes of its
+/// own.
 #[tactic(auto, unfolding(case_model::specs::Elf::program_header))]
 fn push_program_header(out: &mut Vec<u8>, n: u64) -> Result<(), NoMemory>
     requires { n ≤ MAX_FUNCTIONS }

@@ -1,7 +1,8 @@
 //! Reads the debugging information of a binary a number of times, to be timed from outside.
 //!
 //! `reader_bench units FILE ROUNDS` reads all units with their entries, `reader_bench lines FILE
-//! ROUNDS` all line programs, which have to be of 32-bit DWARF. Each round prints how much there is.
+//! ROUNDS` all line programs, which have to be of 32-bit DWARF. Each round prints how much there
+//! is.
 #![tactic(auto)]
 
 mod lines;

@@ -1,4 +1,6 @@
-//! The generated case of one function, computed by the definitions from its bytes to what is written of it.
+//! The generated case of one function, computed by the definitions from its bytes to what is
+//! written of it.
 //!
-//! Examples alone, in `proofs/`: each joins all models, where those of a model stop at its own door.
+//! Examples alone, in `proofs/`: each joins all models, where those of a model stop at its own
+//! door.
 #![tactic(auto)]

@@ -15,12 +15,16 @@ use dwarf_info::Entry;
 use refusal::{Kind, Place};
 use unit_bases::attribute;
 
+/// `DW_AT_name`: the name as the source has it.
 pub(crate) const NAME: u64 = 0x03;
 
+/// `DW_AT_decl_line`: the line of the declaration, from which a profile counts lines.
 pub(crate) const DECL_LINE: u64 = 0x3b;
 
+/// `DW_AT_linkage_name`: the name as the linker has it.
 pub(crate) const LINKAGE_NAME: u64 = 0x6e;
 
+/// `DW_AT_MIPS_linkage_name`: the same, by the name that it had before DWARF 4.
 pub(crate) const MIPS_LINKAGE_NAME: u64 = 0x2007;
 
 /// An attribute on a way: the unit of the entry that has it, its name, where its value stands, and
@@ -62,60 +66,8 @@ impl<'a> Findings<'a> {
     }
 }
 
-/// The number that a value is.
-fn number_of(value: Value<'_>) -> u64
-    ensures { result ≡ number_told (meaning_of value.entry) }
-{
-    match value {
-        Value::Const(number) => number,
-        _ => 0,
-    }
-}
-
-/// The attribute of a name that an entry has.
-#[tactic(auto, using(crate::proofs::FoundLemmas::held_lemmas))]
-fn held_in<'a>(entry: &Entry<'a, '_>, name: u64) -> Option<Held<'a>>
-    ensures { option_map held_of result ≡ first_on name (entry.now ∷ []) }
-{
-    match attribute(entry.found, name) {
-        Some(found) => Some(Held {
-            unit: entry.unit,
-            name: found.name,
-            at: found.at,
-            value: found.value,
-        }),
-        None => None,
-    }
-}
-
-/// What a way of one entry says.
-fn found_in<'a>(entry: &Entry<'a, '_>) -> Findings<'a>
-    ensures { AreFound (entry.now ∷ []) result }
-{
-    Findings {
-        linkage: held_in(entry, LINKAGE_NAME),
-        mips_linkage: held_in(entry, MIPS_LINKAGE_NAME),
-        name: held_in(entry, NAME),
-        line: held_in(entry, DECL_LINE),
-    }
-}
-
-/// What a way says that begins with an entry, where the rest of it says the other.
-#[tactic(auto, using(crate::proofs::FoundLemmas::before_lemmas))]
-fn before<'a>(entry: &Entry<'a, '_>, rest: &Findings<'a>) -> Findings<'a>
-    ensures { (way : List entry_told) → AreFound way rest.now → AreFound (entry.now ∷ way) result }
-{
-    let own = found_in(entry);
-    Findings {
-        linkage: own.linkage.or(rest.linkage),
-        mips_linkage: own.mips_linkage.or(rest.mips_linkage),
-        name: own.name.or(rest.name),
-        line: own.line.or(rest.line),
-    }
-}
-
-/// What the way from an entry on says, with so many steps at most, of a way that began at an offset
-/// in the file.
+/// The first attributes on the way from an entry on, with so many steps at most, of a way that began
+/// at an offset in the file.
 ///
 /// # Errors
 /// What `next_on_way` answers on the way, and `OriginTooLong` where the way began, for one step
@@ -144,5 +96,57 @@ pub(crate) fn findings_from<'a>(
     match findings_from(info, began, steps - 1, &next) {
         Ok(rest) => Ok(before(entry, &rest)),
         Err(place) => Err(place),
+    }
+}
+
+/// What a way says that begins with an entry, where the rest of it says the other.
+#[tactic(auto, using(crate::proofs::FoundLemmas::before_lemmas))]
+fn before<'a>(entry: &Entry<'a, '_>, rest: &Findings<'a>) -> Findings<'a>
+    ensures { (way : List entry_told) → AreFound way rest.now → AreFound (entry.now ∷ way) result }
+{
+    let own = found_in(entry);
+    Findings {
+        linkage: own.linkage.or(rest.linkage),
+        mips_linkage: own.mips_linkage.or(rest.mips_linkage),
+        name: own.name.or(rest.name),
+        line: own.line.or(rest.line),
+    }
+}
+
+/// What a way of one entry says.
+fn found_in<'a>(entry: &Entry<'a, '_>) -> Findings<'a>
+    ensures { AreFound (entry.now ∷ []) result }
+{
+    Findings {
+        linkage: held_in(entry, LINKAGE_NAME),
+        mips_linkage: held_in(entry, MIPS_LINKAGE_NAME),
+        name: held_in(entry, NAME),
+        line: held_in(entry, DECL_LINE),
+    }
+}
+
+/// The attribute of a name that an entry has.
+#[tactic(auto, using(crate::proofs::FoundLemmas::held_lemmas))]
+fn held_in<'a>(entry: &Entry<'a, '_>, name: u64) -> Option<Held<'a>>
+    ensures { option_map held_of result ≡ first_on name (entry.now ∷ []) }
+{
+    match attribute(entry.found, name) {
+        Some(found) => Some(Held {
+            unit: entry.unit,
+            name: found.name,
+            at: found.at,
+            value: found.value,
+        }),
+        None => None,
+    }
+}
+
+/// The number that a value is.
+fn number_of(value: Value<'_>) -> u64
+    ensures { result ≡ number_told (meaning_of value.entry) }
+{
+    match value {
+        Value::Const(number) => number,
+        _ => 0,
     }
 }

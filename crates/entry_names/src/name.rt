@@ -12,46 +12,6 @@ use dwarf_strings::text;
 use refusal::Place;
 use unit_bases::bases_of;
 
-/// Whether no name has this byte: white space, other control bytes, DEL, and the colon that parts
-/// names in a profile.
-fn parts_names(byte: u8) -> bool
-    ensures { result ≡ parts_names_told byte }
-{
-    byte <= b' ' || byte == 0x7f || byte == b':'
-}
-
-/// Whether no name begins with this byte: `#` and `!`, which begin other lines of a profile, and
-/// digits.
-fn begins_no_name(byte: u8) -> bool
-    ensures { result ≡ begins_no_name_told byte }
-{
-    byte == b'#' || byte == b'!' || byte.is_ascii_digit()
-}
-
-/// Whether a text holds a byte that no name has.
-fn holds_parting_byte(text: &[u8]) -> bool
-    ensures { result ≡ list_any parts_names_told text.now }
-{
-    for byte in text {
-        if parts_names(*byte) {
-            return true;
-        }
-    }
-    false
-}
-
-/// Whether a text can be a name in a profile.
-#[tactic(auto, using(crate::proofs::NameLemmas::name_lemmas))]
-fn is_name(text: &[u8]) -> bool
-    ensures { result ≡ is_name_told text.now }
-{
-    match text.first() {
-        Some(first) if begins_no_name(*first) => false,
-        Some(_) => !holds_parting_byte(text),
-        None => false,
-    }
-}
-
 /// The name that an attribute says, with the bases of the unit in which it stands. A text that can
 /// be no name says none.
 ///
@@ -76,4 +36,44 @@ pub(crate) fn name_said<'a>(
             kind,
         }),
     }
+}
+
+/// Whether a text can be a name in a profile.
+#[tactic(auto, using(crate::proofs::NameLemmas::name_lemmas))]
+fn is_name(text: &[u8]) -> bool
+    ensures { result ≡ is_name_told text.now }
+{
+    match text.first() {
+        Some(first) if begins_no_name(*first) => false,
+        Some(_) => !holds_parting_byte(text),
+        None => false,
+    }
+}
+
+/// Whether no name begins with this byte: `#` and `!`, which begin other lines of a profile, and
+/// digits.
+fn begins_no_name(byte: u8) -> bool
+    ensures { result ≡ begins_no_name_told byte }
+{
+    byte == b'#' || byte == b'!' || byte.is_ascii_digit()
+}
+
+/// Whether a text holds a byte that no name has.
+fn holds_parting_byte(text: &[u8]) -> bool
+    ensures { result ≡ list_any parts_names_told text.now }
+{
+    for byte in text {
+        if parts_names(*byte) {
+            return true;
+        }
+    }
+    false
+}
+
+/// Whether no name has this byte: white space, other control bytes, DEL, and the colon that parts
+/// names in a profile.
+fn parts_names(byte: u8) -> bool
+    ensures { result ≡ parts_names_told byte }
+{
+    byte <= b' ' || byte == 0x7f || byte == b':'
 }

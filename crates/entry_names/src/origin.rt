@@ -32,42 +32,6 @@ pub(crate) struct Said<'a> {
     pub line: u64,
 }
 
-/// What the way from an entry on says, with so many steps at most, of a way that began at an offset
-/// in the file.
-pub(crate) fn said_from<'a>(
-    info: &Info<'a, '_>,
-    began: u64,
-    steps: u32,
-    entry: &Entry<'a, '_>,
-) -> Result<Said<'a>, Place>
-    requires { AreInOrder info.now.units.now.entries }
-    ensures { Means said_of result (said_on (sections_of info.now.texts.now) info.now.units.now
-        (way_from (info_of info.now) began steps entry.now)) }
-{
-    match findings_from(info, began, steps, entry) {
-        Ok(findings) => match name_said(info, findings.naming()) {
-            Ok(name) => Ok(Said {
-                name,
-                line: findings.line(),
-            }),
-            Err(place) => Err(place),
-        },
-        Err(place) => Err(place),
-    }
-}
-
-/// The number of a name, if there is one.
-fn number_of<'a>(names: &mut Names<'a>, name: Option<&'a [u8]>) -> Result<Option<NameId>, NoMemory>
-    requires { length names.old < 2 ^ 32 - 1 }
-    ensures number { Numbers names.new (option_map (λ name. name.now) name.entry) result }
-    ensures names { Extends names.old names.new }
-{
-    match name {
-        Some(name) => Ok(Some(names.add(name)?)),
-        None => Ok(None),
-    }
-}
-
 /// The name and the start line of an entry, by the first attributes on its way: the entry, the
 /// target of its `DW_AT_abstract_origin`, else of its `DW_AT_specification`, and so on, up to an
 /// entry without either, a signature, or a unit that was passed over.
@@ -97,6 +61,33 @@ pub fn origin_of<'a>(
     numbered(said, names)
 }
 
+/// The name and the line that the way from an entry on says, with so many steps at most, of a way
+/// that began at an offset in the file.
+///
+/// # Errors
+/// Those of `findings_from`, and then those of `name_said`.
+pub(crate) fn said_from<'a>(
+    info: &Info<'a, '_>,
+    began: u64,
+    steps: u32,
+    entry: &Entry<'a, '_>,
+) -> Result<Said<'a>, Place>
+    requires { AreInOrder info.now.units.now.entries }
+    ensures { Means said_of result (said_on (sections_of info.now.texts.now) info.now.units.now
+        (way_from (info_of info.now) began steps entry.now)) }
+{
+    match findings_from(info, began, steps, entry) {
+        Ok(findings) => match name_said(info, findings.naming()) {
+            Ok(name) => Ok(Said {
+                name,
+                line: findings.line(),
+            }),
+            Err(place) => Err(place),
+        },
+        Err(place) => Err(place),
+    }
+}
+
 /// What a way says, with the number of its name.
 pub(crate) fn numbered<'a>(
     said: Result<Said<'a>, Place>,
@@ -116,5 +107,17 @@ pub(crate) fn numbered<'a>(
             Err(NoMemory) => Err(Stop::NoMemory),
         },
         Err(place) => Err(Stop::Refused(place)),
+    }
+}
+
+/// The number of a name, if there is one.
+fn number_of<'a>(names: &mut Names<'a>, name: Option<&'a [u8]>) -> Result<Option<NameId>, NoMemory>
+    requires { length names.old < 2 ^ 32 - 1 }
+    ensures number { Numbers names.new (option_map (λ name. name.now) name.entry) result }
+    ensures names { Extends names.old names.new }
+{
+    match name {
+        Some(name) => Ok(Some(names.add(name)?)),
+        None => Ok(None),
     }
 }

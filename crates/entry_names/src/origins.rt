@@ -128,23 +128,6 @@ impl Origins {
     }
 }
 
-/// Whether an entry lacks the attribute of a name.
-fn lacks(found: &[Found<'_>], name: u64) -> bool
-    ensures { IsTrue result → attribute_told name found.now ≡ None }
-{
-    attribute(found, name).is_none()
-}
-
-/// Whether an entry has no name and no line of its own.
-fn says_nothing(entry: &Entry<'_, '_>) -> bool
-    ensures { IsTrue result → SaysNothing entry.now }
-{
-    lacks(entry.found, LINKAGE_NAME)
-        && lacks(entry.found, MIPS_LINKAGE_NAME)
-        && lacks(entry.found, NAME)
-        && lacks(entry.found, DECL_LINE)
-}
-
 /// The offset in the file that an entry leads to which has no name and no line of its own.
 fn leads_on(info: &Info<'_, '_>, entry: &Entry<'_, '_>) -> Option<u64>
     ensures { IfSome result (LeadsOn (info_of info.now) entry.now) }
@@ -159,4 +142,21 @@ fn leads_on(info: &Info<'_, '_>, entry: &Entry<'_, '_>) -> Option<u64>
         Some(at) if at <= u128::from(u64::MAX) => Some(at as u64),
         _ => None,
     }
+}
+
+/// Whether an entry has no name and no line of its own.
+fn says_nothing(entry: &Entry<'_, '_>) -> bool
+    ensures { IsTrue result → SaysNothing entry.now }
+{
+    lacks(entry.found, LINKAGE_NAME)
+        && lacks(entry.found, MIPS_LINKAGE_NAME)
+        && lacks(entry.found, NAME)
+        && lacks(entry.found, DECL_LINE)
+}
+
+/// Whether an entry lacks the attribute of a name.
+fn lacks(found: &[Found<'_>], name: u64) -> bool
+    ensures { IsTrue result → attribute_told name found.now ≡ None }
+{
+    attribute(found, name).is_none()
 }

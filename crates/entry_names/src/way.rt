@@ -11,9 +11,33 @@ use dwarf_info::{Entry, Found, Units};
 use refusal::{Kind, Place};
 use unit_bases::attribute;
 
+/// `DW_AT_abstract_origin`: the function that a call was inlined from, or of which this is a copy.
 const ABSTRACT_ORIGIN: u64 = 0x31;
 
+/// `DW_AT_specification`: the declaration of a function that is defined elsewhere.
 const SPECIFICATION: u64 = 0x47;
+
+/// The entry behind one on a way, or none where the way ends.
+///
+/// # Errors
+/// `BadReference` at the reference, where it leads to no entry that is read and into no unit that
+/// was passed over.
+#[tactic(auto, unfolding(way_model::specs::Way::next_on_way))]
+pub(crate) fn next_on_way<'a, 'u>(
+    info: &Info<'a, 'u>,
+    entry: &Entry<'a, '_>,
+) -> Result<Option<Entry<'a, 'u>>, Place>
+    requires { AreInOrder info.now.units.now.entries }
+    ensures { result ≡ next_told (info_of info.now) entry.now }
+{
+    match reference_of(entry) {
+        Some(found) => {
+            let target = target_of(info, entry.unit, found.value);
+            led_to(info.units, found.at, target)
+        }
+        None => Ok(None),
+    }
+}
 
 /// The attribute by which an entry leads to another one.
 pub(crate) fn reference_of<'a>(entry: &Entry<'a, '_>) -> Option<Found<'a>>
@@ -22,16 +46,6 @@ pub(crate) fn reference_of<'a>(entry: &Entry<'a, '_>) -> Option<Found<'a>>
     match attribute(entry.found, ABSTRACT_ORIGIN) {
         Some(found) => Some(found),
         None => attribute(entry.found, SPECIFICATION),
-    }
-}
-
-/// Where the unit at a place among the units begins in the file.
-fn start_of_unit(units: &Units<'_>, unit: u32) -> u64
-    ensures { result ≡ start_told units.now unit }
-{
-    match units.units().get(unit as usize) {
-        Some(unit) => unit.at,
-        None => 0,
     }
 }
 
@@ -49,29 +63,13 @@ pub(crate) fn target_of(info: &Info<'_, '_>, unit: u32, value: Value<'_>) -> Opt
     }
 }
 
-/// Whether an offset in the file lies in a unit that was passed over.
-fn is_passed_over(units: &Units<'_>, at: u128) -> bool
-    ensures { result ≡ passed_over_told units.now.skipped at }
+/// Where the unit at a place among the units begins in the file.
+fn start_of_unit(units: &Units<'_>, unit: u32) -> u64
+    ensures { result ≡ start_told units.now unit }
 {
-    for (start, end) in units.skipped() {
-        if u128::from(*start) <= at && at < u128::from(*end) {
-            return true;
-        }
-    }
-    false
-}
-
-/// The entry that begins at an offset in the file.
-pub(crate) fn entry_beginning_at<'a, 'u>(units: &'u Units<'a>, at: u128) -> Option<Entry<'a, 'u>>
-    requires { AreInOrder units.now.entries }
-    ensures { result ≡ entry_told units.now.entries at }
-{
-    if at > u128::from(u64::MAX) {
-        return None;
-    }
-    match units.entry_at(at as u64) {
-        Some(place) => units.entry(place),
-        None => None,
+    match units.units().get(unit as usize) {
+        Some(unit) => unit.at,
+        None => 0,
     }
 }
 
@@ -100,24 +98,28 @@ fn led_to<'a, 'u>(
     })
 }
 
-/// The entry behind one on a way, or none where the way ends.
-///
-/// # Errors
-/// `BadReference` at the reference, where it leads to no entry that is read and into no unit that
-/// was passed over.
-#[tactic(auto, unfolding(way_model::specs::Way::next_on_way))]
-pub(crate) fn next_on_way<'a, 'u>(
-    info: &Info<'a, 'u>,
-    entry: &Entry<'a, '_>,
-) -> Result<Option<Entry<'a, 'u>>, Place>
-    requires { AreInOrder info.now.units.now.entries }
-    ensures { result ≡ next_told (info_of info.now) entry.now }
+/// The entry that begins at an offset in the file.
+pub(crate) fn entry_beginning_at<'a, 'u>(units: &'u Units<'a>, at: u128) -> Option<Entry<'a, 'u>>
+    requires { AreInOrder units.now.entries }
+    ensures { result ≡ entry_told units.now.entries at }
 {
-    match reference_of(entry) {
-        Some(found) => {
-            let target = target_of(info, entry.unit, found.value);
-            led_to(info.units, found.at, target)
-        }
-        None => Ok(None),
+    if at > u128::from(u64::MAX) {
+        return None;
     }
+    match units.entry_at(at as u64) {
+        Some(place) => units.entry(place),
+        None => None,
+    }
+}
+
+/// Whether an offset in the file lies in a unit that was passed over.
+fn is_passed_over(units: &Units<'_>, at: u128) -> bool
+    ensures { result ≡ passed_over_told units.now.skipped at }
+{
+    for (start, end) in units.skipped() {
+        if u128::from(*start) <= at && at < u128::from(*end) {
+            return true;
+        }
+    }
+    false
 }

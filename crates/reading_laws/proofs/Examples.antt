@@ -1,5 +1,5 @@
 -- The laws on worked values: what each says of a list is computed on both its sides.
-use Rattle.std.proofs.Common.{◌≡◌, ℕ, Bool, true, false, ◌+◌, List, [], ◌∷◌, ◌++◌, length, map, inl, take, None, Some, Result, Ok, Err, refl, arith}
+use Rattle.std.proofs.Common.{◌≡◌, ℕ, Bool, true, false, ◌+◌, List, [], ◌∷◌, ◌++◌, length, map, inl, take, Option, None, Some, Result, Ok, Err, refl, arith}
 use Rattle.std.specs.Prelude.{codes, count_by, slice_get}
 use Rattle.std.specs.List.{filter_map, flat_map, range_with_len}
 use Rattle.std.specs.Option.{option_map}
@@ -15,7 +15,7 @@ use Rattle.text_model.specs.Numbers.{number_of, prefixed_of}
 use Rattle.sample_model.specs.Line.{address_of, is_ip, entry_of, is_sample, branches_of_line}
 use Rattle.sample_model.specs.Loads.{load_line_of, extent_of, offset_of, behind_at, loads_of, name_in}
 use Rattle.sample_model.specs.Moves.{LoadMap, move_of, moved_line, moved_lines}
-use Rattle.value_model.specs.Value.{Value, addr, const}
+use Rattle.value_model.specs.Value.{Value, addr, const, offset}
 use Rattle.range_model.specs.Entries.{Entry, coded_entry_at, pair_entry_at, sets_base, along, from_base}
 use Rattle.range_model.specs.Lists.{Placed, entries_from, ranges_from}
 use Rattle.reading_laws.specs.Lists.{Stand, Stops}
@@ -26,9 +26,12 @@ use Rattle.line_model.specs.Reading.{operation_at, code_at, extended_at, ulebs_a
 use Rattle.abbrev_model.specs.Abbrev.{find_code}
 use Rattle.abbrev_model.specs.Table.{next_abbrev, table}
 use Rattle.placed_view.specs.Reader.{field, uleb}
-use Rattle.unit_model.specs.Entries.{entries as unit_entries}
+use Rattle.base_model.specs.Bases.{root_of}
+use Rattle.binary_model.specs.LinePrograms.{row_count, rows_of_unit, rows_of_units}
+use Rattle.unit_model.specs.Values.{Found}
+use Rattle.unit_model.specs.Entries.{Entry as UnitEntry, entries as unit_entries}
 use Rattle.unit_model.specs.Header.{abbrevs_at, address_size, header, header_4, header_5, header_5_behind, sized, unit_length}
-use Rattle.unit_model.specs.Units.{Units, next_unit, unit_body, units}
+use Rattle.unit_model.specs.Units.{Unit as UnitRead, Units, next_unit, unit_body, units}
 use Rattle.reading_laws.specs.Headers.{SpellsHeader, version_5}
 use Rattle.reading_laws.specs.Loads.{loads}
 use Rattle.reading_laws.specs.Units.{Follow, Part, has, passed, passed_of, read as read_unit, spans_of, unit_of}
@@ -198,3 +201,29 @@ two_rows =
 rows_alone : (rows_at 7 (record { at = 229; left = program }) ≡ Ok two_rows) × (rows_at 0 (record { at = 229; left = program }) ≡ Ok two_rows)
 unfolding field_at run_at uleb_at sleb_at operation_at code_at extended_at ulebs_at unit_at version_at sizes_at opcodes_at operations_at lengths_at header_at program_at rows_at rows_in
 rows_alone = (refl, refl)
+
+-- two units whose roots name the program at offset 0 of `.debug_line`, and between them one whose root names none
+abbrev root : ℕ → List Found → UnitEntry
+root unit found = record { at = 11; depth = 0; tag = 0x11; unit = unit; found = found }
+
+abbrev unit_read : ℕ → UnitRead
+unit_read first = record { at = 0; end = 20; version = 4; wide = false; first = first; count = 1 }
+
+abbrev three : Units
+three = record {
+  units = unit_read 0 ∷ unit_read 1 ∷ unit_read 2 ∷ [];
+  entries = root 0 (record { name = 0x10; at = 12; value = offset 0 } ∷ []) ∷ root 1 [] ∷ root 2 (record { name = 0x10; at = 12; value = offset 0 } ∷ []) ∷ [];
+  skipped = [];
+}
+
+abbrev lines_section : Option Cursor
+lines_section = Some (record { at = 229; left = program })
+
+rows_defined : rows_of_units lines_section three ≡ Ok (Some two_rows ∷ None ∷ Some two_rows ∷ [])
+unfolding root_of rows_of_units rows_of_unit field_at run_at uleb_at sleb_at operation_at code_at extended_at ulebs_at unit_at version_at sizes_at opcodes_at operations_at lengths_at header_at program_at rows_at rows_in
+rows_defined = refl
+
+rows_of_each : (rows_of_unit lines_section three 0 0 ≡ Ok (Some two_rows)) × (rows_of_unit lines_section three 1 2 ≡ Ok None)
+    × (rows_of_unit lines_section three 2 (row_count (Some two_rows ∷ None ∷ [])) ≡ Ok (Some two_rows))
+unfolding root_of rows_of_unit field_at run_at uleb_at sleb_at operation_at code_at extended_at ulebs_at unit_at version_at sizes_at opcodes_at operations_at lengths_at header_at program_at rows_at rows_in
+rows_of_each = (refl, refl, refl)

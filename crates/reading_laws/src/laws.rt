@@ -2,7 +2,7 @@
 ghost use Rattle.reading_laws.specs.Headers.{ReadHeadersAreSpelled, ReadLengthsAreSpelled, SpelledHeadersAreRead, SpelledLengthsAreRead};
 ghost use Rattle.reading_laws.specs.Lists.{ListsAreWhole, WholeListsAreRead};
 ghost use Rattle.reading_laws.specs.Loads.{LastLoadMoves, LinesAreMovedByThoseBefore, UnloadedIsForeign};
-ghost use Rattle.reading_laws.specs.Programs.{RowsAreOfTheirProgram};
+ghost use Rattle.reading_laws.specs.Programs.{ProgramsAreRefusedInOrder, RowsAreByUnit, RowsAreOfTheirProgram, RowsByUnitAreRead};
 ghost use Rattle.reading_laws.specs.Ranges.{RangesAreByEntry};
 ghost use Rattle.reading_laws.specs.Units.{BytesHaveOneUnit, UnitsFillSections};
 
@@ -72,4 +72,19 @@ pub fn spelled_headers_are_read()
 /// The rows of a line program are its own, however many rows stand before them.
 pub fn rows_are_of_their_program()
     ensures { RowsAreOfTheirProgram }
+{}
+
+/// The rows of a file are those of its units in their order, for each unit those of its program.
+pub fn rows_are_by_unit()
+    ensures { RowsAreByUnit }
+{}
+
+/// Rows of each unit, in the order of the units, are the rows of the file.
+pub fn rows_by_unit_are_read()
+    ensures { RowsByUnitAreRead }
+{}
+
+/// Where line programs are refused, the first unit whose program is refused says the place.
+pub fn programs_are_refused_in_order()
+    ensures { ProgramsAreRefusedInOrder }
 {}

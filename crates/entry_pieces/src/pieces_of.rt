@@ -12,13 +12,6 @@ use std::alloc::Global;
 /// The most pieces of a file.
 pub const MAX_PIECES: u64 = 1 << 26;
 
-/// Keeps those of some ranges that are code of the file.
-fn keep_live(ranges: &mut Vec<(u64, u64)>, elf: &Elf<'_>)
-    ensures { ranges.new.items ≡ live_ranges elf.now ranges.old.items }
-{
-    ranges.retain(|range| elf.runs(range.0, range.1));
-}
-
 /// The pieces of an entry, in the order of its ranges: from the first address of each up to its
 /// end, which is left out. `before` is how many pieces the entries before it have.
 ///
@@ -51,4 +44,11 @@ pub fn pieces(
     };
     refuse_if(too_many, place)?;
     Ok(ranges)
+}
+
+/// Keeps those of some ranges that are code of the file.
+fn keep_live(ranges: &mut Vec<(u64, u64)>, elf: &Elf<'_>)
+    ensures { ranges.new.items ≡ live_ranges elf.now ranges.old.items }
+{
+    ranges.retain(|range| elf.runs(range.0, range.1));
 }

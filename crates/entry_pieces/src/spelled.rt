@@ -13,6 +13,34 @@ use refusal::{NoMemory, Place, Stop};
 use std::alloc::Global;
 use unit_bases::{address_at, attribute};
 
+/// `DW_AT_low_pc`: the first address.
+const LOW_PC: u64 = 0x11;
+
+/// `DW_AT_high_pc`: the end, or how far it is behind the first address.
+const HIGH_PC: u64 = 0x12;
+
+/// `DW_AT_ranges`: a range list.
+const RANGES: u64 = 0x55;
+
+/// The ranges that an entry spells: by `DW_AT_ranges` where it stands, else by `DW_AT_low_pc` and
+/// `DW_AT_high_pc` where both do, else none.
+#[tactic(auto, unfolding(piece_model::specs::Pieces::spelled_ranges))]
+pub(crate) fn spelled(
+    alloc: Global,
+    of: &InUnit<'_>,
+    entry: &Entry<'_, '_>,
+) -> Result<Vec<(u64, u64)>, Stop>
+    ensures { Tells (λ ranges. ranges.items) result (spelled_ranges (in_unit of.now) entry.now) }
+{
+    if let Some(list) = attribute(entry.found, RANGES) {
+        return listed(alloc, of, &list);
+    }
+    let low = attribute(entry.found, LOW_PC);
+    let high = attribute(entry.found, HIGH_PC);
+    let range = between(of, low, high)?;
+    Ok(list_of(alloc, range)?)
+}
+
 /// The ranges of the list that `DW_AT_ranges` leads to.
 fn listed(alloc: Global, of: &InUnit<'_>, found: &Found<'_>) -> Result<Vec<(u64, u64)>, Stop>
     ensures { Tells (λ ranges. ranges.items) result (listed_told (in_unit of.now) found.now) }
@@ -24,31 +52,6 @@ fn listed(alloc: Global, of: &InUnit<'_>, found: &Found<'_>) -> Result<Vec<(u64,
         bases,
     } = of;
     ranges_of(alloc, found.at, found.value, *version, *base, parts, bases)
-}
-
-/// The end of a range from its start on, by `DW_AT_high_pc`: an address, or the size as a constant.
-///
-/// Source: DWARF 5, section 2.17.2.
-fn end_by(of: &InUnit<'_>, start: u64, high: &Found<'_>) -> Result<u64, Place>
-    ensures { result ≡ end_told (in_unit of.now) start high.now high.now.value }
-{
-    match high.value {
-        Value::Const(size) => Ok(start.wrapping_add(size)),
-        _ => address_at(high, &of.parts.texts, &of.bases),
-    }
-}
-
-/// The range from `DW_AT_low_pc` up to `DW_AT_high_pc`, if it is not empty.
-fn pair(of: &InUnit<'_>, low: &Found<'_>, high: &Found<'_>) -> Result<Option<(u64, u64)>, Place>
-    ensures { Means option_to_list result (pair_told (in_unit of.now) low.now high.now) }
-{
-    let start = address_at(low, &of.parts.texts, &of.bases)?;
-    let end = end_by(of, start, high)?;
-    Ok(if start < end {
-        Some((start, end))
-    } else {
-        None
-    })
 }
 
 /// The range by `DW_AT_low_pc` and `DW_AT_high_pc`, where both are there.
@@ -68,6 +71,31 @@ fn between(
     pair(of, &low, &high)
 }
 
+/// The range from `DW_AT_low_pc` up to `DW_AT_high_pc`, if it is not empty.
+fn pair(of: &InUnit<'_>, low: &Found<'_>, high: &Found<'_>) -> Result<Option<(u64, u64)>, Place>
+    ensures { Means option_to_list result (pair_told (in_unit of.now) low.now high.now) }
+{
+    let start = address_at(low, &of.parts.texts, &of.bases)?;
+    let end = end_by(of, start, high)?;
+    Ok(if start < end {
+        Some((start, end))
+    } else {
+        None
+    })
+}
+
+/// The end of a range from its start on, by `DW_AT_high_pc`: an address, or the size as a constant.
+///
+/// Source: DWARF 5, section 2.17.2.
+fn end_by(of: &InUnit<'_>, start: u64, high: &Found<'_>) -> Result<u64, Place>
+    ensures { result ≡ end_told (in_unit of.now) start high.now high.now.value }
+{
+    match high.value {
+        Value::Const(size) => Ok(start.wrapping_add(size)),
+        _ => address_at(high, &of.parts.texts, &of.bases),
+    }
+}
+
 /// The list of a range, if there is one.
 fn list_of(alloc: Global, range: Option<(u64, u64)>) -> Result<Vec<(u64, u64)>, NoMemory>
     ensures { IfOk result (λ ranges. ranges.items ≡ option_to_list range) }
@@ -77,23 +105,4 @@ fn list_of(alloc: Global, range: Option<(u64, u64)>) -> Result<Vec<(u64, u64)>, 
         ranges.push(range)?;
     }
     Ok(ranges)
-}
-
-/// The ranges that an entry spells: by `DW_AT_ranges` where it stands, else by `DW_AT_low_pc` and
-/// `DW_AT_high_pc` where both do, else none.
-#[tactic(auto, unfolding(piece_model::specs::Pieces::spelled_ranges))]
-pub(crate) fn spelled(
-    alloc: Global,
-    of: &InUnit<'_>,
-    entry: &Entry<'_, '_>,
-) -> Result<Vec<(u64, u64)>, Stop>
-    ensures { Tells (λ ranges. ranges.items) result (spelled_ranges (in_unit of.now) entry.now) }
-{
-    if let Some(list) = attribute(entry.found, 0x55) {
-        return listed(alloc, of, &list);
-    }
-    let low = attribute(entry.found, 0x11);
-    let high = attribute(entry.found, 0x12);
-    let range = between(of, low, high)?;
-    Ok(list_of(alloc, range)?)
 }

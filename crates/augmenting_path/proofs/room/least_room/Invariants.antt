@@ -8,4 +8,6 @@ invariant-loop-step l = record {
   some : 0 < l.least;
   within : l.least ≤ l.most;
   takes : (k : ℕ) (d : Step) → k < l.step-index → StepTakes l.arcs l.counts l.least (get_or l.path k d);
+  greatest : (amount : ℕ) → amount ≤ l.most
+      → ((k : ℕ) (d : Step) → k < l.step-index → StepTakes l.arcs l.counts amount (get_or l.path k d)) → amount ≤ l.least;
 }

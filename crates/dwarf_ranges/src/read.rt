@@ -1,24 +1,14 @@
 ghost use Rattle.std.specs.Prelude.{◌≡◌, ◌+◌, length};
-ghost use Rattle.range_model.specs.Entries.{by_kind, coded_entry_at, entry_at, kind_of, pair_entry_at};
+ghost use Rattle.range_model.specs.Entries.{by_kind, coded_entry_at, entry_at, pair_entry_at};
 ghost use Rattle.range_model.specs.Entries.{uleb as uleb_of, word as word_of};
 ghost use Rattle.byte_view.specs.Reading.{field_at};
 ghost use Rattle.dwarf_ranges.specs.Meaning.{GivesEntry, GivesNumber};
 
 use crate::entry::Entry;
-use byte_view::{Cur, ViewFault};
+use byte_view::Cur;
 use dwarf_forms::Value;
+use placed_view::kind_of;
 use refusal::Kind;
-
-/// The kind of a refusal by a cursor.
-fn kind(fault: ViewFault) -> Kind
-    ensures { result ≡ kind_of fault }
-{
-    match fault {
-        ViewFault::Short => Kind::Short,
-        ViewFault::LebTooLong => Kind::LebTooLong,
-        ViewFault::NoNul => Kind::NoNul,
-    }
-}
 
 /// An unsigned LEB128 number.
 #[tactic(auto, using(dwarf_forms::proofs::ReadLemmas::end_kept))]
@@ -28,7 +18,7 @@ fn uleb(cur: &mut Cur<'_>) -> Result<u64, Kind>
 {
     match cur.uleb() {
         Ok(number) => Ok(number),
-        Err(fault) => Err(kind(fault)),
+        Err(fault) => Err(kind_of(fault)),
     }
 }
 
@@ -40,7 +30,7 @@ fn word(cur: &mut Cur<'_>) -> Result<u64, Kind>
 {
     match cur.u64() {
         Ok(number) => Ok(number),
-        Err(fault) => Err(kind(fault)),
+        Err(fault) => Err(kind_of(fault)),
     }
 }
 
@@ -52,7 +42,7 @@ fn code(cur: &mut Cur<'_>) -> Result<u8, Kind>
 {
     match cur.u8() {
         Ok(code) => Ok(code),
-        Err(fault) => Err(kind(fault)),
+        Err(fault) => Err(kind_of(fault)),
     }
 }
 

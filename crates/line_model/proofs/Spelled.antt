@@ -12,7 +12,7 @@ use Rattle.byte_view.proofs.Spellings.{field_at-again, run_at-again, uleb_at-aga
 use Rattle.line_model.specs.declared.operation.Operation.{Operation}
 use Rattle.line_model.specs.declared.operation.Operation.TheVariants.{Special, Pass}
 use Rattle.line_model.specs.Header.{Header}
-use Rattle.line_model.specs.Opcodes.{Operand, alone, unsigned, signed, field, standard_opcodes, extended_opcodes, look_up}
+use Rattle.line_model.specs.Opcodes.{Operand, alone, unsigned, signed, fixed, standard_opcodes, extended_opcodes, look_up}
 use Rattle.line_model.specs.Spelling.{SpellsOperand, AreUlebs, SpellsWithin, IsExtended, IsOpcode, special, standard, unknown, extended, Spells}
 use Rattle.line_model.specs.Reading.{OperationReading, made, operand_at, behind_number, ulebs_at, standard_at, then_rest, within_at, of_code, code_at, of_run, of_length, extended_at, below_base_at, opcode_at, of_opcode, operation_at}
 use Rattle.line_model.specs.Laws.{ReadIsSpelled, SpelledIsRead}
@@ -66,7 +66,7 @@ operand_at-spelled (signed make) bytes rest operation e =
     let m = made_of make (sleb_at bytes) operation rest e in
     let s = sleb_at-spelled bytes rest m.x m.read in
     record { front = s.front; spelled = (m.x, s.spelled, m.operation_is); parts = s.parts }
-operand_at-spelled (field size make) bytes rest operation e =
+operand_at-spelled (fixed size make) bytes rest operation e =
     let m = made_of make (field_at size bytes) operation rest e in
     let s = field_at-spelled size bytes rest m.x m.read in
     record { front = s.front; spelled = (m.x, s.spelled, m.operation_is); parts = s.parts }
@@ -113,7 +113,7 @@ field_fills size bytes over n long s =
     subst (λ (b : List ℕ). SpellsField size b n) whole s.spelled
 
 fitting_field : (size : ℕ) (make : ℕ → Operation) (bytes over : List ℕ) (operation : Operation) (fills : Bool) → (length bytes == size) ≡ fills
-    → cond fills (made make (field_at size bytes)) (Err BadExtended) ≡ Ok (operation, over) → SpellsOperand (field size make) bytes operation
+    → cond fills (made make (field_at size bytes)) (Err BadExtended) ≡ Ok (operation, over) → SpellsOperand (fixed size make) bytes operation
 fitting_field size make bytes over operation false is e = absurd cc
 fitting_field size make bytes over operation true is e =
     let m = made_of make (field_at size bytes) operation over e in
@@ -126,7 +126,7 @@ within_at-spelled (Some (unsigned make)) bytes over operation e =
     let s = operand_at-spelled (unsigned make) bytes over operation e in (s.front, over, s.parts, s.spelled)
 within_at-spelled (Some (signed make)) bytes over operation e =
     let s = operand_at-spelled (signed make) bytes over operation e in (s.front, over, s.parts, s.spelled)
-within_at-spelled (Some (field size make)) bytes over operation e =
+within_at-spelled (Some (fixed size make)) bytes over operation e =
     fitting_field size make bytes over operation (length bytes == size) refl e
 
 -- the code of an extended opcode and what is behind it
@@ -279,7 +279,7 @@ operand_at-again (unsigned make) bytes rest operation (n, spelled, is) =
     ap (made make) (uleb_at-again bytes rest n spelled) ∙ same_made operation (make n) rest is
 operand_at-again (signed make) bytes rest operation (z, spelled, is) =
     ap (made make) (sleb_at-again bytes rest z spelled) ∙ same_made operation (make z) rest is
-operand_at-again (field size make) bytes rest operation (n, spelled, is) =
+operand_at-again (fixed size make) bytes rest operation (n, spelled, is) =
     ap (made make) (field_at-again size bytes rest n spelled) ∙ same_made operation (make n) rest is
 
 ulebs_at-again : (count : ℕ) (bytes rest : List ℕ) → AreUlebs count bytes → ulebs_at count (bytes ++ rest) ≡ Ok (Pass, rest)
@@ -307,13 +307,13 @@ within_at-again (Some (signed make)) bytes operation (front, over, parts, spelle
   over = over;
   read = ap (operand_at (signed make)) parts ∙ operand_at-again (signed make) front over operation spelled;
 }
-within_at-again (Some (field size make)) bytes operation (n, spelled, is) =
+within_at-again (Some (fixed size make)) bytes operation (n, spelled, is) =
     let fills : (length bytes == size) ≡ true = eq-eqb _ _ spelled.sized in
     record {
       over = [];
       read = ap (λ b. cond b (made make (field_at size bytes)) (Err BadExtended)) fills
           ∙ ap (λ (b : List ℕ). made make (field_at size b)) (sym (append-nil bytes))
-          ∙ operand_at-again (field size make) bytes [] operation (n, spelled, is);
+          ∙ operand_at-again (fixed size make) bytes [] operation (n, spelled, is);
     }
 
 code_at-again : (code : ℕ) (behind rest : List ℕ) (operation : Operation) → SpellsWithin (look_up extended_opcodes code) behind operation

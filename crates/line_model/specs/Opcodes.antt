@@ -12,11 +12,11 @@ pub data Operand : Type 0 where
   -- A signed LEB128 number.
   signed : (ℤ → Operation) → Operand
   -- A field of so many bytes, the lowest first.
-  field : ℕ → (ℕ → Operation) → Operand
+  fixed : ℕ → (ℕ → Operation) → Operand
 
 -- An operand that changes nothing of a row.
-abbrev pub passed : ℕ → Operation
-passed n = Pass
+abbrev pub ignored : ℕ → Operation
+ignored n = Pass
 
 -- A discriminator is a number modulo 2^32.
 abbrev pub set_discriminator : ℕ → Operation
@@ -28,22 +28,22 @@ standard_opcodes =
     (1, alone Copy) ∷  -- DW_LNS_copy
     (2, unsigned AdvancePc) ∷  -- DW_LNS_advance_pc
     (3, signed AdvanceLine) ∷  -- DW_LNS_advance_line
-    (4, unsigned passed) ∷  -- DW_LNS_set_file
-    (5, unsigned passed) ∷  -- DW_LNS_set_column
+    (4, unsigned ignored) ∷  -- DW_LNS_set_file
+    (5, unsigned ignored) ∷  -- DW_LNS_set_column
     (6, alone Pass) ∷  -- DW_LNS_negate_stmt
     (7, alone Pass) ∷  -- DW_LNS_set_basic_block
     (8, alone ConstAddPc) ∷  -- DW_LNS_const_add_pc
-    (9, field 2 FixedAdvancePc) ∷  -- DW_LNS_fixed_advance_pc
+    (9, fixed 2 FixedAdvancePc) ∷  -- DW_LNS_fixed_advance_pc
     (10, alone Pass) ∷  -- DW_LNS_set_prologue_end
     (11, alone Pass) ∷  -- DW_LNS_set_epilogue_begin
-    (12, unsigned passed) ∷  -- DW_LNS_set_isa
+    (12, unsigned ignored) ∷  -- DW_LNS_set_isa
     []
 
 -- The extended opcodes. DW_LNE_define_file, like those that are not known, is passed over.
 abbrev pub extended_opcodes : List (ℕ × Operand)
 extended_opcodes =
     (1, alone EndSequence) ∷  -- DW_LNE_end_sequence
-    (2, field 8 SetAddress) ∷  -- DW_LNE_set_address
+    (2, fixed 8 SetAddress) ∷  -- DW_LNE_set_address
     (3, alone Pass) ∷  -- DW_LNE_define_file
     (4, unsigned set_discriminator) ∷  -- DW_LNE_set_discriminator
     []

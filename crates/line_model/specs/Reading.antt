@@ -1,20 +1,13 @@
 -- The operation at the front of some bytes, or the first cause that stands in its way.
 use Rattle.std.specs.Prelude.{◌-◌, ◌==◌, ℕ, zero, suc, nat_le, if◌then◌else◌, List, length, Option, None, Some, Result, Ok, Err, slice_index}
-use Rattle.byte_view.specs.declared.fault.ViewFault.{ViewFault}
-use Rattle.byte_view.specs.declared.fault.ViewFault.TheVariants as faults
 use Rattle.byte_view.specs.Reading.{Reading, field_at, run_at, uleb_at, sleb_at}
+use Rattle.placed_view.specs.Reader.{kind_of}
 use Rattle.refusal.specs.declared.kind.Kind.{Kind}
-use Rattle.refusal.specs.declared.kind.Kind.TheVariants as kinds
+use Rattle.refusal.specs.declared.kind.Kind.TheVariants.{BadExtended}
 use Rattle.line_model.specs.declared.operation.Operation.{Operation}
 use Rattle.line_model.specs.declared.operation.Operation.TheVariants.{Special, Pass}
 use Rattle.line_model.specs.Header.{Header}
-use Rattle.line_model.specs.Opcodes.{Operand, alone, unsigned, signed, field, standard_opcodes, extended_opcodes, look_up}
-
--- Why bytes were not read, as a kind of refusal.
-abbrev pub kind_of : ViewFault → Kind
-kind_of faults.Short = kinds.Short
-kind_of faults.LebTooLong = kinds.LebTooLong
-kind_of faults.NoNul = kinds.NoNul
+use Rattle.line_model.specs.Opcodes.{Operand, alone, unsigned, signed, fixed, standard_opcodes, extended_opcodes, look_up}
 
 -- An operation at the front and the bytes behind it, or why there is none.
 abbrev pub OperationReading : Type 0
@@ -30,7 +23,7 @@ abbrev pub operand_at : Operand → List ℕ → OperationReading
 operand_at (alone operation) bytes = Ok (operation, bytes)
 operand_at (unsigned make) bytes = made make (uleb_at bytes)
 operand_at (signed make) bytes = made make (sleb_at bytes)
-operand_at (field size make) bytes = made make (field_at size bytes)
+operand_at (fixed size make) bytes = made make (field_at size bytes)
 
 -- What follows a number that is passed over.
 abbrev pub behind_number : (List ℕ → OperationReading) → Reading ℕ → OperationReading
@@ -55,14 +48,14 @@ then_rest rest (Err kind) = Err kind
 -- The operand of an extended opcode, in the bytes behind its code. One of a fixed size fills them.
 abbrev pub within_at : Option Operand → List ℕ → OperationReading
 within_at None bytes = Ok (Pass, bytes)
-within_at (Some (field size make)) bytes =
-    if length bytes == size then made make (field_at size bytes) else Err kinds.BadExtended
+within_at (Some (fixed size make)) bytes =
+    if length bytes == size then made make (field_at size bytes) else Err BadExtended
 within_at (Some operand) bytes = operand_at operand bytes
 
 -- The operation of the code of an extended opcode, which has to be there.
 abbrev pub of_code : Reading ℕ → OperationReading
 of_code (Ok (code, bytes)) = within_at (look_up extended_opcodes code) bytes
-of_code (Err fault) = Err kinds.BadExtended
+of_code (Err fault) = Err BadExtended
 
 -- The bytes of an extended opcode: its code, and what is behind it.
 unfoldable pub code_at : List ℕ → OperationReading

@@ -4,7 +4,7 @@ use Rattle.byte_view.specs.Reading.{SpellsField, SpellsUleb, SpellsSleb}
 use Rattle.line_model.specs.declared.operation.Operation.{Operation}
 use Rattle.line_model.specs.declared.operation.Operation.TheVariants.{Special, Pass}
 use Rattle.line_model.specs.Header.{Header}
-use Rattle.line_model.specs.Opcodes.{Operand, alone, unsigned, signed, field, standard_opcodes, extended_opcodes, look_up}
+use Rattle.line_model.specs.Opcodes.{Operand, alone, unsigned, signed, fixed, standard_opcodes, extended_opcodes, look_up}
 use Rattle.line_model.specs.Registers.{Registers, Step, step_of}
 
 -- The bytes of an operand, and the operation that they make.
@@ -12,7 +12,7 @@ abbrev pub SpellsOperand : Operand → List ℕ → Operation → Type 0
 SpellsOperand (alone made) bytes operation = (bytes ≡ []) × (operation ≡ made)
 SpellsOperand (unsigned make) bytes operation = (n : ℕ) × SpellsUleb bytes n × (operation ≡ make n)
 SpellsOperand (signed make) bytes operation = (z : ℤ) × SpellsSleb bytes z × (operation ≡ make z)
-SpellsOperand (field size make) bytes operation = (n : ℕ) × SpellsField size bytes n × (operation ≡ make n)
+SpellsOperand (fixed size make) bytes operation = (n : ℕ) × SpellsField size bytes n × (operation ≡ make n)
 
 -- So many unsigned LEB128 numbers, one behind the other.
 abbrev pub AreUlebs : ℕ → List ℕ → Type 0
@@ -25,7 +25,7 @@ AreUlebs (suc count) bytes =
 abbrev pub SpellsWithin : Option Operand → List ℕ → Operation → Type 0
 SpellsWithin None bytes operation = operation ≡ Pass
 SpellsWithin (Some (alone made)) bytes operation = operation ≡ made
-SpellsWithin (Some (field size make)) bytes operation = SpellsOperand (field size make) bytes operation
+SpellsWithin (Some (fixed size make)) bytes operation = SpellsOperand (fixed size make) bytes operation
 SpellsWithin (Some operand) bytes operation =
     (front : List ℕ) × (over : List ℕ) × (bytes ≡ front ++ over) × SpellsOperand operand front operation
 

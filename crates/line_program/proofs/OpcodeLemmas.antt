@@ -3,7 +3,8 @@ use Rattle.std.proofs.Common.{◌≡◌, ◌<◌, ◌+◌, ℕ, zero, suc, List,
 use Rattle.byte_view.specs.declared.fault.ViewFault.{ViewFault}
 use Rattle.byte_view.specs.Reading.{uleb_at}
 use Rattle.line_model.specs.declared.operation.Operation.TheVariants.{Pass}
-use Rattle.line_model.specs.Reading.{ulebs_at, behind_number, kind_of}
+use Rattle.line_model.specs.Reading.{ulebs_at, behind_number}
+use Rattle.placed_view.specs.Reader.{kind_of}
 
 pub ulebs_at-none : (count : ℕ) (bytes : List ℕ) → count ≡ 0 → ulebs_at count bytes ≡ Ok (Pass, bytes)
 unfolding ulebs_at

@@ -1,7 +1,8 @@
 ghost use Rattle.std.specs.Prelude.{◌≡◌};
-ghost use Rattle.line_model.specs.Reading.{kind_of};
+ghost use Rattle.placed_view.specs.Reader.{kind_of as kind_told};
 
 use byte_view::ViewFault;
+use placed_view::kind_of;
 use refusal::Kind;
 
 /// Why an operation is refused.
@@ -11,14 +12,11 @@ pub(crate) struct Fault {
 }
 
 impl From<ViewFault> for Fault {
-    ghost from_gives = { λ view fault. fault.kind ≡ kind_of view };
+    ghost from_gives = { λ view fault. fault.kind ≡ kind_told view };
 
     fn from(view: ViewFault) -> Fault {
-        let kind = match view {
-            ViewFault::Short => Kind::Short,
-            ViewFault::LebTooLong => Kind::LebTooLong,
-            ViewFault::NoNul => Kind::NoNul,
-        };
-        Fault { kind }
+        Fault {
+            kind: kind_of(view),
+        }
     }
 }

@@ -5,7 +5,7 @@ use Rattle.std.proofs.lemmas.Bool.{cases_Bool}
 use Rattle.std.proofs.lemmas.List.{length-append}
 use Rattle.byte_view.specs.Reading.{Reading, field_at, uleb_at}
 use Rattle.byte_view.proofs.Fronts.{field_at-spelled, uleb_at-spelled}
-use Rattle.range_model.specs.Entries.{Entry, EntryReading, NumberReading, by_kind, uleb, word, behind, one, two, codes, coded, coded_entry_at, pair_entry, pair_entry_at, entry_at}
+use Rattle.range_model.specs.Entries.{Entry, EntryReading, NumberReading, by_kind, uleb, word, behind, one, two, entry_codes, coded, coded_entry_at, pair_entry, pair_entry_at, entry_at}
 
 -- what is read leaves no more bytes
 abbrev NoLonger : (List ℕ → NumberReading) → Type 0
@@ -70,8 +70,8 @@ abbrev EachNoLonger : List (ℕ × (List ℕ → EntryReading)) → Type 0
 EachNoLonger [] = Unit {0}
 EachNoLonger ((code, reading) ∷ rest) = EntryNoLonger reading × EachNoLonger rest
 
-codes-no_longer : EachNoLonger codes
-codes-no_longer = (
+entry_codes-no_longer : EachNoLonger entry_codes
+entry_codes-no_longer = (
   λ bytes rest entry e. absurd (cc),
   (
     one-no_longer uleb _ uleb-no_longer,
@@ -108,9 +108,9 @@ coded-no_longer ((first, reading) ∷ more) code each bytes rest entry e =
 coded_entry_at-shorter : (bytes rest : List ℕ) (entry : Entry) → coded_entry_at bytes ≡ Ok (Some (entry, rest)) → length rest < length bytes
 unfolding coded_entry_at
 coded_entry_at-shorter bytes rest entry e =
-    let parts = behind-parts (by_kind (field_at 1 bytes)) (coded codes) entry rest e in
+    let parts = behind-parts (by_kind (field_at 1 bytes)) (coded entry_codes) entry rest e in
     let code = field-shorter 1 bytes parts.more parts.n parts.number in
-    let operands = coded-no_longer codes parts.n codes-no_longer parts.more rest entry parts.then in
+    let operands = coded-no_longer entry_codes parts.n entry_codes-no_longer parts.more rest entry parts.then in
     omega (arith, code, operands)
 
 pair_entry-rest : (first second : ℕ) (more rest : List ℕ) (entry : Entry) → pair_entry first second more ≡ Ok (Some (entry, rest)) → more ≡ rest

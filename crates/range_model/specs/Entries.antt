@@ -1,10 +1,9 @@
 -- The entries of a range list, and how bytes spell them.
 use Rattle.std.specs.Prelude.{ℕ, ◌^◌, ◌-◌, Bool, ◌&&◌, ◌==◌, if◌then◌else◌, List, [], ◌∷◌, Option, None, Some, Result, Ok, Err}
 use Rattle.refusal.specs.declared.kind.Kind.{Kind}
-use Rattle.refusal.specs.declared.kind.Kind.TheVariants.{Short, LebTooLong, NoNul, BadRangeEntry}
-use Rattle.byte_view.specs.declared.fault.ViewFault.{ViewFault}
-use Rattle.byte_view.specs.declared.fault.ViewFault.TheVariants as faults
+use Rattle.refusal.specs.declared.kind.Kind.TheVariants.{BadRangeEntry}
 use Rattle.byte_view.specs.Reading.{Reading, field_at, uleb_at}
+use Rattle.placed_view.specs.Reader.{kind_of}
 use Rattle.value_model.specs.Value.{Value, addr, addr_index}
 
 -- An entry of a range list but the one that ends it. An address stands in the entry, or goes by an index.
@@ -21,12 +20,6 @@ pub data Entry : Type 0 where
 -- An entry at the front and the bytes behind it, or that the list ends there, or why there is neither.
 abbrev pub EntryReading : Type 0
 EntryReading = Result (Option (Entry × List ℕ)) Kind
-
--- The kind of a refusal by a cursor.
-abbrev pub kind_of : ViewFault → Kind
-kind_of faults.Short = Short
-kind_of faults.LebTooLong = LebTooLong
-kind_of faults.NoNul = NoNul
 
 -- A number at the front and the bytes behind it, or the kind of refusal.
 abbrev pub NumberReading : Type 0
@@ -59,8 +52,8 @@ two first second entry bytes =
     behind (first bytes) (λ m more. behind (second more) (λ n rest. Ok (Some (entry m n, rest))))
 
 -- DWARF 5, section 7.25, table 7.30: what stands behind each code of an entry of `.debug_rnglists`.
-abbrev pub codes : List (ℕ × (List ℕ → EntryReading))
-codes =
+abbrev pub entry_codes : List (ℕ × (List ℕ → EntryReading))
+entry_codes =
     (0, λ bytes. Ok None) ∷
     (1, one uleb (λ index. sets_base (addr_index index))) ∷
     (2, two uleb uleb (λ start end. between (addr_index start) (addr_index end))) ∷
@@ -78,7 +71,7 @@ coded ((first, reading) ∷ rest) code bytes = if code == first then reading byt
 
 -- The entry at the front in `.debug_rnglists`: a code of one byte, and its operands.
 unfoldable pub coded_entry_at : List ℕ → EntryReading
-coded_entry_at bytes = behind (by_kind (field_at 1 bytes)) (coded codes)
+coded_entry_at bytes = behind (by_kind (field_at 1 bytes)) (coded entry_codes)
 
 -- A pair of numbers of `.debug_ranges` (DWARF 4, section 2.17.3): 0 and 0 end the list, a first number of all ones
 -- makes the second the base, and any other pair is counted from the base.

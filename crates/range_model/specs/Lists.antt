@@ -1,6 +1,7 @@
 -- Range lists: where one begins, the entries that its bytes spell, the ranges that these mean, and its first bad place.
 use Rattle.std.specs.Prelude.{ℕ, suc, zero, ◌+◌, ◌-◌, ◌%◌, ◌^◌, Bool, true, false, nat_lt, nat_le, if◌then◌else◌, List, [], ◌∷◌, ◌++◌, length, drop, Option, None, Some, Result, Ok, Err}
 use Rattle.std.specs.Option.{option_or, option_map, option_map_or}
+use Rattle.std.specs.Result.{result_err}
 use Rattle.refusal.specs.declared.kind.Kind.{Kind}
 use Rattle.refusal.specs.declared.kind.Kind.TheVariants.{BadClass, NoSection, PastSection, TooManyRanges}
 use Rattle.refusal.specs.declared.place.Place.{Place}
@@ -99,11 +100,6 @@ abbrev pub or_else : ℕ → Result ℕ Kind → ℕ
 or_else other (Ok address) = address
 or_else other (Err kind) = other
 
--- The cause why a value has no address.
-abbrev pub cause_of : Result ℕ Kind → Option Kind
-cause_of (Ok address) = None
-cause_of (Err kind) = Some kind
-
 -- The base behind an entry.
 abbrev pub base_behind : Resolves → ℕ → Entry → ℕ
 base_behind resolve base (sets_base value) = or_else base (resolve value)
@@ -133,9 +129,9 @@ ranges_from resolve base (placed ∷ rest) =
 
 -- The first cause why an entry means nothing.
 abbrev pub entry_cause : Resolves → Entry → Option Kind
-entry_cause resolve (sets_base value) = cause_of (resolve value)
-entry_cause resolve (between start end) = option_or (cause_of (resolve start)) (cause_of (resolve end))
-entry_cause resolve (along start size) = cause_of (resolve start)
+entry_cause resolve (sets_base value) = result_err (resolve value)
+entry_cause resolve (between start end) = option_or (result_err (resolve start)) (result_err (resolve end))
+entry_cause resolve (along start size) = result_err (resolve start)
 entry_cause resolve (from_base start end) = None
 
 -- The most entries of one list, the one that ends it aside.

@@ -42,7 +42,7 @@ pub fn read(alloc: Global, file: &[u8], base: bool) -> Result<Binary<'_>, Stop>
     ensures { JudgesUnlessNoMemory (first_bad_of_binary file.now) result
         (IsBinary file.now base) }
 {
-    let elf = elf_sections::read(file)?;
+    let elf = elf_sections::read(alloc, file)?;
     let sections = Sections::find(&elf)?;
     let units = read_units(alloc, sections.info, sections.abbrev)?;
     let tables = read_tables(alloc, &elf, &units, sections.line)?;

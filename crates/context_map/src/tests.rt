@@ -62,7 +62,7 @@ fn members(alloc: Global) -> Result<Vec<Member>, NoMemory> {
 #[test]
 fn addresses_have_places(rt: HostRuntime) -> Result<(), test::Fail> {
     let alloc = rt.alloc();
-    let elf = read(FILE)?;
+    let elf = read(alloc, FILE)?;
     // Discriminator 17 has base 0 and factor 4. The second row says what the first does, and the
     // last has no line.
     let rows = [

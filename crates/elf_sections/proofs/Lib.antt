@@ -1,4 +1,5 @@
+mod Examples
 pub mod EntryLemmas
 pub mod Items
 pub mod Texts
-pub mod Segments
+pub mod ReachLemmas

@@ -1,17 +1,18 @@
 ghost use Rattle.std.specs.Prelude.{◌≡◌};
-ghost use Rattle.refusal.specs.Place.{Judges, first_bad};
+ghost use Rattle.refusal.specs.Place.{JudgesUnlessNoMemory, first_bad};
 ghost use Rattle.elf_model.specs.Items.{items};
 
 use crate::entries::Entries;
 use crate::file_header::FileHeader;
 use crate::judgement::judge_sections;
 use crate::names::Names;
-use crate::program_header::{ProgramHeader, first_code, is_loaded, judge_program_headers};
+use crate::program_header::{ProgramHeader, judge_program_headers, loads_of};
+use crate::reach::{Reach, reached, reaches_of};
 use crate::section_header::SectionHeader;
 use crate::section_table::SectionTable;
 use byte_view::Part;
 use load_model::LoadSegment;
-use refusal::{Kind, NoMemory, Place, refuse_if};
+use refusal::{Kind, NoMemory, Place, Stop, refuse_if};
 use std::alloc::Global;
 use std::marker::Model;
 
@@ -23,8 +24,8 @@ use std::marker::Model;
 pub struct Elf<'a> {
     file: &'a [u8],
     segments: Entries<'a, ProgramHeader>,
-    /// The first segment of code, in which most code lies.
-    code: Option<LoadSegment>,
+    /// How far code reaches from each address on.
+    code: Vec<Reach>,
     sections: SectionTable<'a>,
     names: Names<'a>,
 }
@@ -45,19 +46,20 @@ impl<'a> Model for Elf<'a> {
 ///
 /// # Errors
 /// The first place, in the order of the file header, the section of names and the sections, where
-/// the file breaks a rule of docs/FORMATS.md ("ELF files").
+/// the file breaks a rule of docs/FORMATS.md ("ELF files"); or `NoMemory`.
 ///
 /// Source: System V gABI, "ELF Header", "Sections", "String Table", "Program Header".
 #[tactic(auto, using(crate::proofs::Items::first_bad_items))]
-pub fn read(file: &[u8]) -> Result<Elf<'_>, Place>
-    ensures { Judges (first_bad (items file.now)) result (λ elf. elf ≡ file.now) }
+pub fn read(alloc: Global, file: &[u8]) -> Result<Elf<'_>, Stop>
+    ensures { JudgesUnlessNoMemory (first_bad (items file.now)) result
+        (λ elf. elf ≡ file.now) }
 {
     let header = FileHeader::identify(file)?;
     let segments = judge_program_headers(&header)?;
     let sections = SectionTable::judge(&header)?;
     let names = sections.judge_names(file)?;
     judge_sections(&sections, file, &names)?;
-    let code = first_code(&segments);
+    let code = reaches_of(alloc, &segments)?;
     Ok(Elf {
         file,
         segments,
@@ -68,12 +70,10 @@ pub fn read(file: &[u8]) -> Result<Elf<'_>, Place>
 }
 
 impl<'a> Elf<'a> {
-    ghost use Rattle.std.specs.Prelude.{◌≡◌, ◌&&◌, None, IfOk, IfSome, slice_get};
-    ghost use Rattle.std.specs.List.{list_any};
+    ghost use Rattle.std.specs.Prelude.{◌≡◌, None, IfOk, IfSome, slice_get};
     ghost use Rattle.refusal.specs.Place.{Judges};
-    ghost use Rattle.elf_model.specs.Tables.{program_headers};
     ghost use Rattle.elf_model.specs.Sections.{section};
-    ghost use Rattle.elf_model.specs.Segments.{is_code, holds, is_live, code_loads};
+    ghost use Rattle.elf_model.specs.Segments.{is_live, code_loads};
     ghost use Rattle.elf_model.specs.Items.{extent_item, lookup_item};
     ghost use Rattle.elf_sections.specs.Found.{Finds};
 
@@ -105,7 +105,7 @@ impl<'a> Elf<'a> {
     pub fn runs(&self, lo: u64, hi: u64) -> bool
         ensures { result ≡ is_live self.now lo hi }
     {
-        0 < lo && lo < hi && self.has_code(lo, hi)
+        0 < lo && lo < hi && u128::from(hi) <= reached(&self.code, lo)
     }
 
     /// The loaded executable segment of a number, counted from 0 in the order of the headers, where
@@ -138,32 +138,7 @@ impl<'a> Elf<'a> {
     pub fn loads(&self, alloc: Global) -> Result<Vec<LoadSegment>, NoMemory>
         ensures { IfOk result (λ loads. loads.items ≡ code_loads self.now) }
     {
-        let mut loads = Vec::new(alloc);
-        for header in self.segments.iter() {
-            if header.is_code() {
-                loads.push(header.load())?;
-            }
-        }
-        Ok(loads)
-    }
-
-    /// Whether one loaded executable segment holds the addresses from `lo` up to `hi`.
-    fn has_code(&self, lo: u64, hi: u64) -> bool
-        ensures { result
-            ≡ list_any (λ segment. is_code segment && holds lo hi segment)
-            (program_headers self.now) }
-    {
-        if let Some(first) = &self.code
-            && is_loaded(first, lo, hi)
-        {
-            return true;
-        }
-        for segment in self.segments.iter() {
-            if segment.is_code() && segment.holds(lo, hi) {
-                return true;
-            }
-        }
-        false
+        loads_of(alloc, &self.segments)
     }
 
     /// The header of the first section of a name.

@@ -1,4 +1,4 @@
-ghost use Rattle.std.specs.Prelude.{◌≡◌, ◌+◌, ◌&&◌, nat_le, filter, map, slice_get};
+ghost use Rattle.std.specs.Prelude.{◌≡◌, filter, map, IfOk};
 ghost use Rattle.refusal.specs.Place.{Judges, first_bad};
 ghost use Rattle.elf_model.specs.Tables.{program_headers};
 ghost use Rattle.elf_model.specs.Items.{program_table_items};
@@ -8,7 +8,8 @@ use crate::entries::{Entries, Entry};
 use crate::fields::{passes_end, u32_at, u64_at};
 use crate::file_header::{E_PHENTSIZE, E_PHNUM, E_PHOFF, FileHeader};
 use load_model::LoadSegment;
-use refusal::{Kind, Place, refuse_if};
+use refusal::{Kind, NoMemory, Place, refuse_if};
+use std::alloc::Global;
 use std::marker::Model;
 
 /// `e_phnum` where the count does not fit in it.
@@ -66,20 +67,13 @@ impl Entry for ProgramHeader {
 }
 
 impl ProgramHeader {
-    ghost use Rattle.elf_model.specs.Segments.{is_code, holds, load_of};
+    ghost use Rattle.elf_model.specs.Segments.{is_code, load_of};
 
     /// Whether the segment is loaded and may be executed.
     pub fn is_code(&self) -> bool
         ensures { result ≡ is_code self.now }
     {
         self.kind == PT_LOAD && self.flags & PF_X != 0
-    }
-
-    /// Whether the segment holds each address from `lo` up to `hi`, `hi` left out.
-    pub fn holds(&self, lo: u64, hi: u64) -> bool
-        ensures { result ≡ holds lo hi self.now }
-    {
-        self.address <= lo && u128::from(hi) <= u128::from(self.address) + u128::from(self.size)
     }
 
     /// How the segment is loaded.
@@ -116,22 +110,22 @@ pub(crate) fn judge_program_headers<'a>(
     Ok(Entries::new(header.file, at as usize, usize::from(count)))
 }
 
-/// The first segment of code among some, as it is loaded.
-pub(crate) fn first_code(segments: &Entries<'_, ProgramHeader>) -> Option<LoadSegment>
-    ensures { result ≡ slice_get (map loaded (filter is_code_segment segments.now)) 0 }
+/// The segments of code among some, as they are loaded.
+///
+/// # Errors
+/// `NoMemory`.
+pub(crate) fn loads_of(
+    alloc: Global,
+    segments: &Entries<'_, ProgramHeader>,
+) -> Result<Vec<LoadSegment>, NoMemory>
+    ensures { IfOk result
+        (λ loads. loads.items ≡ map loaded (filter is_code_segment segments.now)) }
 {
+    let mut loads = Vec::new(alloc);
     for segment in segments.iter() {
         if segment.is_code() {
-            return Some(segment.load());
+            loads.push(segment.load())?;
         }
     }
-    None
-}
-
-/// Whether a loaded segment holds each address from `lo` up to `hi`, `hi` left out.
-pub(crate) fn is_loaded(segment: &LoadSegment, lo: u64, hi: u64) -> bool
-    ensures { result
-        ≡ nat_le segment.now.vaddr lo && nat_le hi (segment.now.vaddr + segment.now.size) }
-{
-    segment.vaddr <= lo && u128::from(hi) <= u128::from(segment.vaddr) + u128::from(segment.size)
+    Ok(loads)
 }

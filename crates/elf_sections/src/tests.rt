@@ -4,7 +4,7 @@ mod small_file;
 use crate::{Elf, read};
 use byte_view::Part;
 use load_model::LoadSegment;
-use refusal::{Kind, Place};
+use refusal::{Kind, Place, Stop};
 use small_file::SMALL_FILE;
 use std::alloc::{AllocError, Global};
 use std::test::Fail;
@@ -29,8 +29,15 @@ fn place(at: u64, kind: Kind) -> Place {
     Place { file: 1, at, kind }
 }
 
-fn extent(found: Option<Part<'_>>) -> Option<(usize, usize)> {
-    found.map(|part| (part.at, part.len))
+fn extent(part: Part<'_>) -> (usize, usize) {
+    (part.at, part.len)
+}
+
+// The extent of the section of a name.
+fn looked_up(alloc: Global, file: &[u8], name: &[u8]) -> Result<Option<(usize, usize)>, Stop> {
+    let elf = read(alloc, file)?;
+    let found = elf.section(name)?;
+    Ok(found.map(extent))
 }
 
 const ONES: &'static [u8] = &[0xff; 8];
@@ -99,8 +106,8 @@ fn refuses_at_the_first_bad_place(rt: HostRuntime) -> Result<(), Fail> {
     for (len, changes, at, kind) in cases {
         let file = changed(rt.alloc(), len, changes)?;
         assert_eq!(rt;
-            read(&file).err(),
-            Some(place(at, kind)),
+            read(rt.alloc(), &file).err(),
+            Some(Stop::Refused(place(at, kind))),
             "{len} bytes, {changes:?}"
         );
     }
@@ -110,8 +117,8 @@ fn refuses_at_the_first_bad_place(rt: HostRuntime) -> Result<(), Fail> {
 #[test]
 fn finds_sections(rt: HostRuntime) -> Result<(), Fail> {
     let info: &'static [u8] = b".debug_info";
-    let compressed = Err(place(463, Kind::Compressed));
-    let cases: [(Changes, &[u8], Result<Option<(usize, usize)>, Place>); 25] = [
+    let compressed = Err(Stop::Refused(place(463, Kind::Compressed)));
+    let cases: [(Changes, &[u8], Result<Option<(usize, usize)>, Stop>); 25] = [
         (&[], b".debug_abbrev", Ok(Some((120, 46)))),
         (&[], info, Ok(Some((166, 63)))),
         (&[], b".debug_line", Ok(Some((229, 57)))),
@@ -156,7 +163,7 @@ fn finds_sections(rt: HostRuntime) -> Result<(), Fail> {
     ];
     for (changes, name, expected) in cases {
         let file = changed(rt.alloc(), 655, changes)?;
-        let found = read(&file).and_then(|elf| elf.section(name)).map(extent);
+        let found = looked_up(rt.alloc(), &file, name);
         assert_eq!(rt; found, expected, "{changes:?}");
     }
     Ok(())
@@ -170,7 +177,20 @@ fn knows_the_ranges_of_code(rt: HostRuntime) -> Result<(), Fail> {
         (136, &[0x40, 0x10, 0x40, 0, 0, 0, 0, 0]),
         (160, &[0x40, 0, 0, 0, 0, 0, 0, 0]),
     ];
-    let cases: [(Changes, u64, u64, bool); 16] = [
+    // The second within the first, and the second in front of the first and up into it.
+    let within: Changes = &[
+        (56, &[2]),
+        (120, &[1, 0, 0, 0, 5, 0, 0, 0]),
+        (136, &[0x10, 0x10, 0x40, 0, 0, 0, 0, 0]),
+        (160, &[0x10, 0, 0, 0, 0, 0, 0, 0]),
+    ];
+    let into: Changes = &[
+        (56, &[2]),
+        (120, &[1, 0, 0, 0, 5, 0, 0, 0]),
+        (136, &[0xf0, 0x0f, 0x40, 0, 0, 0, 0, 0]),
+        (160, &[0x20, 0, 0, 0, 0, 0, 0, 0]),
+    ];
+    let cases: [(Changes, u64, u64, bool); 22] = [
         (&[], 0x401000, 0x401040, true),
         (&[], 0x401010, 0x401011, true),
         (&[], 0x401000, 0x401041, false),
@@ -189,10 +209,16 @@ fn knows_the_ranges_of_code(rt: HostRuntime) -> Result<(), Fail> {
         (second, 0x401000, 0x401040, true),
         (second, 0x401040, 0x401080, true),
         (second, 0x40103f, 0x401041, false),
+        (within, 0x401018, 0x401040, true),
+        (within, 0x401018, 0x401041, false),
+        (into, 0x400ff0, 0x401010, true),
+        (into, 0x400ff0, 0x401011, false),
+        (into, 0x401000, 0x401040, true),
+        (into, 0x400fef, 0x401000, false),
     ];
     for (changes, lo, hi, expected) in cases {
         let file = changed(rt.alloc(), 655, changes)?;
-        let runs = read(&file).map(|elf| elf.runs(lo, hi));
+        let runs = read(rt.alloc(), &file).map(|elf| elf.runs(lo, hi));
         assert_eq!(rt; runs, Ok(expected), "{lo} up to {hi}, {changes:?}");
     }
     Ok(())
@@ -230,14 +256,14 @@ fn numbers_the_segments_of_code(rt: HostRuntime) -> Result<(), Fail> {
     ];
     for (changes, index, expected) in cases {
         let file = changed(rt.alloc(), 655, changes)?;
-        let found = read(&file).map(|elf| elf.load(index));
+        let found = read(rt.alloc(), &file).map(|elf| elf.load(index));
         assert_eq!(rt; found, Ok(expected), "{index}, {changes:?}");
     }
     let mut not_first = changed(rt.alloc(), 655, two)?;
     if let Some(flags) = not_first.get_mut(68) {
         *flags = 4;
     }
-    let found = read(&not_first).map(|elf| (elf.load(0), elf.load(1)));
+    let found = read(rt.alloc(), &not_first).map(|elf| (elf.load(0), elf.load(1)));
     assert_eq!(rt; found, Ok((second, None)));
     Ok(())
 }

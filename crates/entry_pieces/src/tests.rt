@@ -89,7 +89,7 @@ fn pieces_by(
 
 #[test]
 fn code_is_kept(rt: HostRuntime) -> Result<(), Fail> {
-    let elf = read(FILE)?;
+    let elf = read(rt.alloc(), FILE)?;
     let cases: [(&[(u64, u64, Value<'static>)], &[(u64, u64)]); 10] = [
         (&[], &[]),
         (&[LOW], &[]),
@@ -113,7 +113,7 @@ fn code_is_kept(rt: HostRuntime) -> Result<(), Fail> {
 
 #[test]
 fn the_first_bad_place_is_told(rt: HostRuntime) -> Result<(), Fail> {
-    let elf = read(FILE)?;
+    let elf = read(rt.alloc(), FILE)?;
     let cases: [(&[(u64, u64, Value<'static>)], u64, Kind); 4] = [
         (&[INDEXED_END, INDEXED], 8, Kind::NoBase),
         (&[INDEXED_END, LOW], 9, Kind::NoBase),

@@ -67,7 +67,7 @@ fn members(alloc: Global, file: &[u8], at: usize) -> Option<Result<Vec<Member>, 
     let Ok(units) = read_units(alloc, Some(info), Some(abbrev)) else {
         return None;
     };
-    let Ok(elf) = read(FILE) else {
+    let Ok(elf) = read(alloc, FILE) else {
         return None;
     };
     let Ok(mut names) = Names::new(alloc) else {

@@ -49,7 +49,7 @@ pub(crate) fn make_map<R: AllocGlobal + Print + Eprint + CpuClock>(
     file: &[u8],
     watch: &mut Watch,
 ) -> Option<()> {
-    let elf = elf_sections::read(file).ok()?;
+    let elf = elf_sections::read(rt.alloc(), file).ok()?;
     let info = section(&elf, b".debug_info")?;
     let units = units(rt.alloc(), info, section(&elf, b".debug_abbrev"))?;
     watch.end(rt, "entries", units.entry_count())?;

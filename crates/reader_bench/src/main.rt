@@ -38,7 +38,7 @@ fn measure<R: AllocGlobal + Env + Files + Print>(rt: &R) -> Option<()> {
     let file = fs::read(rt, word(rt, 2, &mut room)?).ok()?;
     let rounds = word(rt, 3, &mut room)?.parse::<u32>().ok()?;
     let of_units = word(rt, 1, &mut room)? == "units";
-    let elf = elf_sections::read(&file).ok()?;
+    let elf = elf_sections::read(rt.alloc(), &file).ok()?;
     for _ in 0..rounds {
         let read = count(rt.alloc(), &elf, of_units)?;
         println!(rt;

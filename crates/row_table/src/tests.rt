@@ -31,7 +31,7 @@ fn end(address: u64) -> Row {
 #[test]
 fn the_first_live_sequence_counts(rt: HostRuntime) -> Result<(), test::Fail> {
     let alloc = rt.alloc();
-    let elf = read(FILE)?;
+    let elf = read(alloc, FILE)?;
     let rows = [
         // Not code, falling, and without rows.
         row(0x10, 1),

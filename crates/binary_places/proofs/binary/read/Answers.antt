@@ -12,7 +12,7 @@ use Rattle.binary_places.proofs.binary.read.Goals as goal
 
 pub returns-in_err-elf : goal.returns-in_err-elf
 returns-in_err-elf c =
-    refuses _ _ _ c.from_residual.result (in_headers c.args.file.now c.requires _ c.in_err-elf.ensures) c.from_residual.ensures.1
+    stops_with _ _ _ _ _ c.from_residual.result (in_headers c.args.file.now c.requires) c.in_err-elf.ensures c.from_residual.ensures.1
 
 pub returns-in_err-sections : goal.returns-in_err-sections
 returns-in_err-sections c =

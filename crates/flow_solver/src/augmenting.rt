@@ -1,5 +1,5 @@
 // One augmentation: a search, the prices that it moves, and a push along the way that it finds.
-ghost use Rattle.std.specs.Prelude.{◌≡◌, ◌+◌, ◌^◌, ◌<◌, ◌≤◌, ℕ, length, true, false, pos, ◌<ℤ◌};
+ghost use Rattle.std.specs.Prelude.{◌≡◌, ◌+◌, ◌^◌, ◌<◌, ◌≤◌, ℕ, length, min, true, false, pos, ◌<ℤ◌};
 ghost use Rattle.std.specs.Prelude.{IfOk, OnOk};
 ghost use Rattle.std.specs.List.{All};
 ghost use Rattle.flow_model.specs.Network.{arcs_of};
@@ -128,8 +128,7 @@ fn most_between(gathers: i64, lacks: i64) -> u64
     requires lacks { lacks <ℤ pos 0 }
     ensures some { 0 < result }
     ensures small { result < 2 ^ 63 }
-    ensures has { result ≤ surplus_of gathers }
-    ensures lacks { result ≤ lack_of lacks }
+    ensures least { result ≡ min (surplus_of gathers) (lack_of lacks) }
 {
     (gathers as u64).min(lacks.unsigned_abs())
 }

@@ -5,6 +5,7 @@ use Rattle.refusal.specs.Place.{in_binary}
 use Rattle.refusal.specs.declared.kind.Kind.TheVariants.{NoSection, PastSection}
 use Rattle.byte_view.specs.Cursor.{Cursor}
 use Rattle.placed_view.specs.Reader.{cursor_behind}
+use Rattle.unit_model.specs.Constants.{DW_AT_stmt_list}
 use Rattle.unit_model.specs.Values.{Found}
 use Rattle.unit_model.specs.Units.{Unit, Units}
 use Rattle.base_model.specs.Bases.{root_attribute, section_place}
@@ -25,30 +26,30 @@ abbrev pub rows_by : ℕ → Option Cursor → ℕ → Option ℕ → Judged (Op
 rows_by before section at None = Ok None
 rows_by before section at (Some offset) = rows_from before section at offset >>= λ rows. Ok (Some rows)
 
--- The rows of a unit by DW_AT_stmt_list of its root (DWARF 5, section 3.1.1); none without it.
+-- The rows that an attribute of a unit's root leads to, and none without the attribute (DWARF 5, section 3.1.1).
 abbrev pub rows_if : ℕ → Option Cursor → Option Found → Judged (Option (List Row))
 rows_if before section None = Ok None
 rows_if before section (Some found) = rows_by before section found.at (section_place found.value)
 
--- The rows of the unit at a place among the units.
+-- The rows of the unit of a number.
 unfoldable pub rows_of_unit : Option Cursor → Units → ℕ → ℕ → Judged (Option (List Row))
-rows_of_unit section told place before = rows_if before section (root_attribute told place 0x10)
+rows_of_unit section told number before = rows_if before section (root_attribute told number DW_AT_stmt_list)
 
 -- How many rows some units have together.
 abbrev pub row_count : List (Option (List Row)) → ℕ
 row_count units = sum_by (λ rows. option_map_or length rows 0) units
 
--- The units so far, and behind them the rows of the next, which stands at this place among the units.
+-- The units so far, and behind them the rows of the next, which has this number.
 abbrev pub next_rows : Option Cursor → Units → ℕ → List (Option (List Row)) → Judged (List (Option (List Row)))
-next_rows section told place so_far =
-    rows_of_unit section told place (row_count so_far) >>= λ rows. Ok (so_far ++ rows ∷ [])
+next_rows section told number so_far =
+    rows_of_unit section told number (row_count so_far) >>= λ rows. Ok (so_far ++ rows ∷ [])
 
--- The same for all units from a place on.
+-- The same for all units from a number on.
 abbrev pub rows_behind :
     Option Cursor → Units → ℕ → List Unit → List (Option (List Row)) → Judged (List (Option (List Row)))
-rows_behind section told place [] so_far = Ok so_far
-rows_behind section told place (unit ∷ rest) so_far =
-    next_rows section told place so_far >>= rows_behind section told (place + 1) rest
+rows_behind section told number [] so_far = Ok so_far
+rows_behind section told number (unit ∷ rest) so_far =
+    next_rows section told number so_far >>= rows_behind section told (number + 1) rest
 
 -- The rows of each unit, or the first bad place of the programs.
 unfoldable pub rows_of_units : Option Cursor → Units → Judged (List (Option (List Row)))

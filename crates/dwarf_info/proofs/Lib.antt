@@ -5,3 +5,4 @@ pub mod TableLemmas
 pub mod TellingLemmas
 pub mod UnitLemmas
 pub mod FoundLemmas
+pub mod UnitEntryLemmas

@@ -18,7 +18,7 @@ const MAX_DEPTH: u32 = 1024;
 /// The most entries of a file.
 const MAX_ENTRIES: usize = 1 << 24;
 
-/// The unit whose entries are read: its place among the units, and the size of its offsets.
+/// The unit whose entries are read: its number, and the size of its offsets.
 #[derive(Clone, Copy, Debug)]
 pub(crate) struct InUnit {
     pub unit: u32,

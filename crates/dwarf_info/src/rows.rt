@@ -1,5 +1,6 @@
-ghost use Rattle.std.specs.Prelude.{◌≡◌, ◌==◌, [], position, slice_get, length};
+ghost use Rattle.std.specs.Prelude.{◌≡◌, ◌==◌, [], drop, position, slice_get, length, take};
 
+use crate::unit_entries::UnitEntries;
 use dwarf_forms::Value;
 use std::alloc::Global;
 use std::marker::Model;
@@ -22,8 +23,7 @@ impl<'a> Model for Found<'a> {
 }
 
 /// An entry: where it stands in the file, how deep it stands among the entries of its unit, its
-/// tag, the place of its unit among the units, and its wanted attributes in the order of the
-/// abbreviation.
+/// tag, the number of its unit, and its wanted attributes in the order of the abbreviation.
 #[derive(Debug, Drop)]
 pub struct Entry<'a, 'u> {
     pub at: u64,
@@ -48,7 +48,7 @@ impl<'a, 'u> Model for Entry<'a, 'u> {
 }
 
 /// A unit that is read: where it begins and ends in the file, its version, whether it is 64-bit
-/// DWARF, and which of the entries are its own: `count` of them from the place `first` on.
+/// DWARF, and which of the entries are its own: `count` of them from the number `first` on.
 #[derive(Debug, Drop)]
 pub struct Unit {
     pub at: u64,
@@ -83,6 +83,25 @@ pub(crate) struct Row {
     pub unit: u32,
     pub first: usize,
     pub end: usize,
+}
+
+impl Row {
+    ghost use Rattle.std.specs.Prelude.{◌≡◌};
+    ghost use Rattle.dwarf_info.specs.Rows.{IsWithin, entry_of_row};
+
+    /// The entry of this row, whose attributes stand in a list.
+    pub fn entry<'a, 'u>(&self, found: &'u [Found<'a>]) -> Entry<'a, 'u>
+        requires { IsWithin found.now self.now }
+        ensures { result ≡ entry_of_row found.now self.now }
+    {
+        Entry {
+            at: self.at,
+            depth: self.depth,
+            tag: self.tag,
+            unit: self.unit,
+            found: &found[self.first..self.end],
+        }
+    }
 }
 
 /// Entries in memory, with the attributes of all.
@@ -173,32 +192,36 @@ impl<'a> Units<'a> {
         self.so_far.entries.rows.len()
     }
 
-    /// The entry at a place among the entries of all units.
-    pub fn entry(&self, place: usize) -> Option<Entry<'a, '_>>
-        ensures { result ≡ slice_get self.now.entries place }
+    /// The entries of a unit, in the order of the file.
+    pub fn entries_of(&self, unit: &Unit) -> UnitEntries<'a, '_>
+        ensures { result ≡ take unit.now.count (drop unit.now.first self.now.entries) }
     {
-        let entries = &self.so_far.entries;
-        if place >= entries.rows.len() {
-            return None;
-        }
-        let row = &entries.rows[place];
-        Some(Entry {
-            at: row.at,
-            depth: row.depth,
-            tag: row.tag,
-            unit: row.unit,
-            found: &entries.found[row.first..row.end],
-        })
+        let Entries { rows, found } = &self.so_far.entries;
+        let first = rows.len().min(unit.first as usize);
+        let behind = &rows[first..];
+        let count = behind.len().min(unit.count as usize);
+        UnitEntries::new(&behind[..count], found)
     }
 
-    /// The place of the entry that begins at an offset in the file, where one does.
+    /// The entry of a number among those of all units.
+    pub fn entry(&self, number: usize) -> Option<Entry<'a, '_>>
+        ensures { result ≡ slice_get self.now.entries number }
+    {
+        let entries = &self.so_far.entries;
+        if number >= entries.rows.len() {
+            return None;
+        }
+        Some(entries.rows[number].entry(&entries.found))
+    }
+
+    /// The number of the entry that begins at an offset in the file, where one does.
     pub fn entry_at(&self, at: u64) -> Option<usize>
         ensures { FindsEntry self.now.entries at result }
     {
         let rows = &self.so_far.entries.rows;
-        let place = rows.partition_point(|row| row.at < at);
-        match rows.get(place) {
-            Some(row) if row.at == at => Some(place),
+        let number = rows.partition_point(|row| row.at < at);
+        match rows.get(number) {
+            Some(row) if row.at == at => Some(number),
             _ => None,
         }
     }

@@ -5,6 +5,13 @@ ghost use Rattle.unit_model.specs.Values.{is_unused as is_unused_told};
 ghost use Rattle.dwarf_forms.specs.Meaning.{meaning_of};
 ghost use Rattle.dwarf_info.specs.Wanted.{purpose_of};
 
+use crate::constants::{
+    DW_AT_ABSTRACT_ORIGIN, DW_AT_ADDR_BASE, DW_AT_CALL_LINE, DW_AT_DECL_LINE,
+    DW_AT_GNU_DISCRIMINATOR, DW_AT_HIGH_PC, DW_AT_LINKAGE_NAME, DW_AT_LOW_PC,
+    DW_AT_MIPS_LINKAGE_NAME, DW_AT_NAME, DW_AT_RANGES, DW_AT_RNGLISTS_BASE, DW_AT_SPECIFICATION,
+    DW_AT_STMT_LIST, DW_AT_STR_OFFSETS_BASE, DW_TAG_COMPILE_UNIT, DW_TAG_INLINED_SUBROUTINE,
+    DW_TAG_PARTIAL_UNIT, DW_TAG_SUBPROGRAM,
+};
 use dwarf_forms::Value;
 
 /// What an attribute is wanted for.
@@ -29,19 +36,19 @@ pub(crate) enum Use {
 }
 
 /// What the attribute of a name is wanted for.
-///
-/// Source: DWARF 5, section 7.5.4, table 7.5; the names from 0x2000 on are of GNU and MIPS.
 fn use_of(name: u64) -> Use
     ensures { purpose_of result ≡ use_told name }
 {
     match name {
-        0x03 | 0x6e | 0x2007 => Use::Text,
-        0x10 | 0x72 | 0x73 | 0x74 => Use::Place,
-        0x11 => Use::Address,
-        0x12 => Use::End,
-        0x31 | 0x47 => Use::Entry,
-        0x3b | 0x59 | 0x2136 => Use::Number,
-        0x55 => Use::Ranges,
+        DW_AT_NAME | DW_AT_LINKAGE_NAME | DW_AT_MIPS_LINKAGE_NAME => Use::Text,
+        DW_AT_STMT_LIST | DW_AT_STR_OFFSETS_BASE | DW_AT_ADDR_BASE | DW_AT_RNGLISTS_BASE => {
+            Use::Place
+        }
+        DW_AT_LOW_PC => Use::Address,
+        DW_AT_HIGH_PC => Use::End,
+        DW_AT_ABSTRACT_ORIGIN | DW_AT_SPECIFICATION => Use::Entry,
+        DW_AT_DECL_LINE | DW_AT_CALL_LINE | DW_AT_GNU_DISCRIMINATOR => Use::Number,
+        DW_AT_RANGES => Use::Ranges,
         _ => Use::Unused,
     }
 }
@@ -50,7 +57,10 @@ fn use_of(name: u64) -> Use
 fn has_wanted(tag: u64) -> bool
     ensures { result ≡ has_wanted_told tag }
 {
-    tag == 0x11 || tag == 0x3c || tag == 0x2e || tag == 0x1d
+    matches!(
+        tag,
+        DW_TAG_COMPILE_UNIT | DW_TAG_PARTIAL_UNIT | DW_TAG_SUBPROGRAM | DW_TAG_INLINED_SUBROUTINE
+    )
 }
 
 /// What an attribute of an entry with a tag is wanted for.

@@ -45,6 +45,6 @@ pub fn ranges_of<'a>(
 {
     match list_of(value, version, parts, bases) {
         Ok(list) => walk(alloc, list, base, &parts.texts, bases),
-        Err(kind) => Err(Stop::Refused(Place { file: 1, at, kind })),
+        Err(kind) => Err(Stop::Refused(Place::in_binary(at as usize, kind))),
     }
 }

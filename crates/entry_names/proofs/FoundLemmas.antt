@@ -3,6 +3,7 @@ use Rattle.std.proofs.Common.{◌≡◌, ℕ, true, false, List, [], ◌∷◌, 
 use Rattle.std.specs.Prelude.{◌==◌, cond, find}
 use Rattle.std.specs.Option.{option_map, option_or}
 use Rattle.std.proofs.lemmas.List.Folds.{find-append}
+use Rattle.unit_model.specs.Constants.{DW_AT_MIPS_linkage_name, DW_AT_decl_line, DW_AT_linkage_name, DW_AT_name}
 use Rattle.unit_model.specs.Values.{Found}
 use Rattle.unit_model.specs.Entries.{Entry}
 use Rattle.base_model.specs.Bases.{attribute}
@@ -51,10 +52,10 @@ pub AreFound-before : (entry : Entry) (way : List Entry) (own rest found : Findi
     → found.linkage ≡ option_or own.linkage rest.linkage → found.mips_linkage ≡ option_or own.mips_linkage rest.mips_linkage
     → found.name ≡ option_or own.name rest.name → found.line ≡ option_or own.line rest.line → AreFound (entry ∷ way) found
 AreFound-before entry way own rest found o r linkage mips name line = record {
-  linkage = ap (option_map held_of) linkage ∙ one 0x6e entry way own.linkage rest.linkage o.linkage r.linkage;
-  mips_linkage = ap (option_map held_of) mips ∙ one 0x2007 entry way own.mips_linkage rest.mips_linkage o.mips_linkage r.mips_linkage;
-  name = ap (option_map held_of) name ∙ one 0x03 entry way own.name rest.name o.name r.name;
-  line = ap (option_map held_of) line ∙ one 0x3b entry way own.line rest.line o.line r.line;
+  linkage = ap (option_map held_of) linkage ∙ one DW_AT_linkage_name entry way own.linkage rest.linkage o.linkage r.linkage;
+  mips_linkage = ap (option_map held_of) mips ∙ one DW_AT_MIPS_linkage_name entry way own.mips_linkage rest.mips_linkage o.mips_linkage r.mips_linkage;
+  name = ap (option_map held_of) name ∙ one DW_AT_name entry way own.name rest.name o.name r.name;
+  line = ap (option_map held_of) line ∙ one DW_AT_decl_line entry way own.line rest.line o.line r.line;
 }
 
 pub ruleset held_lemmas = (first_on-one)

@@ -6,6 +6,7 @@ use Rattle.refusal.specs.declared.place.Place.{Place}
 use Rattle.refusal.specs.declared.kind.Kind.TheVariants.{OriginTooLong}
 use Rattle.refusal.specs.Place.{in_binary}
 use Rattle.range_model.specs.Texts.{Sections}
+use Rattle.unit_model.specs.Constants.{DW_AT_MIPS_linkage_name, DW_AT_decl_line, DW_AT_linkage_name, DW_AT_name}
 use Rattle.unit_model.specs.Entries.{Entry}
 use Rattle.unit_model.specs.Units.{Units}
 use Rattle.base_model.specs.Bases.{attribute}
@@ -49,12 +50,12 @@ first_on-others name entry way none = first_on-entry name entry way ∙ ap (λ o
 
 naming-others : (entry : Entry) (way : List Entry) → SaysNothing entry → naming (entry ∷ way) ≡ naming way
 naming-others entry way nothing =
-    ap (λ o. option_or o (option_or (first_on 0x2007 (entry ∷ way)) (first_on 0x03 (entry ∷ way)))) (first_on-others 0x6e entry way nothing.linkage)
-    ∙ ap (λ o. option_or (first_on 0x6e way) (option_or o (first_on 0x03 (entry ∷ way)))) (first_on-others 0x2007 entry way nothing.mips_linkage)
-    ∙ ap (λ o. option_or (first_on 0x6e way) (option_or (first_on 0x2007 way) o)) (first_on-others 0x03 entry way nothing.name)
+    ap (λ o. option_or o (option_or (first_on DW_AT_MIPS_linkage_name (entry ∷ way)) (first_on DW_AT_name (entry ∷ way)))) (first_on-others DW_AT_linkage_name entry way nothing.linkage)
+    ∙ ap (λ o. option_or (first_on DW_AT_linkage_name way) (option_or o (first_on DW_AT_name (entry ∷ way)))) (first_on-others DW_AT_MIPS_linkage_name entry way nothing.mips_linkage)
+    ∙ ap (λ o. option_or (first_on DW_AT_linkage_name way) (option_or (first_on DW_AT_MIPS_linkage_name way) o)) (first_on-others DW_AT_name entry way nothing.name)
 
 line_on-others : (entry : Entry) (way : List Entry) → SaysNothing entry → line_on (entry ∷ way) ≡ line_on way
-line_on-others entry way nothing = ap (λ o. option_map_or (λ held. number_of held.found.value) o 0) (first_on-others 0x3b entry way nothing.line)
+line_on-others entry way nothing = ap (λ o. option_map_or (λ held. number_of held.found.value) o 0) (first_on-others DW_AT_decl_line entry way nothing.line)
 
 -- what a way says that begins with such an entry, the rest says
 said_on-others : (sections : Sections) (units : Units) (entry : Entry) (way : Result (List Entry) Place) → SaysNothing entry

@@ -5,6 +5,7 @@ use Rattle.refusal.specs.declared.place.Place.{Place}
 use Rattle.refusal.specs.declared.place.Stop.{Stop}
 use Rattle.refusal.specs.declared.place.Stop.TheVariants.{Refused, NoMemory}
 use Rattle.dwarf_forms.specs.Meaning.{meaning_of}
+use Rattle.unit_model.specs.Constants.{DW_AT_MIPS_linkage_name, DW_AT_decl_line, DW_AT_linkage_name, DW_AT_name}
 use Rattle.unit_model.specs.Entries.{Entry}
 use Rattle.key_types.specs.declared.ids.NameId.{NameId}
 use Rattle.way_model.specs.Way as model
@@ -28,10 +29,10 @@ held_of held = record {
 
 -- The findings are the first attributes on a way.
 pub record AreFound (way : List Entry) (findings : Findings) : Type 0 where
-  pub linkage : option_map held_of findings.linkage ≡ told.first_on 0x6e way
-  pub mips_linkage : option_map held_of findings.mips_linkage ≡ told.first_on 0x2007 way
-  pub name : option_map held_of findings.name ≡ told.first_on 0x03 way
-  pub line : option_map held_of findings.line ≡ told.first_on 0x3b way
+  pub linkage : option_map held_of findings.linkage ≡ told.first_on DW_AT_linkage_name way
+  pub mips_linkage : option_map held_of findings.mips_linkage ≡ told.first_on DW_AT_MIPS_linkage_name way
+  pub name : option_map held_of findings.name ≡ told.first_on DW_AT_name way
+  pub line : option_map held_of findings.line ≡ told.first_on DW_AT_decl_line way
 
 -- A call answered what a way says, or the place at which the way is refused.
 abbrev pub FindsOn : Result Findings Place → Result (List Entry) Place → Type 0

@@ -2,6 +2,7 @@
 use Rattle.std.specs.Prelude.{◌≡◌, ℕ, nat_eq, List, ◌⊎◌, Option, None, Some, Ok}
 use Rattle.std.specs.Map.{lookup}
 use Rattle.range_model.specs.Texts.{Sections}
+use Rattle.unit_model.specs.Constants.{DW_AT_MIPS_linkage_name, DW_AT_decl_line, DW_AT_linkage_name, DW_AT_name}
 use Rattle.unit_model.specs.Values.{Found}
 use Rattle.unit_model.specs.Entries.{Entry}
 use Rattle.base_model.specs.Bases.{attribute}
@@ -12,10 +13,10 @@ use Rattle.entry_names.specs.declared.origin.Origin.{Origin}
 
 -- An entry has no name and no line of its own.
 pub record SaysNothing (entry : Entry) : Type 0 where
-  pub linkage : attribute 0x6e entry.found ≡ None
-  pub mips_linkage : attribute 0x2007 entry.found ≡ None
-  pub name : attribute 0x03 entry.found ≡ None
-  pub line : attribute 0x3b entry.found ≡ None
+  pub linkage : attribute DW_AT_linkage_name entry.found ≡ None
+  pub mips_linkage : attribute DW_AT_MIPS_linkage_name entry.found ≡ None
+  pub name : attribute DW_AT_name entry.found ≡ None
+  pub line : attribute DW_AT_decl_line entry.found ≡ None
 
 -- Such an entry leads to an offset, so its origin is that of the entry there.
 pub record LeadsOn (info : Info) (entry : Entry) (at : ℕ) : Type 0 where

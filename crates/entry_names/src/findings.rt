@@ -11,21 +11,9 @@ ghost use Rattle.entry_names.specs.Meaning.{AreFound, FindsOn, held_of, info_of}
 use crate::info::Info;
 use crate::way::next_on_way;
 use dwarf_forms::Value;
-use dwarf_info::Entry;
+use dwarf_info::{DW_AT_DECL_LINE, DW_AT_LINKAGE_NAME, DW_AT_MIPS_LINKAGE_NAME, DW_AT_NAME, Entry};
 use refusal::{Kind, Place};
 use unit_bases::attribute;
-
-/// `DW_AT_name`: the name as the source has it.
-pub(crate) const NAME: u64 = 0x03;
-
-/// `DW_AT_decl_line`: the line of the declaration, from which a profile counts lines.
-pub(crate) const DECL_LINE: u64 = 0x3b;
-
-/// `DW_AT_linkage_name`: the name as the linker has it.
-pub(crate) const LINKAGE_NAME: u64 = 0x6e;
-
-/// `DW_AT_MIPS_linkage_name`: the same, by the name that it had before DWARF 4.
-pub(crate) const MIPS_LINKAGE_NAME: u64 = 0x2007;
 
 /// An attribute on a way: the unit of the entry that has it, its name, where its value stands, and
 /// the value.
@@ -66,8 +54,8 @@ impl<'a> Findings<'a> {
     }
 }
 
-/// The first attributes on the way from an entry on, with so many steps at most, of a way that began
-/// at an offset in the file.
+/// The first attributes on the way from an entry on, with so many steps at most, of a way that
+/// began at an offset in the file.
 ///
 /// # Errors
 /// What `next_on_way` answers on the way, and `OriginTooLong` where the way began, for one step
@@ -87,11 +75,7 @@ pub(crate) fn findings_from<'a>(
         Err(place) => return Err(place),
     };
     if steps == 0 {
-        return Err(Place {
-            file: 1,
-            at: began,
-            kind: Kind::OriginTooLong,
-        });
+        return Err(Place::in_binary(began as usize, Kind::OriginTooLong));
     }
     match findings_from(info, began, steps - 1, &next) {
         Ok(rest) => Ok(before(entry, &rest)),
@@ -118,10 +102,10 @@ fn found_in<'a>(entry: &Entry<'a, '_>) -> Findings<'a>
     ensures { AreFound (entry.now ∷ []) result }
 {
     Findings {
-        linkage: held_in(entry, LINKAGE_NAME),
-        mips_linkage: held_in(entry, MIPS_LINKAGE_NAME),
-        name: held_in(entry, NAME),
-        line: held_in(entry, DECL_LINE),
+        linkage: held_in(entry, DW_AT_LINKAGE_NAME),
+        mips_linkage: held_in(entry, DW_AT_MIPS_LINKAGE_NAME),
+        name: held_in(entry, DW_AT_NAME),
+        line: held_in(entry, DW_AT_DECL_LINE),
     }
 }
 

@@ -30,11 +30,7 @@ pub(crate) fn name_said<'a>(
     match text(held.value, info.texts, &bases_of(info.units, held.unit)) {
         Ok(text) if is_name(text) => Ok(Some(text)),
         Ok(_) => Ok(None),
-        Err(kind) => Err(Place {
-            file: 1,
-            at: held.at,
-            kind,
-        }),
+        Err(kind) => Err(Place::in_binary(held.at as usize, kind)),
     }
 }
 

@@ -7,11 +7,12 @@ ghost use Rattle.way_model.specs.Origin.{origin as origin_told, said_on};
 ghost use Rattle.entry_names.specs.Meaning.{Extends, TellsOrigin, info_of};
 ghost use Rattle.entry_names.specs.Memo.{AddsKnown, LeadsOn, Remembers, SaysNothing, kept_at};
 
-use crate::findings::{DECL_LINE, LINKAGE_NAME, MIPS_LINKAGE_NAME, NAME};
 use crate::info::Info;
 use crate::origin::{MAX_STEPS, Origin, numbered, origin_of, said_from};
 use crate::way::{entry_beginning_at, reference_of, target_of};
-use dwarf_info::{Entry, Found};
+use dwarf_info::{
+    DW_AT_DECL_LINE, DW_AT_LINKAGE_NAME, DW_AT_MIPS_LINKAGE_NAME, DW_AT_NAME, Entry, Found,
+};
 use indexmap::IndexMap;
 use key_types::Names;
 use refusal::{NoMemory, Stop};
@@ -148,10 +149,10 @@ fn leads_on(info: &Info<'_, '_>, entry: &Entry<'_, '_>) -> Option<u64>
 fn says_nothing(entry: &Entry<'_, '_>) -> bool
     ensures { IsTrue result → SaysNothing entry.now }
 {
-    lacks(entry.found, LINKAGE_NAME)
-        && lacks(entry.found, MIPS_LINKAGE_NAME)
-        && lacks(entry.found, NAME)
-        && lacks(entry.found, DECL_LINE)
+    lacks(entry.found, DW_AT_LINKAGE_NAME)
+        && lacks(entry.found, DW_AT_MIPS_LINKAGE_NAME)
+        && lacks(entry.found, DW_AT_NAME)
+        && lacks(entry.found, DW_AT_DECL_LINE)
 }
 
 /// Whether an entry lacks the attribute of a name.

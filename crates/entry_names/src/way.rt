@@ -7,15 +7,9 @@ ghost use Rattle.entry_names.specs.Meaning.{info_of};
 
 use crate::info::Info;
 use dwarf_forms::Value;
-use dwarf_info::{Entry, Found, Units};
+use dwarf_info::{DW_AT_ABSTRACT_ORIGIN, DW_AT_SPECIFICATION, Entry, Found, Units};
 use refusal::{Kind, Place};
 use unit_bases::attribute;
-
-/// `DW_AT_abstract_origin`: the function that a call was inlined from, or of which this is a copy.
-const ABSTRACT_ORIGIN: u64 = 0x31;
-
-/// `DW_AT_specification`: the declaration of a function that is defined elsewhere.
-const SPECIFICATION: u64 = 0x47;
 
 /// The entry behind one on a way, or none where the way ends.
 ///
@@ -43,9 +37,9 @@ pub(crate) fn next_on_way<'a, 'u>(
 pub(crate) fn reference_of<'a>(entry: &Entry<'a, '_>) -> Option<Found<'a>>
     ensures { result ≡ reference_told entry.now }
 {
-    match attribute(entry.found, ABSTRACT_ORIGIN) {
+    match attribute(entry.found, DW_AT_ABSTRACT_ORIGIN) {
         Some(found) => Some(found),
-        None => attribute(entry.found, SPECIFICATION),
+        None => attribute(entry.found, DW_AT_SPECIFICATION),
     }
 }
 
@@ -63,7 +57,7 @@ pub(crate) fn target_of(info: &Info<'_, '_>, unit: u32, value: Value<'_>) -> Opt
     }
 }
 
-/// Where the unit at a place among the units begins in the file.
+/// Where the unit of a number begins in the file.
 fn start_of_unit(units: &Units<'_>, unit: u32) -> u64
     ensures { result ≡ start_told units.now unit }
 {
@@ -91,11 +85,7 @@ fn led_to<'a, 'u>(
     if is_passed_over(units, at) {
         return Ok(None);
     }
-    Err(Place {
-        file: 1,
-        at: place,
-        kind: Kind::BadReference,
-    })
+    Err(Place::in_binary(place as usize, Kind::BadReference))
 }
 
 /// The entry that begins at an offset in the file.

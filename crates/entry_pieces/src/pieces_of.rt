@@ -37,11 +37,7 @@ pub fn pieces(
     let mut ranges = spelled(alloc, of, entry)?;
     keep_live(&mut ranges, elf);
     let too_many = ranges.len() as u64 > MAX_PIECES - before;
-    let place = Place {
-        file: 1,
-        at: entry.at,
-        kind: Kind::TooManyRanges,
-    };
+    let place = Place::in_binary(entry.at as usize, Kind::TooManyRanges);
     refuse_if(too_many, place)?;
     Ok(ranges)
 }

@@ -7,20 +7,11 @@ ghost use Rattle.entry_pieces.specs.Told.{Tells, in_unit};
 
 use crate::in_unit::InUnit;
 use dwarf_forms::Value;
-use dwarf_info::{Entry, Found};
+use dwarf_info::{DW_AT_HIGH_PC, DW_AT_LOW_PC, DW_AT_RANGES, Entry, Found};
 use dwarf_ranges::ranges_of;
 use refusal::{NoMemory, Place, Stop};
 use std::alloc::Global;
 use unit_bases::{address_at, attribute};
-
-/// `DW_AT_low_pc`: the first address.
-const LOW_PC: u64 = 0x11;
-
-/// `DW_AT_high_pc`: the end, or how far it is behind the first address.
-const HIGH_PC: u64 = 0x12;
-
-/// `DW_AT_ranges`: a range list.
-const RANGES: u64 = 0x55;
 
 /// The ranges that an entry spells: by `DW_AT_ranges` where it stands, else by `DW_AT_low_pc` and
 /// `DW_AT_high_pc` where both do, else none.
@@ -32,11 +23,11 @@ pub(crate) fn spelled(
 ) -> Result<Vec<(u64, u64)>, Stop>
     ensures { Tells (λ ranges. ranges.items) result (spelled_ranges (in_unit of.now) entry.now) }
 {
-    if let Some(list) = attribute(entry.found, RANGES) {
+    if let Some(list) = attribute(entry.found, DW_AT_RANGES) {
         return listed(alloc, of, &list);
     }
-    let low = attribute(entry.found, LOW_PC);
-    let high = attribute(entry.found, HIGH_PC);
+    let low = attribute(entry.found, DW_AT_LOW_PC);
+    let high = attribute(entry.found, DW_AT_HIGH_PC);
     let range = between(of, low, high)?;
     Ok(list_of(alloc, range)?)
 }

@@ -6,6 +6,7 @@ use Rattle.refusal.specs.Place.{in_binary}
 use Rattle.value_model.specs.Value.{Value, const}
 use Rattle.range_model.specs.Texts.{Bases}
 use Rattle.range_model.specs.Lists.{RangeSections, bad_range, proper, ranges_of, sum_of}
+use Rattle.unit_model.specs.Constants.{DW_AT_high_pc, DW_AT_low_pc, DW_AT_ranges}
 use Rattle.unit_model.specs.Values.{Found}
 use Rattle.unit_model.specs.Entries.{Entry}
 use Rattle.elf_model.specs.Segments.{is_live}
@@ -64,7 +65,8 @@ spelled_by of None low high = Ok []
 -- The ranges that an entry spells (DWARF 5, section 2.17).
 unfoldable pub spelled_ranges : InUnit → Entry → RangesOrPlace
 spelled_ranges of entry =
-    spelled_by of (attribute 0x55 entry.found) (attribute 0x11 entry.found) (attribute 0x12 entry.found)
+    spelled_by of (attribute DW_AT_ranges entry.found) (attribute DW_AT_low_pc entry.found)
+    (attribute DW_AT_high_pc entry.found)
 
 -- Those of some ranges that are code of the file.
 abbrev pub live_ranges : List ℕ → List (ℕ × ℕ) → List (ℕ × ℕ)

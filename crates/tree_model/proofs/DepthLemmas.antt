@@ -8,6 +8,7 @@ use Rattle.std.proofs.lemmas.Bool.{cases_lt, eqb-true, lt-ltb, le-ltb, ne_eqb}
 use Rattle.std.proofs.lemmas.List.{append-nil, append_assoc, length-append, length-take, reverse-append, take-append-le}
 use Rattle.std.proofs.lemmas.List.Sums.{sum_by-cons}
 use Rattle.refusal.specs.declared.place.Place.{Place}
+use Rattle.unit_model.specs.Constants.{DW_TAG_inlined_subroutine, DW_TAG_subprogram}
 use Rattle.unit_model.specs.Entries.{Entry}
 use Rattle.piece_model.specs.Pieces.{InUnit, and_then, live_ranges, pieces, spelled_ranges, within_limit}
 use Rattle.way_model.specs.Origin.{Origin, origin}
@@ -265,7 +266,7 @@ call_step source of start earlier way entry old new (piece ∷ more) before not_
 
 -- no entry is both
 not_both : (entry : Entry) → is_function entry ≡ true → is_call entry ≡ false
-not_both entry is = ne_eqb entry.tag 0x1d (λ same. let e = eqb-true entry.tag 0x2e is in omega (arith, e, same))
+not_both entry is = ne_eqb entry.tag DW_TAG_inlined_subroutine (λ same. let e = eqb-true entry.tag DW_TAG_subprogram is in omega (arith, e, same))
 
 step : (source : Source) (of : InUnit) (start : ℕ) (earlier : List Entry) (way : List Standing) (entry : Entry) (old new : SoFar Told)
     → Before source of start earlier way entry old → next_entry source of entry old ≡ Ok new → Step source of start earlier way entry old new

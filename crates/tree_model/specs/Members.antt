@@ -1,19 +1,20 @@
 -- Functions and the calls inlined into them.
 use Rattle.std.specs.Prelude.{ℕ, ◌%◌, ◌^◌, Bool, ◌==◌, List, Option}
 use Rattle.std.specs.Option.{option_map_or}
+use Rattle.unit_model.specs.Constants.{DW_AT_GNU_discriminator, DW_AT_call_line, DW_TAG_inlined_subroutine, DW_TAG_subprogram}
 use Rattle.unit_model.specs.Entries.{Entry}
 use Rattle.base_model.specs.Bases.{attribute}
 use Rattle.way_model.specs.Origin.{Origin, number_of}
 
--- DW_TAG_subprogram, and DW_TAG_inlined_subroutine.
+-- An entry is of a function, or of an inlined call.
 abbrev pub is_function : Entry → Bool
-is_function entry = entry.tag == 0x2e
+is_function entry = entry.tag == DW_TAG_subprogram
 
 abbrev pub is_call : Entry → Bool
-is_call entry = entry.tag == 0x1d
+is_call entry = entry.tag == DW_TAG_inlined_subroutine
 
--- A function, or a call inlined into it, with pieces: how many calls deep it stands, the place of its unit among the
--- units, its name and start line, the line and the discriminator of the call, which are 0 for a function, and its
+-- A function, or a call inlined into it, with pieces: how many calls deep it stands, the number of its unit, its
+-- name and start line, the line and the discriminator of the call, which are 0 for a function, and its
 -- pieces.
 pub record Told : Type 0 where
   pub depth : ℕ
@@ -40,14 +41,14 @@ function_told entry pieces origin = record {
   pieces = pieces;
 }
 
--- A call with pieces: DW_AT_call_line and DW_AT_GNU_discriminator are its own.
+-- A call with pieces. Its line and its discriminator are its own.
 abbrev pub call_told : ℕ → Entry → List (ℕ × ℕ) → Origin → Told
 call_told depth entry pieces origin = record {
   depth = depth;
   unit = entry.unit;
   name = origin.name;
   start = origin.line;
-  line = number_in 0x59 entry;
-  disc = number_in 0x2136 entry % 2 ^ 32;
+  line = number_in DW_AT_call_line entry;
+  disc = number_in DW_AT_GNU_discriminator entry % 2 ^ 32;
   pieces = pieces;
 }

@@ -78,26 +78,27 @@ next_entries source of (entry ∷ rest) so_far = next_entry source of entry so_f
 abbrev pub entries_of_unit : List Entry → model.Unit → List Entry
 entries_of_unit entries unit = take unit.count (drop unit.first entries)
 
--- What the ranges of the entries of a unit are read by, the unit standing at a place among the units.
+-- What the ranges of the entries of a unit are read by, by the number of the unit.
 abbrev pub in_unit : Source → ℕ → model.Unit → ℕ → InUnit
-in_unit source place unit base = record {
+in_unit source number unit base = record {
   sections = source.sections;
   version = unit.version;
   base = base;
-  bases = bases_of_unit source.info.units place;
+  bases = bases_of_unit source.info.units number;
 }
 
 -- The next unit: its base address, then its entries.
 unfoldable pub next_unit : Source → ℕ → model.Unit → SoFar Told → Result (SoFar Told) Place
-next_unit source place unit so_far = do
-  base ← base_address source.sections.texts source.info.units place
-  next_entries source (in_unit source place unit base) (entries_of_unit source.info.units.entries unit)
+next_unit source number unit so_far = do
+  base ← base_address source.sections.texts source.info.units number
+  next_entries source (in_unit source number unit base) (entries_of_unit source.info.units.entries unit)
       (record { functions = so_far.functions; pieces = so_far.pieces; frames = [] })
 
--- Units one behind the other, the first standing at a place among the units.
+-- Units one behind the other, the first having a number.
 abbrev pub next_units : Source → ℕ → List model.Unit → SoFar Told → Result (SoFar Told) Place
-next_units source place [] so_far = Ok so_far
-next_units source place (unit ∷ rest) so_far = next_unit source place unit so_far >>= next_units source (place + 1) rest
+next_units source number [] so_far = Ok so_far
+next_units source number (unit ∷ rest) so_far =
+    next_unit source number unit so_far >>= next_units source (number + 1) rest
 
 -- All functions of a file with their inlined calls, in the order of the functions' entries, or the first bad place.
 unfoldable pub members : Source → Result (List Told) Place

@@ -35,10 +35,6 @@ pub fn address_at(found: &Found<'_>, texts: &Texts<'_>, bases: &Bases) -> Result
 {
     match address(found.value, texts, bases) {
         Ok(address) => Ok(address),
-        Err(kind) => Err(Place {
-            file: 1,
-            at: found.at,
-            kind,
-        }),
+        Err(kind) => Err(Place::in_binary(found.at as usize, kind)),
     }
 }

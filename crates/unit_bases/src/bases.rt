@@ -6,7 +6,9 @@ ghost use Rattle.base_model.specs.Bases.{base_address as base_address_told, base
 use crate::attributes::address_at;
 use crate::root::{is_wide, root_attribute};
 use dwarf_forms::Value;
-use dwarf_info::Units;
+use dwarf_info::{
+    DW_AT_ADDR_BASE, DW_AT_LOW_PC, DW_AT_RNGLISTS_BASE, DW_AT_STR_OFFSETS_BASE, Units,
+};
 use dwarf_strings::{Bases, Texts};
 use refusal::Place;
 
@@ -31,25 +33,24 @@ fn base_in(units: &Units<'_>, unit: u32, name: u64) -> Option<u64>
     }
 }
 
-/// What the indexes of the unit at a place among the units count from, by the unit's root, and the
-/// size of the unit's offsets. A root without such an attribute gives no base.
+/// What the indexes of the unit of a number count from, by the unit's root, and the size of the
+/// unit's offsets. A root without such an attribute gives no base.
 ///
-/// Source: DWARF 5, section 7.5.4, table 7.5: `DW_AT_str_offsets_base`, `DW_AT_addr_base` and
-/// `DW_AT_rnglists_base`.
+/// Source: DWARF 5, section 3.1.1.
 #[tactic(auto, unfolding(base_model::specs::Bases::bases_of_unit))]
 pub fn bases_of(units: &Units<'_>, unit: u32) -> Bases
     ensures { bases_seen result ≡ bases_of_unit units.now unit }
 {
     Bases {
         wide: is_wide(units, unit),
-        str_offsets: base_in(units, unit, 0x72),
-        addr: base_in(units, unit, 0x73),
-        rnglists: base_in(units, unit, 0x74),
+        str_offsets: base_in(units, unit, DW_AT_STR_OFFSETS_BASE),
+        addr: base_in(units, unit, DW_AT_ADDR_BASE),
+        rnglists: base_in(units, unit, DW_AT_RNGLISTS_BASE),
     }
 }
 
-/// The base address of the unit at a place among the units: the address of its root, and 0 where
-/// the root has none.
+/// The base address of the unit of a number: the address of its root, and 0 where the root has
+/// none.
 ///
 /// # Errors
 /// What `address_at` answers for the root's `DW_AT_low_pc`.
@@ -60,7 +61,7 @@ pub fn base_address(units: &Units<'_>, unit: u32, texts: &Texts<'_>) -> Result<u
     ensures { result ≡ base_address_told (sections_of texts.now) units.now unit }
 {
     let bases = bases_of(units, unit);
-    match root_attribute(units, unit, 0x11) {
+    match root_attribute(units, unit, DW_AT_LOW_PC) {
         Some(found) => address_at(&found, texts, &bases),
         None => Ok(0),
     }

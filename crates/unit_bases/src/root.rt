@@ -2,25 +2,22 @@ ghost use Rattle.std.specs.Prelude.{◌≡◌};
 ghost use Rattle.base_model.specs.Bases.{if_root as if_root_told, is_wide as is_wide_told, root_attribute as root_attribute_told, root_of};
 
 use crate::attributes::attribute;
-use dwarf_info::{Entry, Found, Units};
-
-/// The tags of a root: `DW_TAG_compile_unit` and `DW_TAG_partial_unit`.
-const COMPILE_UNIT: u64 = 0x11;
-
-const PARTIAL_UNIT: u64 = 0x3c;
+use dwarf_info::{DW_TAG_COMPILE_UNIT, DW_TAG_PARTIAL_UNIT, Entry, Found, Units};
 
 /// An entry, where it is a root.
+///
+/// Source: DWARF 5, section 3.1.1.
 fn if_root<'a, 'u>(entry: Entry<'a, 'u>) -> Option<Entry<'a, 'u>>
     ensures { result ≡ if_root_told entry.entry }
 {
-    if entry.tag == COMPILE_UNIT || entry.tag == PARTIAL_UNIT {
+    if entry.tag == DW_TAG_COMPILE_UNIT || entry.tag == DW_TAG_PARTIAL_UNIT {
         Some(entry)
     } else {
         None
     }
 }
 
-/// The root of the unit at a place among the units.
+/// The root of the unit of a number.
 #[tactic(auto, unfolding(base_model::specs::Bases::root_of))]
 fn root<'a, 'u>(units: &'u Units<'a>, unit: u32) -> Option<Entry<'a, 'u>>
     ensures { result ≡ root_of units.now unit }
@@ -37,7 +34,7 @@ fn root<'a, 'u>(units: &'u Units<'a>, unit: u32) -> Option<Entry<'a, 'u>>
     }
 }
 
-/// The attribute of a name of the root of the unit at a place among the units.
+/// The attribute of a name of the root of the unit of a number.
 pub fn root_attribute<'a>(units: &Units<'a>, unit: u32, name: u64) -> Option<Found<'a>>
     ensures { result ≡ root_attribute_told units.now unit name }
 {
@@ -47,7 +44,7 @@ pub fn root_attribute<'a>(units: &Units<'a>, unit: u32, name: u64) -> Option<Fou
     }
 }
 
-/// Whether the unit at a place among the units is in 64-bit DWARF.
+/// Whether the unit of a number is in 64-bit DWARF.
 pub(crate) fn is_wide(units: &Units<'_>, unit: u32) -> bool
     ensures { result ≡ is_wide_told units.now unit }
 {

@@ -6,8 +6,8 @@ use Rattle.placed_view.specs.Steps.{while_left}
 use Rattle.abbrev_model.specs.Abbrev.{Abbrev, find_code}
 use Rattle.unit_model.specs.Values.{Found, values}
 
--- An entry: where it stands in the file, how deep it stands among the entries of its unit, its tag, the place of its
--- unit among the units, and its wanted attributes in the order of the abbreviation.
+-- An entry: where it stands in the file, how deep it stands among the entries of its unit, its tag, the number of its
+-- unit, and its wanted attributes in the order of the abbreviation.
 pub record Entry : Type 0 where
   pub at : ℕ
   pub depth : ℕ
@@ -15,7 +15,7 @@ pub record Entry : Type 0 where
   pub unit : ℕ
   pub found : List Found
 
--- The unit whose entries are read: its place among the units, and whether it is 64-bit DWARF.
+-- The unit whose entries are read: its number, and whether it is 64-bit DWARF.
 pub record InUnit : Type 0 where
   pub unit : ℕ
   pub wide : Bool

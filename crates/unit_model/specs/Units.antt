@@ -8,7 +8,7 @@ use Rattle.unit_model.specs.Header.{Header, header, unit_length}
 use Rattle.unit_model.specs.Entries.{Entry, entries}
 
 -- A unit that is read: where it begins and ends in the file, its version, whether it is 64-bit DWARF, and which of the
--- entries are its own: so many from a place on.
+-- entries are its own: so many from a number on.
 pub record Unit : Type 0 where
   pub at : ℕ
   pub end : ℕ

@@ -6,6 +6,7 @@ use Rattle.std.specs.Option.{option_map_or, option_or}
 use Rattle.refusal.specs.declared.place.Place.{Place}
 use Rattle.value_model.specs.Value.{Value, const}
 use Rattle.range_model.specs.Texts.{Sections, text_of}
+use Rattle.unit_model.specs.Constants.{DW_AT_MIPS_linkage_name, DW_AT_decl_line, DW_AT_linkage_name, DW_AT_name}
 use Rattle.unit_model.specs.Values.{Found}
 use Rattle.unit_model.specs.Entries.{Entry}
 use Rattle.unit_model.specs.Units.{Units}
@@ -28,10 +29,11 @@ attributes_on way = flat_map held_by way
 abbrev pub first_on : ℕ → List Entry → Option Held
 first_on name way = find (λ held. held.found.name == name) (attributes_on way)
 
--- The attribute that names an entry: the first DW_AT_linkage_name on its way, else the first DW_AT_MIPS_linkage_name,
--- else the first DW_AT_name.
+-- The attribute that names an entry: of the first of these names that there is on its way, the first one.
 abbrev pub naming : List Entry → Option Held
-naming way = option_or (first_on 0x6e way) (option_or (first_on 0x2007 way) (first_on 0x03 way))
+naming way =
+    option_or (first_on DW_AT_linkage_name way)
+    (option_or (first_on DW_AT_MIPS_linkage_name way) (first_on DW_AT_name way))
 
 -- A byte that no name has: white space and other control bytes, DEL, and the colon that parts names in a profile.
 abbrev pub parts_names : ℕ → Bool
@@ -64,7 +66,7 @@ number_of other = 0
 
 -- The start line of an entry: the first DW_AT_decl_line on its way, else 0.
 abbrev pub line_on : List Entry → ℕ
-line_on way = option_map_or (λ held. number_of held.found.value) (first_on 0x3b way) 0
+line_on way = option_map_or (λ held. number_of held.found.value) (first_on DW_AT_decl_line way) 0
 
 -- What names an entry in a profile: its name, where it has one, and the line that its lines are counted from.
 pub record Origin : Type 0 where

@@ -6,6 +6,7 @@ use Rattle.refusal.specs.declared.kind.Kind.TheVariants.{BadReference, OriginToo
 use Rattle.refusal.specs.declared.place.Place.{Place}
 use Rattle.refusal.specs.Place.{in_binary}
 use Rattle.value_model.specs.Value.{Value, ref, ref_info}
+use Rattle.unit_model.specs.Constants.{DW_AT_abstract_origin, DW_AT_specification}
 use Rattle.unit_model.specs.Values.{Found}
 use Rattle.unit_model.specs.Entries.{Entry}
 use Rattle.unit_model.specs.Units.{Units}
@@ -16,13 +17,14 @@ pub record Info : Type 0 where
   pub start : ℕ
   pub units : Units
 
--- The attribute by which an entry leads to another one: its DW_AT_abstract_origin, else its DW_AT_specification.
+-- The attribute by which an entry leads to another one.
 abbrev pub reference_of : Entry → Option Found
-reference_of entry = option_or (attribute 0x31 entry.found) (attribute 0x47 entry.found)
+reference_of entry =
+    option_or (attribute DW_AT_abstract_origin entry.found) (attribute DW_AT_specification entry.found)
 
--- Where the unit at a place among the units begins in the file. At a place without a unit this is 0.
+-- Where the unit of a number begins in the file. Of a number without a unit this is 0.
 abbrev pub start_of_unit : Units → ℕ → ℕ
-start_of_unit units place = option_map_or (λ unit. unit.at) (slice_get units.units place) 0
+start_of_unit units number = option_map_or (λ unit. unit.at) (slice_get units.units number) 0
 
 -- The offset in the file that a value of an entry in a unit leads to. A signature leads to none.
 abbrev pub target_of : Info → ℕ → Value → Option ℕ

@@ -85,7 +85,7 @@ behind_call depth frame call count so_far = record {
   frames = frames_to depth frame so_far.frames;
 }
 
--- Behind a unit.
+-- Behind a unit, where no entry of it is left to stand below.
 abbrev pub behind_unit : {T : Type 0} → SoFar T → SoFar T
 behind_unit so_far = record { functions = so_far.functions; pieces = so_far.pieces; frames = [] }
 

@@ -11,7 +11,7 @@ use Rattle.piece_model.specs.Pieces.{InUnit, and_then, pieces}
 use Rattle.way_model.specs.Way.{Info}
 use Rattle.way_model.specs.Origin.{origin}
 use Rattle.tree_model.specs.Members.{Told, call_told, function_told, is_call, is_function}
-use Rattle.tree_model.specs.Frames.{Frame, SoFar, all_members, behind_call, behind_function, behind_other, frame_above, left_out, nothing, one_deeper, outside}
+use Rattle.tree_model.specs.Frames.{Frame, SoFar, all_members, behind_call, behind_function, behind_other, behind_unit, frame_above, left_out, nothing, one_deeper, outside}
 
 -- One step, and behind it the next, which knows what came of it.
 infixl 10 ◌>>=◌
@@ -92,7 +92,7 @@ unfoldable pub next_unit : Source → ℕ → model.Unit → SoFar Told → Resu
 next_unit source number unit so_far = do
   base ← base_address source.sections.texts source.info.units number
   next_entries source (in_unit source number unit base) (entries_of_unit source.info.units.entries unit)
-      (record { functions = so_far.functions; pieces = so_far.pieces; frames = [] })
+      (behind_unit so_far)
 
 -- Units one behind the other, the first having a number.
 abbrev pub next_units : Source → ℕ → List model.Unit → SoFar Told → Result (SoFar Told) Place

@@ -147,8 +147,10 @@ UnitsSoFar-kept section part so_far cur short fits on none =
     let shared = units-share_entries section (start_of part) end.1.0 (units_of so_far) end.1.1 in
     let long = length-take part.len (drop part.at part.file.now) in
     record {
-      ascending = order.ascending;
-      within = λ k d within. let before = (order.within k d within).1 in omega (arith, before, long, fits);
+      order = record {
+        ascending = order.ascending;
+        within = λ k d within. let before = (order.within k d within).1 in (omega arith, omega (arith, before, long, fits));
+      };
       few_units = omega (arith, on.few, long, short);
       few_entries = shared.1;
       shared = shared.0;
@@ -157,8 +159,10 @@ UnitsSoFar-kept section part so_far cur short fits on none =
 -- no units
 pub kept-none : AreKept model.no_units
 kept-none = record {
-  ascending = λ i j d less within. absurd (omega (arith, within));
-  within = λ k d within. absurd (omega (arith, within));
+  order = record {
+    ascending = λ i j d less within. absurd (omega (arith, within));
+    within = λ k d within. absurd (omega (arith, within));
+  };
   few_units = omega arith;
   few_entries = omega arith;
   shared = refl;

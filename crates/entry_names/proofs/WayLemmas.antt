@@ -8,15 +8,15 @@ use Rattle.std.proofs.lemmas.List.Folds.{find_at}
 use Rattle.std.proofs.lemmas.List.Sums.{position_or_len_is}
 use Rattle.std.proofs.lemmas.Option.{slice_get_past, slice_get_within, get_or_from_slice_get}
 use Rattle.unit_model.specs.Entries.{Entry}
+use Rattle.entry_model.specs.Order.{AreInOrder}
 use Rattle.dwarf_info.specs.Found.{FindsEntry}
-use Rattle.entry_names.specs.Order.{AreInOrder}
 use Rattle.way_model.specs.Way.{entry_beginning_at}
 
 -- an entry begins at an offset
 abbrev begins_at : ℕ → Entry → Bool
 begins_at at entry = entry.at == at
 
-at_place : (entries : List Entry) (place : ℕ) (entry : Entry) → AreInOrder entries → slice_get entries place ≡ Some entry
+at_place : (entries : List Entry) (place : ℕ) (entry : Entry) → AreInOrder 0 (2 ^ 64) entries → slice_get entries place ≡ Some entry
     → entry_beginning_at entries entry.at ≡ Some entry
 at_place entries place entry order here =
     let inside : place < length entries = slice_get_within entries place entry here in
@@ -34,7 +34,7 @@ no_place true n len is none = cc
 no_place false n len is none = ltb-false n len is
 
 -- what is found by its place is what begins there
-pub entry_found : (entries : List Entry) (at : ℕ) (found : Option ℕ) → AreInOrder entries → FindsEntry entries at found
+pub entry_found : (entries : List Entry) (at : ℕ) (found : Option ℕ) → AreInOrder 0 (2 ^ 64) entries → FindsEntry entries at found
     → option_and_then (slice_get entries) found ≡ entry_beginning_at entries at
 entry_found entries at None order none =
     let past = no_place (nat_lt (position_or_len (begins_at at) entries) (length entries)) (position_or_len (begins_at at) entries) (length entries) refl none in
@@ -46,10 +46,10 @@ abbrev nowhere : Entry
 nowhere = record { at = 0; depth = 0; tag = 0; unit = 0; found = [] }
 
 -- no entry begins past 64 bits
-pub entry_past : (entries : List Entry) (at : ℕ) → AreInOrder entries → 2 ^ 64 ≤ at → entry_beginning_at entries at ≡ None
+pub entry_past : (entries : List Entry) (at : ℕ) → AreInOrder 0 (2 ^ 64) entries → 2 ^ 64 ≤ at → entry_beginning_at entries at ≡ None
 entry_past entries at order past =
     let before : (k : ℕ) → k < length entries → begins_at at (get_or entries k nowhere) ≡ false = λ k below.
-    let low : (get_or entries k nowhere).at < 2 ^ 64 = order.within k nowhere below in
+    let low : (get_or entries k nowhere).at < 2 ^ 64 = (order.within k nowhere below).1 in
     ne_eqb _ _ (λ same. omega arith) in
     let last = position_or_len_is (begins_at at) entries (length entries) nowhere (omega arith) before (λ below. absurd (omega arith)) in
     find_at (begins_at at) entries ∙ slice_get_past entries _ (omega (arith, last))

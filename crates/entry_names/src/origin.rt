@@ -1,7 +1,7 @@
 ghost use Rattle.std.specs.Prelude.{◌<◌, ◌-◌, ◌^◌, length, Result};
 ghost use Rattle.std.specs.Option.{option_map};
 ghost use Rattle.dwarf_strings.specs.Meaning.{Means, sections_of};
-ghost use Rattle.entry_names.specs.Order.{AreInOrder};
+ghost use Rattle.entry_model.specs.Order.{AreInOrder};
 ghost use Rattle.way_model.specs.Origin.{Origin as told_origin, origin as origin_told, said_on};
 ghost use Rattle.refusal.specs.declared.place.Place.{Place};
 ghost use Rattle.way_model.specs.Way.{way_from};
@@ -51,7 +51,7 @@ pub fn origin_of<'a>(
     entry: &Entry<'a, '_>,
     names: &mut Names<'a>,
 ) -> Result<Origin, Stop>
-    requires order { AreInOrder info.now.units.now.entries }
+    requires order { AreInOrder 0 (2 ^ 64) info.now.units.now.entries }
     requires room { length names.old < 2 ^ 32 - 1 }
     ensures told { TellsOrigin names.new result (origin_told (sections_of info.now.texts.now)
         (info_of info.now) entry.now) }
@@ -72,7 +72,7 @@ pub(crate) fn said_from<'a>(
     steps: u32,
     entry: &Entry<'a, '_>,
 ) -> Result<Said<'a>, Place>
-    requires { AreInOrder info.now.units.now.entries }
+    requires { AreInOrder 0 (2 ^ 64) info.now.units.now.entries }
     ensures { Means said_of result (said_on (sections_of info.now.texts.now) info.now.units.now
         (way_from (info_of info.now) began steps entry.now)) }
 {

@@ -1,7 +1,7 @@
 ghost use Rattle.std.specs.Prelude.{◌≡◌, ◌<◌, ◌-◌, ◌^◌, [], length, IfSome, IsTrue, None, Some};
 ghost use Rattle.dwarf_strings.specs.Meaning.{sections_of};
 ghost use Rattle.base_model.specs.Bases.{attribute as attribute_told};
-ghost use Rattle.entry_names.specs.Order.{AreInOrder};
+ghost use Rattle.entry_model.specs.Order.{AreInOrder};
 ghost use Rattle.way_model.specs.Way.{entry_beginning_at as beginning_told, way_from};
 ghost use Rattle.way_model.specs.Origin.{origin as origin_told, said_on};
 ghost use Rattle.entry_names.specs.Meaning.{Extends, TellsOrigin, info_of};
@@ -75,7 +75,7 @@ impl Origins {
         next: &Entry<'a, '_>,
         names: &mut Names<'a>,
     ) -> Result<Origin, Stop>
-        requires order { AreInOrder info.now.units.now.entries }
+        requires order { AreInOrder 0 (2 ^ 64) info.now.units.now.entries }
         requires room { length names.old < 2 ^ 32 - 1 }
         requires begins { beginning_told info.now.units.now.entries at ≡ Some next.now }
         requires known { Remembers (sections_of info.now.texts.now) (info_of info.now) names.old
@@ -106,7 +106,7 @@ impl Origins {
         entry: &Entry<'a, '_>,
         names: &mut Names<'a>,
     ) -> Result<Origin, Stop>
-        requires order { AreInOrder info.now.units.now.entries }
+        requires order { AreInOrder 0 (2 ^ 64) info.now.units.now.entries }
         requires room { length names.old < 2 ^ 32 - 1 }
         requires known { Remembers (sections_of info.now.texts.now) (info_of info.now) names.old
             self.old }

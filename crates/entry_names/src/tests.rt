@@ -1,5 +1,5 @@
-ghost use Rattle.std.specs.Prelude.{IfSome};
-ghost use Rattle.entry_names.specs.Order.{AreInOrder};
+ghost use Rattle.std.specs.Prelude.{◌^◌, IfSome};
+ghost use Rattle.entry_model.specs.Order.{AreInOrder};
 
 use crate::{Info, Origins, origin_of};
 use byte_view::Part;
@@ -51,7 +51,7 @@ const CHAIN: &'static [u8] = b"\x01\x11\x01\0\0\
 
 // The units of two sections.
 fn read_parts<'a>(alloc: Global, info: Part<'a>, abbrev: Part<'_>) -> Option<Units<'a>>
-    ensures { IfSome result (λ units. AreInOrder units.entries) }
+    ensures { IfSome result (λ units. AreInOrder 0 (2 ^ 64) units.entries) }
 {
     if info.at > 1000 || info.len > 1000 {
         return None;
@@ -64,7 +64,7 @@ fn read_parts<'a>(alloc: Global, info: Part<'a>, abbrev: Part<'_>) -> Option<Uni
 
 // The units of a file, which stand behind its abbreviations from an offset on.
 fn read(alloc: Global, file: &[u8], at: usize) -> Option<Units<'_>>
-    ensures { IfSome result (λ units. AreInOrder units.entries) }
+    ensures { IfSome result (λ units. AreInOrder 0 (2 ^ 64) units.entries) }
 {
     if at > file.len() {
         return None;
@@ -89,7 +89,7 @@ fn told<'a>(
     start: usize,
     at: u64,
 ) -> Option<Result<(Option<&'a [u8]>, u64), Place>>
-    requires { AreInOrder units.now.entries }
+    requires { AreInOrder 0 (2 ^ 64) units.now.entries }
 {
     let place = units.entry_at(at)?;
     let entry = units.entry(place)?;
@@ -113,7 +113,7 @@ fn told<'a>(
 
 // Whether an origin that is kept is the one that is worked out, at the entry at an offset.
 fn kept_is_told(alloc: Global, units: &Units<'_>, start: usize, at: u64) -> Option<bool>
-    requires { AreInOrder units.now.entries }
+    requires { AreInOrder 0 (2 ^ 64) units.now.entries }
 {
     let place = units.entry_at(at)?;
     let entry = units.entry(place)?;

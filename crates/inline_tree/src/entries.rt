@@ -1,6 +1,6 @@
 // The entries of a unit, one behind the other.
 ghost use Rattle.std.specs.Prelude.{◌≡◌, ◌+◌, ◌-◌, ◌<◌, ◌≤◌, ◌^◌, length, OnOk};
-ghost use Rattle.entry_names.specs.Order.{AreInOrder};
+ghost use Rattle.entry_model.specs.Order.{AreInOrder};
 ghost use Rattle.entry_names.specs.Meaning.{Extends};
 ghost use Rattle.piece_model.specs.Pieces.{pieces as pieces_told};
 ghost use Rattle.entry_pieces.specs.Told.{Tells, in_unit};
@@ -52,7 +52,7 @@ fn next_function<'a>(
     origins: &mut Origins,
     so_far: &mut SoFar,
 ) -> Result<(), Stop>
-    requires order { AreInOrder source.now.units.now.entries }
+    requires order { AreInOrder 0 (2 ^ 64) source.now.units.now.entries }
     requires room { length names.old < 2 ^ 32 - 1 }
     requires few { so_far.old.pieces ≤ 2 ^ 26 }
     requires known { Knows (source_of source.now) names.old origins.old }
@@ -102,7 +102,7 @@ fn next_call<'a>(
     origins: &mut Origins,
     so_far: &mut SoFar,
 ) -> Result<(), Stop>
-    requires order { AreInOrder source.now.units.now.entries }
+    requires order { AreInOrder 0 (2 ^ 64) source.now.units.now.entries }
     requires room { length names.old < 2 ^ 32 - 1 }
     requires few { so_far.old.pieces ≤ 2 ^ 26 }
     requires known { Knows (source_of source.now) names.old origins.old }
@@ -142,7 +142,7 @@ pub(crate) fn next_entry<'a>(
     origins: &mut Origins,
     so_far: &mut SoFar,
 ) -> Result<(), Stop>
-    requires order { AreInOrder source.now.units.now.entries }
+    requires order { AreInOrder 0 (2 ^ 64) source.now.units.now.entries }
     requires room { length names.old < 2 ^ 32 - 1 }
     requires few { so_far.old.pieces ≤ 2 ^ 26 }
     requires known { Knows (source_of source.now) names.old origins.old }

@@ -1,5 +1,5 @@
 ghost use Rattle.std.specs.Prelude.{◌<◌, ◌-◌, ◌^◌, length};
-ghost use Rattle.entry_names.specs.Order.{AreInOrder};
+ghost use Rattle.entry_model.specs.Order.{AreInOrder};
 ghost use Rattle.way_model.specs.Origin.{origin as origin_told};
 ghost use Rattle.entry_names.specs.Meaning.{Extends, TellsOrigin};
 ghost use Rattle.inline_tree.specs.Told.{Knows, source_of};
@@ -32,7 +32,7 @@ impl<'a, 's> Source<'a, 's> {
         names: &mut Names<'a>,
         origins: &mut Origins,
     ) -> Result<Origin, Stop>
-        requires order { AreInOrder self.now.units.now.entries }
+        requires order { AreInOrder 0 (2 ^ 64) self.now.units.now.entries }
         requires room { length names.old < 2 ^ 32 - 1 }
         requires known { Knows (source_of self.now) names.old origins.old }
         ensures told { let source = source_of self.now in

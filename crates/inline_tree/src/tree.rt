@@ -2,7 +2,7 @@
 ghost use Rattle.std.specs.Prelude.{◌≡◌, ◌+◌, ◌-◌, ◌<◌, ◌≤◌, ◌^◌, length, OnOk};
 ghost use Rattle.std.specs.Result.{result_err};
 ghost use Rattle.refusal.specs.Place.{JudgesUnlessNoMemory};
-ghost use Rattle.entry_names.specs.Order.{AreInOrder};
+ghost use Rattle.entry_model.specs.Order.{AreInOrder};
 ghost use Rattle.entry_pieces.specs.Told.{in_unit};
 ghost use Rattle.tree_model.specs.Frames.{SoFar as so_far_told};
 ghost use Rattle.tree_model.specs.Members.{Told};
@@ -31,7 +31,7 @@ fn next_entries<'a>(
     origins: &mut Origins,
     so_far: &mut SoFar,
 ) -> Result<(), Stop>
-    requires order { AreInOrder source.now.units.now.entries }
+    requires order { AreInOrder 0 (2 ^ 64) source.now.units.now.entries }
     requires room { length names.old + unit.now.count < 2 ^ 32 - 1 }
     requires few { so_far.old.pieces ≤ 2 ^ 26 }
     requires known { Knows (source_of source.now) names.old origins.old }
@@ -65,7 +65,7 @@ fn next_unit<'a>(
     origins: &mut Origins,
     so_far: &mut SoFar,
 ) -> Result<(), Stop>
-    requires order { AreInOrder source.now.units.now.entries }
+    requires order { AreInOrder 0 (2 ^ 64) source.now.units.now.entries }
     requires room { length names.old + unit.now.count < 2 ^ 32 - 1 }
     requires few { so_far.old.pieces ≤ 2 ^ 26 }
     requires known { Knows (source_of source.now) names.old origins.old }

@@ -23,6 +23,7 @@ use Rattle.line_model.specs.declared.row.Row.{Row}
 use Rattle.line_model.specs.Fields.{unit_at, version_at, sizes_at, opcodes_at, operations_at, lengths_at, header_at, program_at}
 use Rattle.line_model.specs.Program.{rows_at, rows_in}
 use Rattle.line_model.specs.Reading.{operation_at, code_at, extended_at, ulebs_at}
+use Rattle.row_model.specs.Rows.{Sequence, row_in, sequences_of}
 use Rattle.abbrev_model.specs.Abbrev.{find_code}
 use Rattle.abbrev_model.specs.Table.{next_abbrev, table}
 use Rattle.placed_view.specs.Reader.{field, uleb}
@@ -34,6 +35,7 @@ use Rattle.unit_model.specs.Header.{abbrevs_at, address_size, header, header_4, 
 use Rattle.unit_model.specs.Units.{Unit as UnitRead, Units, next_unit, unit_body, units}
 use Rattle.reading_laws.specs.Headers.{SpellsHeader, version_5}
 use Rattle.reading_laws.specs.Loads.{loads}
+use Rattle.reading_laws.specs.Sequences.{Covers}
 use Rattle.reading_laws.specs.Units.{Follow, Part, has, passed, passed_of, read as read_unit, spans_of, unit_of}
 use Rattle.reading_laws.specs.Ranges.{last_base, ranges_at}
 
@@ -227,3 +229,25 @@ rows_of_each : (rows_of_unit lines_section three 0 0 ≡ Ok (Some two_rows)) × 
     × (rows_of_unit lines_section three 2 (row_count (Some two_rows ∷ None ∷ [])) ≡ Ok (Some two_rows))
 unfolding root_of rows_of_unit field_at run_at uleb_at sleb_at operation_at code_at extended_at ulebs_at unit_at version_at sizes_at opcodes_at operations_at lengths_at header_at program_at rows_at rows_in
 rows_of_each = (refl, refl, refl)
+
+-- ---- sequences
+
+abbrev row_at_line : ℕ → ℕ → Bool → Row
+row_at_line address line ends = record { address = address; line = line; disc = 0; ends = ends }
+
+-- two sequences, the second without rows, and a row behind the last end
+abbrev five_rows : List Row
+five_rows = row_at_line 16 1 false ∷ row_at_line 20 2 false ∷ row_at_line 24 2 true ∷ row_at_line 8 3 true ∷ row_at_line 40 4 false ∷ []
+
+abbrev first_sequence : Sequence
+first_sequence = record { rows = row_at_line 16 1 false ∷ row_at_line 20 2 false ∷ []; end = row_at_line 24 2 true }
+
+sequences_made : sequences_of five_rows ≡ first_sequence ∷ record { rows = []; end = row_at_line 8 3 true } ∷ []
+sequences_made = refl
+
+-- its last row covers the addresses up to its end
+row_found : row_in 23 first_sequence ≡ Some (row_at_line 20 2 false)
+row_found = refl
+
+row_covers : Covers first_sequence (row_at_line 20 2 false) 23
+row_covers = record { place = 1; there = refl; next = row_at_line 24 2 true; behind = refl; from = omega arith; to = omega arith }

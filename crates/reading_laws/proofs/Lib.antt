@@ -5,4 +5,5 @@ pub mod ListLemmas
 pub mod LoadLemmas
 pub mod ProgramLemmas
 pub mod RangeLemmas
+pub mod SequenceLemmas
 pub mod UnitLemmas

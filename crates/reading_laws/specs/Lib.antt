@@ -3,4 +3,5 @@ pub mod Lists
 pub mod Loads
 pub mod Programs
 pub mod Ranges
+pub mod Sequences
 pub mod Units

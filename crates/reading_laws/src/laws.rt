@@ -4,6 +4,7 @@ ghost use Rattle.reading_laws.specs.Lists.{ListsAreWhole, WholeListsAreRead};
 ghost use Rattle.reading_laws.specs.Loads.{LastLoadMoves, LinesAreMovedByThoseBefore, UnloadedIsForeign};
 ghost use Rattle.reading_laws.specs.Programs.{ProgramsAreRefusedInOrder, RowsAreByUnit, RowsAreOfTheirProgram, RowsByUnitAreRead};
 ghost use Rattle.reading_laws.specs.Ranges.{RangesAreByEntry};
+ghost use Rattle.reading_laws.specs.Sequences.{LiveSequencesAscend, RowsCoverAddresses, SequencesAreCut};
 ghost use Rattle.reading_laws.specs.Units.{BytesHaveOneUnit, UnitsFillSections};
 
 /// The branches of each line of a branch text are moved by the loads of the lines before it.
@@ -87,4 +88,21 @@ pub fn rows_by_unit_are_read()
 /// Where line programs are refused, the first unit whose program is refused says the place.
 pub fn programs_are_refused_in_order()
     ensures { ProgramsAreRefusedInOrder }
+{}
+
+/// The sequences of a line table are what its rows are cut into, each up to the first row that ends
+/// one.
+pub fn sequences_are_cut()
+    ensures { SequencesAreCut }
+{}
+
+/// A sequence counts exactly where it has rows, its range is code, and its addresses ascend.
+pub fn live_sequences_ascend()
+    ensures { LiveSequencesAscend }
+{}
+
+/// The row of an address is the one that covers it: from its own address up to that of the row
+/// behind it.
+pub fn rows_cover_addresses()
+    ensures { RowsCoverAddresses }
 {}

@@ -34,6 +34,7 @@ use Rattle.unit_model.specs.Entries.{Entry as UnitEntry, entries as unit_entries
 use Rattle.unit_model.specs.Header.{abbrevs_at, address_size, header, header_4, header_5, header_5_behind, sized, unit_length}
 use Rattle.unit_model.specs.Units.{Unit as UnitRead, Units, next_unit, unit_body, units}
 use Rattle.reading_laws.specs.Headers.{SpellsHeader, version_5}
+use Rattle.reading_laws.specs.LoadLines.{SpellsExtent}
 use Rattle.reading_laws.specs.Loads.{loads}
 use Rattle.reading_laws.specs.Sequences.{Covers}
 use Rattle.reading_laws.specs.Units.{Follow, Part, has, passed, passed_of, read as read_unit, spans_of, unit_of}
@@ -48,6 +49,11 @@ lines =
 
 loading : LoadMap
 loading = record { name = codes "/bin/x"; segments = record { offset = 0x1000; size = 0x500; vaddr = 0x401000 } ∷ [] }
+
+-- the addresses of a load line
+extent_spelled : SpellsExtent (codes "[0x5000(0x1000)") 0x5000 0x1000
+unfolding number_of prefixed_of address_of
+extent_spelled = record { from = codes "0x5000"; count = codes "0x1000"; field_is = refl; one_opens = refl; one_closes = refl; start_is = refl; len_is = refl }
 
 -- the samples' branches, as the definition has them and as the lines before them have
 branches_defined : (slice_get (moved_lines loading [] lines) 1 ≡ Some ((Some 0x401004, Some 0x401108) ∷ []))

@@ -1,5 +1,6 @@
 pub mod Headers
 pub mod Lists
+pub mod LoadLines
 pub mod Loads
 pub mod Programs
 pub mod Ranges

@@ -1,11 +1,17 @@
 // The definitions seen from the other side.
 ghost use Rattle.reading_laws.specs.Headers.{ReadHeadersAreSpelled, ReadLengthsAreSpelled, SpelledHeadersAreRead, SpelledLengthsAreRead};
 ghost use Rattle.reading_laws.specs.Lists.{ListsAreWhole, WholeListsAreRead};
+ghost use Rattle.reading_laws.specs.LoadLines.{LoadLinesAreSpelled};
 ghost use Rattle.reading_laws.specs.Loads.{LastLoadMoves, LinesAreMovedByThoseBefore, UnloadedIsForeign};
 ghost use Rattle.reading_laws.specs.Programs.{ProgramsAreRefusedInOrder, RowsAreByUnit, RowsAreOfTheirProgram, RowsByUnitAreRead};
 ghost use Rattle.reading_laws.specs.Ranges.{RangesAreByEntry};
 ghost use Rattle.reading_laws.specs.Sequences.{LiveSequencesAscend, RowsCoverAddresses, SequencesAreCut};
 ghost use Rattle.reading_laws.specs.Units.{BytesHaveOneUnit, UnitsFillSections};
+
+/// The load lines are those that are spelled so, and they tell the loads that these spell.
+pub fn load_lines_are_spelled()
+    ensures { LoadLinesAreSpelled }
+{}
 
 /// The branches of each line of a branch text are moved by the loads of the lines before it.
 pub fn lines_are_moved_by_those_before()

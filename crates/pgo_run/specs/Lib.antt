@@ -1,5 +1,6 @@
 pub mod BranchText
 pub mod Halt
+pub mod Opens
 pub mod Output
 pub mod Profile
 pub mod Run

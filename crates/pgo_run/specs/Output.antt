@@ -1,5 +1,5 @@
 -- What is made before the first write: the output, or what ends the command without it.
-use Rattle.std.specs.Prelude.{◌≡◌, ℕ, ◌+◌, ◌-◌, ◌^◌, ◌<◌, ◌≤◌, ⊤, Bool, true, false, min, List, length, take, Option, None, Some, Result, Ok, Err}
+use Rattle.std.specs.Prelude.{◌≡◌, ℕ, ◌-◌, ⊤, Bool, true, false, List, take, Option, None, Some, Result, Ok, Err}
 use Rattle.refusal.specs.Place.{size_item}
 use Rattle.std.specs.Global.{Vec}
 use Rattle.io_edge.specs.Faults.{HasCauseWhere}
@@ -62,25 +62,6 @@ IfReadFault (Err (NoSuchFile j)) P = ⊤
 IfReadFault (Err (Refused place)) P = ⊤
 IfReadFault (Err (ReadFault j)) P = P j
 IfReadFault (Err NoMemory) P = ⊤
-
--- A count of opens, after so many more; it stands still at its end.
-abbrev pub opens_behind : ℕ → ℕ → ℕ
-opens_behind opens more = min (opens + more) (2 ^ 64 - 1)
-
--- k is the number of one of the command's files, and k files were opened.
-pub record Reaches (command : Command) (k opens opens_after : ℕ) : Type 0 where
-  pub first : 0 < k
-  pub last : k ≤ length (files_of command)
-  pub opened : opens_after ≡ opens_behind opens k
-
--- As many files were opened as what ends the command tells: all of its files for an output, those up to a file that is
--- missing or could not be read, and else not more than it has.
-abbrev pub HasOpened : {A : Type 0} → Command → Result A Halt → ℕ → ℕ → Type 0
-HasOpened command (Ok x) opens opens_after = opens_after ≡ opens_behind opens (length (files_of command))
-HasOpened command (Err (NoSuchFile k)) opens opens_after = Reaches command k opens opens_after
-HasOpened command (Err (Refused place)) opens opens_after = opens_after ≤ opens_behind opens (length (files_of command))
-HasOpened command (Err (ReadFault k)) opens opens_after = Reaches command k opens opens_after
-HasOpened command (Err NoMemory) opens opens_after = opens_after ≤ opens_behind opens (length (files_of command))
 
 -- The files before the k-th are there and good.
 abbrev pub AreGoodBefore : Store → Command → ℕ → Type 0

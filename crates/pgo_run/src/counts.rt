@@ -3,7 +3,8 @@ ghost use Rattle.std.specs.Prelude.{◌≡◌, IfSome};
 ghost use Rattle.io_edge.specs.Faults.{HasCauseWhere};
 ghost use Rattle.command_model.specs.Answer.{answer_of_command};
 ghost use Rattle.command_model.specs.Command.{counts as counts_command};
-ghost use Rattle.pgo_run.specs.Output.{AreGoodBefore, HasOpened, IfReadFault, Makes, tells_read_fault};
+ghost use Rattle.pgo_run.specs.Opens.{HasOpened};
+ghost use Rattle.pgo_run.specs.Output.{AreGoodBefore, IfReadFault, Makes, tells_read_fault};
 
 use crate::branch_text::count_text;
 use crate::halt::Halt;

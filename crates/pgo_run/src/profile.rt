@@ -7,7 +7,8 @@ ghost use Rattle.elf_model.specs.Segments.{code_loads};
 ghost use Rattle.branch_stacks.specs.Reader.{new_reading_by};
 ghost use Rattle.command_model.specs.Answer.{answer_of_command};
 ghost use Rattle.sampled_profile.specs.Output.{loading_of};
-ghost use Rattle.pgo_run.specs.Output.{AreGoodBefore, HasFileCause, HasOpened, IfReadFault, Makes, tells_read_fault};
+ghost use Rattle.pgo_run.specs.Opens.{HasOpened};
+ghost use Rattle.pgo_run.specs.Output.{AreGoodBefore, HasFileCause, IfReadFault, Makes, tells_read_fault};
 ghost use Rattle.pgo_run.specs.Profile.{SamplesFile};
 ghost use Rattle.command_words.specs.Words.{profile_asked};
 

@@ -5,8 +5,9 @@ ghost use Rattle.io_edge.specs.Sink.{AppendsPrefix};
 ghost use Rattle.refusal.specs.declared.place.Place.{Place};
 ghost use Rattle.command_model.specs.Answer.{answer_of, answer_of_command, fails_check, no_such_file, refused, writes};
 ghost use Rattle.command_model.specs.Command.{command_of};
-ghost use Rattle.pgo_run.specs.Run.{AgreesWithOpens, ComesExactly, HasWritten, IsWithoutFault, IsWithoutOutput};
-ghost use Rattle.pgo_run.specs.Output.{AreGoodBefore, HasOpened, IfReadFault, Makes, Reaches, tells_read_fault};
+ghost use Rattle.pgo_run.specs.Run.{ComesExactly, HasWritten, IsWithoutFault, IsWithoutOutput};
+ghost use Rattle.pgo_run.specs.Opens.{AgreesWithOpens, HasOpened, Reaches};
+ghost use Rattle.pgo_run.specs.Output.{AreGoodBefore, IfReadFault, Makes, tells_read_fault};
 ghost use Rattle.command_words.specs.Words.{meaning_of, texts_of};
 
 use crate::halt::Halt;

@@ -7,7 +7,8 @@ ghost use Rattle.binary_model.specs.Places.{place_of_address};
 ghost use Rattle.command_model.specs.Answer.{answer_of_command};
 ghost use Rattle.command_model.specs.Command.{where_ as where_command};
 ghost use Rattle.command_model.specs.Where.{where_text};
-ghost use Rattle.pgo_run.specs.Output.{AreGoodBefore, HasOpened, IfReadFault, Makes, tells_read_fault};
+ghost use Rattle.pgo_run.specs.Opens.{HasOpened};
+ghost use Rattle.pgo_run.specs.Output.{AreGoodBefore, IfReadFault, Makes, tells_read_fault};
 
 use crate::halt::Halt;
 use crate::order::{MAX_BINARY, read_file};

@@ -1,0 +1,44 @@
+-- How many files a command opened, by what it came to.
+use Rattle.std.specs.Prelude.{◌≡◌, ◌≤◌, ◌<◌, ℕ, ◌+◌, ◌-◌, ◌^◌, min, length, Result, Ok, Err}
+use Rattle.command_model.specs.Command.{Command}
+use Rattle.command_model.specs.Files.{files_of}
+use Rattle.pgo_run.specs.Halt.{status_of}
+use Rattle.pgo_run.specs.declared.halt.Halt.{Halt}
+use Rattle.pgo_run.specs.declared.status.Status.{Status}
+use Rattle.pgo_run.specs.declared.status.Status.TheVariants.{Done, CheckFailed, Usage, NoSuchFile, Refused, ReadFault, WriteFault, NoMemory}
+
+-- A count of opens, after so many more; it stands still at its end.
+abbrev pub opens_behind : ℕ → ℕ → ℕ
+opens_behind opens more = min (opens + more) (2 ^ 64 - 1)
+
+-- All files of the command were opened.
+abbrev pub ReachesAll : Command → ℕ → ℕ → Type 0
+ReachesAll command opens opens_after = opens_after ≡ opens_behind opens (length (files_of command))
+
+-- k is the number of one of the command's files, and k files were opened.
+pub record Reaches (command : Command) (k opens opens_after : ℕ) : Type 0 where
+  pub first : 0 < k
+  pub last : k ≤ length (files_of command)
+  pub opened : opens_after ≡ opens_behind opens k
+
+-- A file of the command was opened, and not more than it has.
+pub record ReachesSome (command : Command) (opens opens_after : ℕ) : Type 0 where
+  pub least : opens_behind opens 1 ≤ opens_after
+  pub most : opens_after ≤ opens_behind opens (length (files_of command))
+
+-- As many files were opened as the status tells: all that the command has where they were good, those up to a file that
+-- is missing or could not be read, and up to some file where one is bad or memory was refused. A command is no `Usage`.
+abbrev pub AgreesWithOpens : Command → Status → ℕ → ℕ → Type 0
+AgreesWithOpens command Done opens opens_after = ReachesAll command opens opens_after
+AgreesWithOpens command (CheckFailed line) opens opens_after = ReachesAll command opens opens_after
+AgreesWithOpens command WriteFault opens opens_after = ReachesAll command opens opens_after
+AgreesWithOpens command (NoSuchFile k) opens opens_after = Reaches command k opens opens_after
+AgreesWithOpens command (ReadFault k) opens opens_after = Reaches command k opens opens_after
+AgreesWithOpens command (Refused place) opens opens_after = ReachesSome command opens opens_after
+AgreesWithOpens command NoMemory opens opens_after = ReachesSome command opens opens_after
+AgreesWithOpens command Usage opens opens_after = ⊥
+
+-- The same before the first write: with an output, or what ends the command without one.
+abbrev pub HasOpened : {A : Type 0} → Command → Result A Halt → ℕ → ℕ → Type 0
+HasOpened command (Ok output) opens opens_after = AgreesWithOpens command Done opens opens_after
+HasOpened command (Err halt) opens opens_after = AgreesWithOpens command (status_of halt) opens opens_after

@@ -1,15 +1,14 @@
 -- The options of a sampled program, one behind the other.
-use Rattle.std.proofs.Common.{◌≡◌, ◌<◌, ◌≤◌, ◌+◌, ◌&&◌, ◌||◌, ℕ, Bool, true, false, nat_lt, List, [], ◌∷◌, drop, length, Option, None, Some, refl, sym, ap, subst, ◌∙◌, arith, get_or}
+use Rattle.std.proofs.Common.{◌≡◌, ◌<◌, ◌≤◌, ◌+◌, ◌&&◌, ◌||◌, ℕ, Bool, true, false, nat_lt, List, [], ◌∷◌, ◌++◌, drop, take, length, map, Option, None, Some, refl, sym, ap, subst, ◌∙◌, arith, get_or}
 use Rattle.std.specs.Prelude.{codes, cond, count_by, filter_map, is_some, option_and_then, slice_get, if◌then◌else◌}
 use Rattle.std.specs.List.{cons_option, list_all, list_any}
 use Rattle.std.specs.Global.{Vec}
 use Rattle.std.specs.Cmp.Lexicographic.{bytes_decides}
 use Rattle.std.proofs.lemmas.Bool.{ltb-true}
+use Rattle.std.proofs.lemmas.List.{map-append, map_push, take-append-drop, take_more}
 use Rattle.std.proofs.lemmas.List.Sums.{sum_by-cons}
 use Rattle.command_model.specs.Command.{Sampling, is_base, is_map, map_name, sampling_of}
-use Rattle.command_words.specs.Options.{with_option}
 use Rattle.command_words.specs.Words.{texts_of}
-use Rattle.command_words.proofs.CommandLemmas.{drop-item}
 
 abbrev both : Bool → ℕ → ℕ → Sampling → Option Sampling
 both known bases maps said = if known && (nat_lt bases 2 && nat_lt maps 2) then Some said else None
@@ -89,9 +88,13 @@ by-shape said word words = same
     (ap (λ n. n + cond said.base 1 0) (sum_by-cons (λ w. cond (is_base w) 1 0) word words))
     (ap (λ n. n + cond (is_some said.map) 1 0) (sum_by-cons (λ w. cond (is_map w) 1 0) word words))
 
+-- One word more, unless it is no option or the second one of its kind.
+abbrev pub with_word : Sampling → List ℕ → Option Sampling
+with_word said word = with_by (is_base word) (map_name word) said.map said.base
+
 -- Words say what the first of them says with those behind it.
 pub next-option : (said : Sampling) (word : List ℕ) (words : List (List ℕ))
-    → sampling_behind said (word ∷ words) ≡ option_and_then (λ more. sampling_behind more words) (with_option said word)
+    → sampling_behind said (word ∷ words) ≡ option_and_then (λ more. sampling_behind more words) (with_word said word)
 next-option said word words =
     by-shape said word words
     ∙ next-shape (is_base word) (map_name word) said.map said.base _ _ _ _ _ (base-name word)
@@ -109,22 +112,58 @@ pub from-start : (words : List (List ℕ)) → sampling_behind (record { map = N
 unfolding sampling_of
 from-start words = same (list_all (λ word. is_base word || is_map word) words) _ (count_by is_base words + 0) (count_by is_base words) (count_by is_map words + 0) (count_by is_map words) (omega arith) (omega arith)
 
--- The words from a place on, by the first of them.
-pub next_word : (words : List (Vec ℕ)) (n : ℕ) (word : Vec ℕ) → n < length words → word ≡ get_or words n word
-    → texts_of (drop n words) ≡ word.items ∷ texts_of (drop (n + 1) words)
-next_word words n word within is = ap texts_of (drop-item words n word within is)
+-- What is said behind some words is what all of them say; where these say nothing, nothing is.
+behind-all : (words rest : List (List ℕ)) (before said : Sampling) → sampling_behind before words ≡ Some said
+    → sampling_behind before (words ++ rest) ≡ sampling_behind said rest
+behind-all [] rest before said is =
+    let both_are : Some before ≡ Some said = sym (all-said before) ∙ is in
+    let same_are : before ≡ said = cc in
+    ap (λ s. sampling_behind s rest) same_are
+behind-all (word ∷ words) rest before said is = by_step (λ more. behind-all words rest more said) (with_word before word) refl
+  where
+    by_step : ((more : Sampling) → sampling_behind more words ≡ Some said → sampling_behind more (words ++ rest) ≡ sampling_behind said rest) → (o : Option Sampling) → with_word before word ≡ o → sampling_behind before (word ∷ words ++ rest) ≡ sampling_behind said rest
+    by_step later None none =
+        let e : None ≡ Some said = sym (ap (option_and_then (λ m. sampling_behind m words)) none) ∙ sym (next-option before word words) ∙ is in absurd cc
+    by_step later (Some more) step =
+        next-option before word (words ++ rest) ∙ ap (option_and_then (λ m. sampling_behind m (words ++ rest))) step
+        ∙ later more (sym (ap (option_and_then (λ m. sampling_behind m words)) step) ∙ sym (next-option before word words) ∙ is)
 
--- An option is taken, or it ends the reading.
-pub taken : (options : List (List ℕ)) (said more : Sampling) (all left : List (List ℕ)) (word : List ℕ)
-    → sampling_behind said left ≡ sampling_of all → left ≡ word ∷ options → with_option said word ≡ Some more
-    → sampling_behind more options ≡ sampling_of all
-taken options said more all left word so_far split step =
-    sym (ap (λ s. option_and_then (λ m. sampling_behind m options) s) step) ∙ sym (next-option said word options)
-    ∙ sym (ap (sampling_behind said) split) ∙ so_far
+none-behind : (words rest : List (List ℕ)) (before : Sampling) → sampling_behind before words ≡ None → sampling_behind before (words ++ rest) ≡ None
+none-behind [] rest before is = let e : Some before ≡ None = sym (all-said before) ∙ is in absurd cc
+none-behind (word ∷ words) rest before is = by_step (none-behind words rest) (with_word before word) refl
+  where
+    by_step : ((more : Sampling) → sampling_behind more words ≡ None → sampling_behind more (words ++ rest) ≡ None) → (o : Option Sampling) → with_word before word ≡ o → sampling_behind before (word ∷ words ++ rest) ≡ None
+    by_step later None none = next-option before word (words ++ rest) ∙ ap (option_and_then (λ m. sampling_behind m (words ++ rest))) none
+    by_step later (Some more) step =
+        next-option before word (words ++ rest) ∙ ap (option_and_then (λ m. sampling_behind m (words ++ rest))) step
+        ∙ later more (sym (ap (option_and_then (λ m. sampling_behind m words)) step) ∙ sym (next-option before word words) ∙ is)
 
-pub ended : (options : List (List ℕ)) (said : Sampling) (all left : List (List ℕ)) (word : List ℕ)
-    → sampling_behind said left ≡ sampling_of all → left ≡ word ∷ options → with_option said word ≡ None
-    → None ≡ sampling_of all
-ended options said all left word so_far split step =
-    sym (ap (λ s. option_and_then (λ m. sampling_behind m options) s) step) ∙ sym (next-option said word options)
-    ∙ sym (ap (sampling_behind said) split) ∙ so_far
+nothing_behind : (o : Option Sampling) → option_and_then (λ m. sampling_behind m []) o ≡ o
+nothing_behind None = refl
+nothing_behind (Some said) = all-said said
+
+abbrev nothing_said : Sampling
+nothing_said = record { map = None; base = false }
+
+pub no-words : sampling_of [] ≡ Some (record { map = None; base = false })
+no-words = sym (from-start []) ∙ all-said nothing_said
+
+-- One word more.
+pub one_more : (said : Sampling) (word : List ℕ) (words : List (List ℕ)) (r : Option Sampling) → r ≡ with_word said word
+    → sampling_of words ≡ Some said → r ≡ sampling_of (words ++ word ∷ [])
+one_more said word words r is all =
+    is ∙ sym (nothing_behind (with_word said word)) ∙ sym (next-option said word [])
+    ∙ sym (behind-all words (word ∷ []) nothing_said said (from-start words ∙ all)) ∙ from-start (words ++ word ∷ [])
+
+-- Words that say nothing say nothing with more behind them.
+pub none_more : (words rest : List (List ℕ)) → sampling_of words ≡ None → sampling_of (words ++ rest) ≡ None
+none_more words rest none = sym (from-start (words ++ rest)) ∙ none-behind words rest nothing_said (from-start words ∙ none)
+
+-- The words up to a place, by the last of them.
+pub words_up_to : (words : List (Vec ℕ)) (n : ℕ) (word : Vec ℕ) → n < length words → word ≡ get_or words n word
+    → texts_of (take (n + 1) words) ≡ texts_of (take n words) ++ word.items ∷ []
+words_up_to words n word within is =
+    ap texts_of (take_more words n word within ∙ ap (λ (w : Vec ℕ). take n words ++ w ∷ []) (sym is)) ∙ map_push (λ w. w.items) (take n words) word
+
+pub all_words : (words : List (Vec ℕ)) (n : ℕ) → texts_of words ≡ texts_of (take n words) ++ texts_of (drop n words)
+all_words words n = ap texts_of (sym (take-append-drop n words)) ∙ map-append (λ (w : Vec ℕ). w.items) (take n words) (drop n words)

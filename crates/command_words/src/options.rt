@@ -1,8 +1,7 @@
 // The options of commands that read a binary with samples of it.
-ghost use Rattle.std.specs.Prelude.{◌≡◌};
+ghost use Rattle.std.specs.Prelude.{◌≡◌, ◌∷◌, ◌++◌, [], ℕ, List};
 ghost use Rattle.std.specs.Option.{option_map};
 ghost use Rattle.command_model.specs.Command.{is_base as base_told, map_name as name_told, sampling_of as sampling_told};
-ghost use Rattle.command_words.specs.Options.{with_option as with_told};
 ghost use Rattle.command_words.specs.Words.{texts_of, told_sampling};
 
 /// How the addresses of samples, and the places of a binary, are told.
@@ -30,8 +29,8 @@ pub(crate) fn sampling_of(options: &[Vec<u8>]) -> Option<Sampling<'_>>
 
 /// What options say with one more, unless it is none or the second one of its kind.
 fn with_option<'a>(sampling: Sampling<'a>, option: &'a [u8]) -> Option<Sampling<'a>>
-    ensures { option_map told_sampling result
-        ≡ with_told (told_sampling sampling.entry) option.now }
+    ensures { (words : List (List ℕ)) → sampling_told words ≡ Some (told_sampling sampling.entry)
+        → option_map told_sampling result ≡ sampling_told (words ++ option.now ∷ []) }
 {
     if is_base(option) {
         return if sampling.base {

@@ -20,12 +20,12 @@ abbrev pub max_binary_bytes : ℕ
 max_binary_bytes = 2 ^ 30
 
 -- The units of `.debug_info`, by the abbreviations in `.debug_abbrev`. Without `.debug_info` there are none.
-abbrev pub units_in : Option Cursor → Option Cursor → Read Units
-units_in None abbrevs = Ok (no_units, record { at = 0; left = [] })
-units_in (Some info) abbrevs = units abbrevs info
+abbrev pub units_by : Option Cursor → Option Cursor → Read Units
+units_by None abbrevs = Ok (no_units, record { at = 0; left = [] })
+units_by (Some info) abbrevs = units abbrevs info
 
 unfoldable pub units_read : List ℕ → Read Units
-units_read file = units_in (section_at file (codes ".debug_info")) (section_at file (codes ".debug_abbrev"))
+units_read file = units_by (section_at file (codes ".debug_info")) (section_at file (codes ".debug_abbrev"))
 
 -- What was read, where it is good. Of a binary that is refused nothing more is asked.
 abbrev pub units_or_none : Read Units → Units
@@ -36,9 +36,13 @@ abbrev pub list_or_none : {X : Type 0} → Result (List X) Place → List X
 list_or_none (Ok list) = list
 list_or_none (Err place) = []
 
+-- The units of a good binary.
+abbrev pub units_in : List ℕ → Units
+units_in file = units_or_none (units_read file)
+
 -- The rows of each unit's line program.
 unfoldable pub rows_read : List ℕ → Result (List (Option (List Row))) Place
-rows_read file = rows_of_units (section_at file (codes ".debug_line")) (units_or_none (units_read file))
+rows_read file = rows_of_units (section_at file (codes ".debug_line")) (units_in file)
 
 -- What the entries are read by.
 abbrev pub source_of : List ℕ → Source
@@ -47,7 +51,7 @@ source_of file = record {
   sections = range_sections file;
   info = record {
     start = option_map_or (λ cur. cur.at) (section_at file (codes ".debug_info")) 0;
-    units = units_or_none (units_read file);
+    units = units_in file;
   };
 }
 

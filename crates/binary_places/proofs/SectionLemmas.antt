@@ -18,7 +18,7 @@ use Rattle.elf_model.specs.Sections.{bytes_of, section, start}
 use Rattle.elf_model.specs.Tables.{SectionHeader}
 use Rattle.elf_sections.specs.Found.{Finds, IsPiece}
 use Rattle.binary_model.specs.Sections.{bytes_in, piece_of, range_sections, section_at}
-use Rattle.binary_model.specs.Binary.{units_in, units_read}
+use Rattle.binary_model.specs.Binary.{units_by, units_read}
 use Rattle.binary_places.specs.Sections.{IsSection}
 
 piece-same : (found : Option Part) → range_parts.piece_of found ≡ piece_of (option_map start_of found)
@@ -35,7 +35,7 @@ piece-is file name found is = piece-same found ∙ ap piece_of is.stands
 pub bytes-are : (file name : List ℕ) (found : Option Part) → IsSection file name found → texts.bytes_of found ≡ bytes_in (section_at file name)
 bytes-are file name found is = bytes-same found ∙ ap bytes_in is.stands
 
-told-in : (info abbrevs : Option Part) → units_told info abbrevs ≡ units_in (option_map start_of info) (option_map start_of abbrevs)
+told-in : (info abbrevs : Option Part) → units_told info abbrevs ≡ units_by (option_map start_of info) (option_map start_of abbrevs)
 told-in None abbrevs = refl
 told-in (Some info) abbrevs = refl
 
@@ -44,7 +44,7 @@ pub units-are : (file : List ℕ) (info abbrevs : Option Part) → IsSection fil
     → units_told info abbrevs ≡ units_read file
 unfolding units_read
 units-are file info abbrevs is are =
-    told-in info abbrevs ∙ ap (λ i. units_in i (option_map start_of abbrevs)) is.stands ∙ ap (λ a. units_in (section_at file (codes ".debug_info")) a) are.stands
+    told-in info abbrevs ∙ ap (λ i. units_by i (option_map start_of abbrevs)) is.stands ∙ ap (λ a. units_by (section_at file (codes ".debug_info")) a) are.stands
 
 -- ---- what a look-up finds
 

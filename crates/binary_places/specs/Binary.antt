@@ -11,7 +11,7 @@ use Rattle.inline_tree.specs.Told.{AreTold}
 use Rattle.key_segments.specs.Segments.{HaveSegments}
 use Rattle.context_map.specs.Maps.{IsMap, place_told, rows_of}
 use Rattle.profile_model.specs.Ways.{Way}
-use Rattle.binary_model.specs.Binary.{members_in, tables_in, units_or_none, units_read}
+use Rattle.binary_model.specs.Binary.{members_in, tables_in, units_in}
 use Rattle.binary_model.specs.Places.{Place, outside, nameless, no_line, at_way, way_of}
 use Rattle.binary_places.specs.declared.binary.Binary.{Binary}
 
@@ -23,8 +23,8 @@ pub record IsBinary (file : List ℕ) (base : Bool) (binary : Binary) : Type 0 w
   pub map : IsMap (rows_of (tables_in file)) base members binary.keys binary.map
   pub used : HaveSegments 0 binary.keys binary.map.segments
   pub loads_are : binary.loads.items ≡ code_loads file
-  pub read_are : binary.read ≡ length (units_or_none (units_read file)).units
-  pub passed_are : binary.passed ≡ length (units_or_none (units_read file)).skipped
+  pub read_are : binary.read ≡ length (units_in file).units
+  pub passed_are : binary.passed ≡ length (units_in file).skipped
 
 -- All names in a key have numbers.
 pub record IsGiven (names : List (List ℕ)) (key : Key) : Type 0 where

@@ -4,10 +4,9 @@ use Rattle.std.specs.Option.{option_map}
 use Rattle.text_model.specs.Lines.{lines_of}
 use Rattle.elf_model.specs.Segments.{code_loads}
 use Rattle.sample_model.specs.Moves.{LoadMap, branches_by, ranges_by}
-use Rattle.unit_model.specs.Units.{Units}
 use Rattle.profile_model.specs.Text.{profile_text}
 use Rattle.report_model.specs.Report.{Sampled, report_text}
-use Rattle.binary_model.specs.Binary.{units_or_none, units_read}
+use Rattle.binary_model.specs.Binary.{units_in}
 use Rattle.sampled_profile.specs.Program.{Program, program_of}
 use Rattle.sampled_profile.specs.Sampled.{classes_of, profile_of}
 
@@ -19,10 +18,6 @@ output_text program sampled =
 -- What moves the addresses of a branch text, where the binary has a name in its load lines.
 abbrev pub loading_of : Option (List ℕ) → List ℕ → Option LoadMap
 loading_of name binary = option_map (λ name. record { name = name; segments = code_loads binary }) name
-
--- The units of a good binary.
-abbrev pub units_in : List ℕ → Units
-units_in binary = units_or_none (units_read binary)
 
 -- What the lines of a branch text sample of a binary, moved or as they stand.
 abbrev pub sampled_by : Option LoadMap → List ℕ → List (List ℕ) → Sampled

@@ -5,14 +5,14 @@ use Rattle.elf_model.specs.Segments.{code_loads}
 use Rattle.key_types.specs.declared.key.Key.{Key}
 use Rattle.key_types.specs.declared.ids.KeyId.{KeyId}
 use Rattle.key_types.specs.declared.places.Where.{Where}
-use Rattle.key_types.specs.declared.places.Where.TheVariants.{Outside, Nameless, NoLine, At}
 use Rattle.chain_model.specs.declared.member.Member.{Member}
 use Rattle.inline_tree.specs.Told.{AreTold}
 use Rattle.key_segments.specs.Segments.{HaveSegments}
 use Rattle.context_map.specs.Maps.{IsMap, place_told, rows_of}
 use Rattle.profile_model.specs.Ways.{Way}
 use Rattle.binary_model.specs.Binary.{members_in, tables_in, units_in}
-use Rattle.binary_model.specs.Places.{Place, outside, nameless, no_line, at_way, way_of}
+use Rattle.binary_model.specs.Places.{Place, way_of}
+use Rattle.binary_model.specs.Shown.{ShowsBy}
 use Rattle.binary_places.specs.declared.binary.Binary.{Binary}
 
 -- The map is that of the binary's members, whose names have numbers among the names, and each key has a segment in it;
@@ -38,9 +38,6 @@ pub record IsWay (names : List (List ℕ)) (keys : List Key) (way : Way) (id : K
   pub given : IsGiven names key
   pub way_is : way ≡ way_of names key
 
--- An answer of a map shows a place.
+-- An answer of a map shows a place, a way by a key whose names all have numbers.
 abbrev pub Shows : List (List ℕ) → List Key → Place → Where → Type 0
-Shows names keys outside answer = answer ≡ Outside
-Shows names keys nameless answer = answer ≡ Nameless
-Shows names keys no_line answer = answer ≡ NoLine
-Shows names keys (at_way way) answer = (id : KeyId) × (answer ≡ At id) × IsWay names keys way id
+Shows names keys place answer = ShowsBy (IsWay names keys) place answer

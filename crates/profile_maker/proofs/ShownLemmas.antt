@@ -59,8 +59,10 @@ place_shown names keys (at_way way) answer shown =
     let is : IsWay names keys way shown.0 = shown.2 in (
       shown.0,
       shown.1,
-      slice_get_within keys shown.0.0 is.key is.at_number,
-      ap (λ key. map (named names) (steps_of_given key)) is.at_number ∙ key_alike names is.key ∙ sym is.way_is,
+      record {
+        inside = slice_get_within keys shown.0.0 is.key is.at_number;
+        way_is = ap (λ key. map (named names) (steps_of_given key)) is.at_number ∙ key_alike names is.key ∙ sym is.way_is;
+      },
     )
 
 -- ---- the same member by two numberings of names

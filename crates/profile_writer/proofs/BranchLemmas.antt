@@ -91,7 +91,7 @@ call_row all keys way name (at_way w) from shown None answer named to times =
     ∙ sym (and_false (same_way way w) times)
 call_row all keys way name (at_way w) from shown (Some n) answer named to times =
     (λ i. option_map_or (call_weight all keys way name) (call_from (shown.1 i) (class_by (named.1 i) from to) times) 0)
-    ∙ (λ i. cond (same_way way (shown.3 i) && same_name name (unwrap_or (named.2 i) [])) times 0)
+    ∙ (λ i. cond (same_way way (shown.2.way_is i) && same_name name (unwrap_or (named.2 i) [])) times 0)
 
 call_member : (way : Way) (name : List ℕ) (w : Option Way) (o : Option (List ℕ))
     → option_map_or (λ (c : Way × List ℕ × ℕ). cond (same_way way c.0 && same_name name c.1) c.2 0) (call_by w o) 0 ≡ cond (ways way w && names name o) 1 0
@@ -216,7 +216,7 @@ module _ (program : Program) (all : List (List ℕ)) (keys : List Key) (segments
         where
           no_key : (x : KeyId) → NoLine ≡ At x → ⊥
           no_key x q = cc
-      by_place (at_way w) is = subst (λ (x : KeyId). x.0 < length keys) (inner is.0 id (sym is.1 ∙ e)) is.2
+      by_place (at_way w) is = subst (λ (x : KeyId). x.0 < length keys) (inner is.0 id (sym is.1 ∙ e)) is.2.inside
         where
           inner : (x y : KeyId) → At x ≡ At y → x ≡ y
           inner x y q = cc

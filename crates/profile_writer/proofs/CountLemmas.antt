@@ -142,7 +142,7 @@ key_of_way : (all : List (List ℕ)) (keys : List Key) (place : Place) (answer :
 key_of_way all keys outside answer shown way e = absurd (no_way way e)
 key_of_way all keys nameless answer shown way e = absurd (no_way way e)
 key_of_way all keys no_line answer shown way e = absurd (no_way way e)
-key_of_way all keys (at_way w) answer shown way e = (shown.0, ap key_of shown.1, shown.2, shown.3 ∙ way_there way w e)
+key_of_way all keys (at_way w) answer shown way e = (shown.0, ap key_of shown.1, shown.2.inside, shown.2.way_is ∙ way_there way w e)
 
 -- a place with the number of a key has the way of that key
 way_of_key : (all : List (List ℕ)) (keys : List Key) (place : Place) (answer : Where) → ShowsPlace all keys place answer → (n : ℕ) → key_of answer ≡ Some n
@@ -152,7 +152,7 @@ way_of_key all keys nameless answer shown n e = absurd (no_number n (sym (ap key
 way_of_key all keys no_line answer shown n e = absurd (no_number n (sym (ap key_of shown) ∙ e))
 way_of_key all keys (at_way w) answer shown n e =
     let same : shown.0.0 ≡ n = number_there shown.0.0 n (sym (ap key_of shown.1) ∙ e) in
-    ap (λ z. Some z) (sym shown.3 ∙ ap (way_at all keys) same)
+    ap (λ z. Some z) (sym shown.2.way_is ∙ ap (way_at all keys) same)
 
 has_from : (way : Way) (o : Option Way) → o ≡ Some way → option_map_or (same_way way) o false ≡ true
 has_from way o e = ap (λ x. option_map_or (same_way way) x false) e ∙ way_itself way

@@ -11,7 +11,9 @@ use Rattle.key_types.specs.declared.places.Where.TheVariants.{Outside, Nameless,
 use Rattle.sample_model.specs.declared.pair.Pair.{Pair}
 use Rattle.branch_counts.specs.Pair.{pair_cmp}
 use Rattle.branch_counts.specs.Table.{Tallies}
-use Rattle.binary_model.specs.Places.{Place, outside, nameless, no_line, at_way}
+use Rattle.profile_model.specs.Ways.{Way}
+use Rattle.binary_model.specs.Places.{Place}
+use Rattle.binary_model.specs.Shown.{ShowsBy}
 use Rattle.profile_report.specs.declared.report.Units.{Units}
 use Rattle.profile_tree.specs.Said.{way_at}
 use Rattle.report_model.specs.Report.{Sampled}
@@ -24,13 +26,14 @@ key_of Nameless = None
 key_of NoLine = None
 key_of (At key) = Some key.0
 
--- An answer shows a place: the same lack of a key, or the number of a key with the way.
+-- A key of this number has this way.
+pub record HasWay (names : List (List ℕ)) (keys : List Key) (way : Way) (id : KeyId) : Type 0 where
+  pub inside : id.0 < length keys
+  pub way_is : way_at names keys id.0 ≡ way
+
+-- An answer shows a place, a way by a key that has it.
 abbrev pub ShowsPlace : List (List ℕ) → List Key → Place → Where → Type 0
-ShowsPlace names keys outside answer = answer ≡ Outside
-ShowsPlace names keys nameless answer = answer ≡ Nameless
-ShowsPlace names keys no_line answer = answer ≡ NoLine
-ShowsPlace names keys (at_way way) answer =
-    (id : KeyId) × (answer ≡ At id) × (id.0 < length keys) × (way_at names keys id.0 ≡ way)
+ShowsPlace names keys place answer = ShowsBy (HasWay names keys) place answer
 
 -- An answer shows a name: it is the name's number.
 abbrev pub ShowsName : List (List ℕ) → Option (List ℕ) → Option NameId → Type 0

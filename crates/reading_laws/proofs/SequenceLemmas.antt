@@ -1,18 +1,18 @@
 -- Sequences and rows, by where the rows stand.
 use Rattle.std.proofs.Common.{◌≡◌, ℕ, zero, suc, ◌+◌, ◌<◌, ◌≤◌, Bool, true, false, cond, nat_le, nat_lt, List, [], ◌∷◌, ◌++◌, length, get_or, map, reverse, Option, None, Some, refl, sym, ap, subst, ◌∙◌, arith}
-use Rattle.std.specs.Prelude.{◌↔◌, ◌&&◌, slice_get, find, filter}
-use Rattle.std.specs.List.{All, AllPairs, onto_first, slice_split, zip}
+use Rattle.std.specs.Prelude.{◌&&◌, slice_get, find, filter}
+use Rattle.std.specs.List.{onto_first, slice_split, zip}
 use Rattle.std.specs.Option.{option_or}
 use Rattle.std.proofs.lemmas.Bool.{ltb-true, leb-true, leb-false}
 use Rattle.std.proofs.lemmas.Bool.Decides.{nat_tests}
-use Rattle.std.proofs.lemmas.List.{map-append, reverse-append}
+use Rattle.std.proofs.lemmas.List.{reverse-append}
 use Rattle.std.proofs.lemmas.List.Elements.{All-cons, All-head, All-tail}
 use Rattle.std.proofs.lemmas.List.Folds.{find-append}
 use Rattle.std.proofs.lemmas.List.Kept.{AllPairs-cons}
 use Rattle.elf_model.specs.Segments.{is_live}
 use Rattle.line_model.specs.declared.row.Row.{Row}
-use Rattle.row_model.specs.Rows.{Sequence, addresses_of, ends, holds, is_live_sequence, never_fall, row_in, sequences_of, with_range}
-use Rattle.reading_laws.specs.Sequences.{all_rows, NoneEnds, AreCutInto, SequencesAreCut, Ascend, IsLive, LiveSequencesAscend, Covers, RowsCoverAddresses}
+use Rattle.row_model.specs.Rows.{Sequence, ends, holds, is_live_sequence, never_fall, sequences_of}
+use Rattle.reading_laws.specs.Sequences.{NoneEnds, AreCutInto, SequencesAreCut, Ascend, IsLive, LiveSequencesAscend, RowsCoverAddresses}
 
 -- ---- what rows are cut into
 

@@ -1,5 +1,5 @@
 -- Which lines are load lines, by what they are made of.
-use Rattle.std.specs.Prelude.{◌≡◌, ◌<◌, ◌↔◌, ℕ, Bool, true, false, not, ◌==◌, List, [], ◌∷◌, ◌++◌, length, codes, Some}
+use Rattle.std.specs.Prelude.{◌≡◌, ◌<◌, ◌↔◌, ℕ, Bool, true, false, ◌==◌, List, ◌++◌, length, codes, Some}
 use Rattle.std.specs.List.{list_all, list_any}
 use Rattle.text_model.specs.Fields.{is_blank}
 use Rattle.text_model.specs.LineTests.{is_comment}

@@ -1,4 +1,4 @@
-ghost use Rattle.std.specs.Prelude.{◌≡◌, ◌++◌, ◌∷◌, ◌≤◌, [], IfSome, OnOk};
+ghost use Rattle.std.specs.Prelude.{◌≡◌, ◌++◌, ◌∷◌, ◌≤◌, [], IfSome, OnErr, OnOk};
 ghost use Rattle.sample_model.specs.Moves.{last_load};
 
 use crate::search::{Spanned, last_of};
@@ -49,9 +49,10 @@ impl LoadIndex {
     /// Adds a load behind the others.
     ///
     /// # Errors
-    /// `NoMemory`.
+    /// `NoMemory`; the loads are then as they were.
     pub fn push(&mut self, load: Load) -> Result<(), NoMemory>
-        ensures { OnOk result (self.new ≡ self.old ++ load ∷ []) }
+        ensures added { OnOk result (self.new ≡ self.old ++ load ∷ []) }
+        ensures err { OnErr result (self.new ≡ self.old) }
     {
         self.loads.push(load)?;
         Ok(())

@@ -33,6 +33,7 @@ pub fn read_text(text: &[u8], file: u8, counts: &mut Counts) -> Result<(), Stop>
     ensures judged { JudgesUnlessNoMemory (first_bad_of_text file text.now) result
         (λ _. TellsOf (lines_of text.now) counts.new) }
     ensures before { TellsLinesBefore file (judged_lines_of text.now) result counts.new }
+    ensures ranged { counts.new.with_ranges ≡ counts.old.with_ranges }
 {
     counts.keeps();
     let mut reader = Reader::new(counts.allocator(), file)?;

@@ -1,5 +1,5 @@
 // Counts, one for each key.
-ghost use Rattle.std.specs.Prelude.{◌≡◌, ◌^◌, ◌<◌, length, max, replicate, slice_index, slice_set, IfOk, ℕ};
+ghost use Rattle.std.specs.Prelude.{◌≡◌, ◌^◌, ◌<◌, length, max, slice_index, slice_set, IfOk, ℕ};
 ghost use Rattle.hit_model.specs.Steps.{hits_by};
 ghost use Rattle.key_segments.specs.Segments.{AreSegments};
 ghost use Rattle.key_counts.specs.Segments.{AllFit, AreCounts};
@@ -29,24 +29,13 @@ pub fn counts_of(
         AreCounts segments.now (hits_by hits.now) counts.items) }
     ensures len { IfOk result (λ counts. length counts.items ≡ keys) }
 {
-    let mut counts = zeros(alloc, keys)?;
+    let mut counts = vec![in alloc; 0; keys as usize]?;
     let mut walk = hits.walk();
     for segment in segments {
         let largest = walk.max_in(segment.lo, segment.hi);
         raise(&mut counts, segment, largest * segment.factor);
     }
     Ok(counts)
-}
-
-/// So many zeros.
-fn zeros(alloc: Global, n: u32) -> Result<Vec<u64>, NoMemory>
-    ensures { IfOk result (λ zeros. zeros.items ≡ replicate n 0) }
-{
-    let mut zeros = Vec::new(alloc);
-    for _ in 0..n {
-        zeros.push(0)?;
-    }
-    Ok(zeros)
 }
 
 /// Raises the count of a segment's key to what the segment has.

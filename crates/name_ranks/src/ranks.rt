@@ -1,5 +1,5 @@
 // Names in an order, and the place of each.
-ghost use Rattle.std.specs.Prelude.{◌≡◌, ◌<◌, ◌≤◌, ◌^◌, All, IfOk, IsPermutation, OnOk, ℕ, length, map, nat_eq, replicate, slice_index};
+ghost use Rattle.std.specs.Prelude.{◌≡◌, ◌<◌, ◌≤◌, ◌^◌, All, IfOk, IsPermutation, OnOk, ℕ, length, map, nat_eq, slice_index};
 ghost use Rattle.std.specs.List.{IsDistinct, range_with_len};
 ghost use Rattle.std.specs.List.Sorted.{IsSortedByKey};
 ghost use Rattle.name_ranks.specs.Ranks.{AreRanks, entry_cmp, entry_of};
@@ -93,20 +93,9 @@ fn inverse(alloc: Global, ids: &[u32]) -> Result<Vec<u32>, NoMemory>
     ensures back { IfOk result (λ ranks. (r : ℕ) → r < length ids.now →
         slice_index ranks.items (slice_index ids.now r) ≡ r) }
 {
-    let mut ranks = zeros(alloc, ids.len())?;
+    let mut ranks = vec![in alloc; 0; ids.len()]?;
     for (rank, id) in ids.iter().enumerate() {
         ranks[*id as usize] = rank as u32;
     }
     Ok(ranks)
-}
-
-/// So many zeros.
-fn zeros(alloc: Global, n: usize) -> Result<Vec<u32>, NoMemory>
-    ensures { IfOk result (λ zeros. zeros.items ≡ replicate n 0) }
-{
-    let mut zeros = Vec::new(alloc);
-    for _ in 0..n {
-        zeros.push(0)?;
-    }
-    Ok(zeros)
 }

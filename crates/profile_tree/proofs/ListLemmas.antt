@@ -29,6 +29,24 @@ pub and_both : (a b : Bool) → a ≡ true → b ≡ true → (a && b) ≡ true
 and_both true b e f = f
 and_both false b e f = e
 
+pub or_left : (a b : Bool) → a ≡ true → (a || b) ≡ true
+or_left true b e = refl
+or_left false b e = absurd (true≢false (sym e))
+
+pub or_right : (a b : Bool) → b ≡ true → (a || b) ≡ true
+or_right true b e = refl
+or_right false b e = e
+
+-- where neither holds the first does not
+pub or_first : (a b : Bool) → (a || b) ≡ false → a ≡ false
+or_first true b e = e
+or_first false b e = refl
+
+-- where the first does not hold the second does
+pub or_other : (a b : Bool) → (a || b) ≡ true → a ≡ false → b ≡ true
+or_other true b e f = absurd (true≢false f)
+or_other false b e f = e
+
 pub bool_same : (a b : Bool) → (a ≡ true → b ≡ true) → (b ≡ true → a ≡ true) → a ≡ b
 bool_same true true f g = refl
 bool_same true false f g = sym (f refl)
@@ -303,29 +321,15 @@ among_any p x (y ∷ xs) h e = elim h as (λ _. (p y || list_any p xs) ≡ true)
   | inr r ↦ elim (p y) as (λ b. (b || list_any p xs) ≡ true) [ true ↦ refl | false ↦ among_any p x xs r e ]
 ]
 
--- items may be left out where others are told alike
-told_still : {S T : Type 0} (f : S → T) (xs ys zs rest : List S) → ((s : S) → Among s ys → Among (f s) (map f xs) ⊎ Among s zs) → (w : T) → Among w (map f (xs ++ (ys ++ rest))) → Among w (map f (xs ++ (zs ++ rest)))
-told_still f xs ys zs rest fewer w h =
-    let b = among_map_back f w (xs ++ (ys ++ rest)) h in
-    subst (λ v. Among v (map f (xs ++ (zs ++ rest)))) (sym b.2)
-    (elim (among_either b.0 xs (ys ++ rest) b.1) as (λ _. Among (f b.0) (map f (xs ++ (zs ++ rest)))) [
-      | inl l ↦ among_map f b.0 (xs ++ (zs ++ rest)) (among_left b.0 xs (zs ++ rest) l)
-      | inr r ↦ elim (among_either b.0 ys rest r) as (λ _. Among (f b.0) (map f (xs ++ (zs ++ rest)))) [
-        | inl y ↦ elim (fewer b.0 y) as (λ _. Among (f b.0) (map f (xs ++ (zs ++ rest)))) [
-          | inl m ↦
-              let c = among_map_back f (f b.0) xs m in
-              subst (λ v. Among v (map f (xs ++ (zs ++ rest)))) (sym c.2) (among_map f c.0 (xs ++ (zs ++ rest)) (among_left c.0 xs (zs ++ rest) c.1))
-          | inr z ↦ among_map f b.0 (xs ++ (zs ++ rest)) (among_right b.0 xs (zs ++ rest) (among_left b.0 zs rest z))
-        ]
-        | inr q ↦ among_map f b.0 (xs ++ (zs ++ rest)) (among_right b.0 xs (zs ++ rest) (among_right b.0 zs rest q))
-      ]
-    ])
-
-pub any_with_fewer : {S T : Type 0} (f : S → T) (p : T → Bool) (xs ys zs rest : List S) → ((s : S) → Among s ys → Among (f s) (map f xs) ⊎ Among s zs) → ((s : S) → Among s zs → Among s ys) → list_any p (map f (xs ++ (ys ++ rest))) ≡ list_any p (map f (xs ++ (zs ++ rest)))
-any_with_fewer f p xs ys zs rest fewer back =
-    bool_same (list_any p (map f (xs ++ (ys ++ rest)))) (list_any p (map f (xs ++ (zs ++ rest))))
-    (λ e. let one = any_among p (map f (xs ++ (ys ++ rest))) e in among_any p one.0 (map f (xs ++ (zs ++ rest))) (told_still f xs ys zs rest fewer one.0 one.1) one.2)
-    (λ e. let one = any_among p (map f (xs ++ (zs ++ rest))) e in among_any p one.0 (map f (xs ++ (ys ++ rest))) (told_still f xs zs ys rest (λ s h. inr (back s h)) one.0 one.1) one.2)
+-- lists that are told alike
+pub any_alike : {S T : Type 0} (f : S → T) (p : T → Bool) (xs ys : List S) → ((s : S) → Among s xs → Among (f s) (map f ys)) → ((s : S) → Among s ys → Among (f s) (map f xs)) → list_any p (map f xs) ≡ list_any p (map f ys)
+any_alike {S} {T} f p xs ys there back = bool_same (list_any p (map f xs)) (list_any p (map f ys)) (one_way xs ys there) (one_way ys xs back)
+  where
+    one_way : (xs ys : List S) → ((s : S) → Among s xs → Among (f s) (map f ys)) → list_any p (map f xs) ≡ true → list_any p (map f ys) ≡ true
+    one_way xs ys there e =
+        let one = any_among p (map f xs) e in
+        let b = among_map_back f one.0 xs one.1 in
+        among_any p one.0 (map f ys) (subst (λ v. Among v (map f ys)) (sym b.2) (there b.0 b.1)) one.2
 
 -- beginnings
 map_cons : {S T : Type 0} (f : S → T) (s : S) (xs : List (List S)) → map (λ x. f s ∷ x) (map (map f) xs) ≡ map (map f) (map (λ x. s ∷ x) xs)

@@ -1,5 +1,5 @@
 -- The rows of items tell the lines of a profile.
-use Rattle.std.proofs.Common.{◌≡◌, ◌⊎◌, ◌<◌, ℕ, ◌+◌, ◌==◌, nat_lt, Bool, true, false, cond, List, [], ◌∷◌, ◌++◌, map, filter, length, get_or, sum_by, Option, None, Some, refl, sym, ap, subst, ◌∙◌, inl, inr, arith, IsPermutation, add-zero}
+use Rattle.std.proofs.Common.{◌≡◌, ◌<◌, ℕ, ◌+◌, ◌==◌, nat_lt, Bool, ◌&&◌, true, false, cond, List, [], ◌∷◌, ◌++◌, map, filter, length, get_or, sum_by, Option, None, Some, refl, sym, ap, subst, ◌∙◌, inl, inr, arith, IsPermutation, add-zero}
 use Rattle.std.proofs.lemmas.Bool.{true≢false}
 use Rattle.std.proofs.lemmas.Bool.Decides.{nat_tests}
 use Rattle.std.proofs.lemmas.List.{map-append}
@@ -15,13 +15,13 @@ use Rattle.profile_model.specs.Laws.{TellsApart, has}
 use Rattle.profile_model.specs.Orders.{ordered, way_cmp}
 use Rattle.profile_model.specs.Profile.{capped, total_of, recorded, entered}
 use Rattle.profile_model.specs.Ways.{Step, Way, beginnings, last_step, is_front, leads_to, same_step, to_function, to_body}
-use Rattle.profile_tree.proofs.ListLemmas.{and_first, and_second, and_both, bool_cases, Among, among_either, among_map_back, among_filter, among_filter_back, among_map, among_permuted, among_all, all_among, SomeAll, map_map, filter_map, sum_map, sum_filter, sum_same, sum_none, any_flat, any_map, any_with_fewer, ordered_map, ordered_same, ordered_alike, all_ordered, all_beginnings, all_beginnings_map, among_range, range_among}
+use Rattle.profile_tree.proofs.ListLemmas.{and_first, and_second, and_both, or_left, or_right, or_first, or_other, bool_cases, nat_same, nat_refl, Among, among_left, among_right, among_either, among_map_back, among_filter, among_filter_back, among_map, among_permuted, among_all, all_among, SomeAll, map_map, filter_map, sum_map, sum_filter, sum_same, sum_none, any_flat, any_map, any_among, among_any, any_alike, ordered_map, ordered_same, ordered_alike, all_ordered, all_beginnings, all_beginnings_map, among_range, range_among}
 use Rattle.profile_tree.proofs.SumLemmas.{Given, all_to_each, steps_are_named, total_is}
 use Rattle.profile_tree.proofs.WayLemmas.{IsNamed, Ranked, same_steps, ways_agree, fronts_agree}
-use Rattle.profile_tree.specs.Items.{Source, Told, counted, called, entered as entered_sources, has_count, is_from_new, of_call, of_count, of_head, ranked, ranked_source, sources, told_item, was_entered}
+use Rattle.profile_tree.specs.Items.{Source, Told, entered as entered_sources, has_count, is_caller, is_written, of_count, of_head, ranked, ranked_source, sources, told_item, was_entered, written}
 use Rattle.profile_tree.specs.Known.{IsGiven}
 use Rattle.profile_tree.specs.Said.{said, way_at}
-use Rattle.profile_tree.specs.Steps.{NumberedStep, at_function, at_line, at_call, frame_step, name_at, named, steps_at, steps_of, steps_of_given}
+use Rattle.profile_tree.specs.Steps.{NumberedStep, at_function, at_line, at_call, frame_step, name_at, named, steps_of, steps_of_given}
 use Rattle.profile_tree.specs.declared.head.Head.{Head}
 use Rattle.target_lists.specs.Pairs.{was_made}
 use Rattle.target_lists.specs.declared.pairs.Call.{Call}
@@ -108,18 +108,13 @@ module _ (names : List (List ℕ)) (keys : List Key) (counts : List ℕ) (calls 
   sources_named : AllByRecursion (λ s. AllByRecursion (IsNamed (length names)) s.way) all_sources
   unfolding all_sources
   sources_named = all_among (λ s. AllByRecursion (IsNamed (length names)) s.way) (sources keys counts calls heads) (λ s h.
-      elim (among_either s (counted keys counts (length keys)) (called keys counts calls ++ entered_sources heads) h) as (λ _. AllByRecursion (IsNamed (length names)) s.way) [
+      elim (among_either s (written keys counts calls) (entered_sources heads) h) as (λ _. AllByRecursion (IsNamed (length names)) s.way) [
         | inl a ↦
-            let b = among_map_back (of_count keys counts) s (filter (has_count counts) (range_with_len 0 (length keys))) a in
+            let b = among_map_back (of_count keys counts) s (filter (is_written counts calls) (range_with_len 0 (length keys))) a in
             subst (λ x. AllByRecursion (IsNamed (length names)) x.way) (sym b.2) (steps_are_named names keys counts calls heads g b.0)
-        | inr rest ↦ elim (among_either s (called keys counts calls) (entered_sources heads) rest) as (λ _. AllByRecursion (IsNamed (length names)) s.way) [
-          | inl a ↦
-              let b = among_map_back (of_call keys) s (filter (is_from_new counts) calls) a in
-              subst (λ x. AllByRecursion (IsNamed (length names)) x.way) (sym b.2) (steps_are_named names keys counts calls heads g b.0.key.0)
-          | inr a ↦
-              let b = among_map_back of_head s (filter was_entered heads) a in
-              subst (λ x. AllByRecursion (IsNamed (length names)) x.way) (sym b.2) (function_named b.0 (among_filter_back was_entered b.0 heads b.1).1, tt)
-        ]
+        | inr a ↦
+            let b = among_map_back of_head s (filter was_entered heads) a in
+            subst (λ x. AllByRecursion (IsNamed (length names)) x.way) (sym b.2) (function_named b.0 (among_filter_back was_entered b.0 heads b.1).1, tt)
       ])
 
   -- the item that a row tells of is that of a source
@@ -132,22 +127,15 @@ module _ (names : List (List ℕ)) (keys : List Key) (counts : List ℕ) (calls 
   key_of_source : (s : NumberedStep) (w : List NumberedStep) (o d : ℕ) (x : Source) → last_of s w ≡ at_line o d → Among x all_sources → leads_to (map (named names) (s ∷ w)) (map (named names) x.way) ≡ true → IsKeyWay names keys (map (named names) (s ∷ w)) x.key
   unfolding all_sources
   key_of_source s w o d x e h f =
-      elim (among_either x (counted keys counts (length keys)) (called keys counts calls ++ entered_sources heads) h) as (λ _. IsKeyWay names keys (map (named names) (s ∷ w)) x.key) [
+      elim (among_either x (written keys counts calls) (entered_sources heads) h) as (λ _. IsKeyWay names keys (map (named names) (s ∷ w)) x.key) [
         | inl a ↦
-            let b = among_map_back (of_count keys counts) x (filter (has_count counts) (range_with_len 0 (length keys))) a in
-            let low = among_range 0 (length keys) b.0 (among_filter_back (has_count counts) b.0 (range_with_len 0 (length keys)) b.1).1 in
+            let b = among_map_back (of_count keys counts) x (filter (is_written counts calls) (range_with_len 0 (length keys))) a in
+            let low = among_range 0 (length keys) b.0 (among_filter_back (is_written counts calls) b.0 (range_with_len 0 (length keys)) b.1).1 in
             let leads : leads_to (map (named names) (s ∷ w)) (way_at names keys b.0) ≡ true = ap (λ y. leads_to (map (named names) (s ∷ w)) (map (named names) y.way)) (sym b.2) ∙ f in
             subst (λ y. IsKeyWay names keys (map (named names) (s ∷ w)) y.key) (sym b.2) (record { given = omega (arith, low.1); is = given_whole names s w _ o d e leads })
-        | inr rest ↦ elim (among_either x (called keys counts calls) (entered_sources heads) rest) as (λ _. IsKeyWay names keys (map (named names) (s ∷ w)) x.key) [
-          | inl a ↦
-              let b = among_map_back (of_call keys) x (filter (is_from_new counts) calls) a in
-              let known = all_to_each (IsGiven (length keys) (length names)) b.0 calls g.calls_given (among_filter_back (is_from_new counts) b.0 calls b.1).1 in
-              let leads : leads_to (map (named names) (s ∷ w)) (way_at names keys b.0.key.0) ≡ true = ap (λ y. leads_to (map (named names) (s ∷ w)) (map (named names) y.way)) (sym b.2) ∙ f in
-              subst (λ y. IsKeyWay names keys (map (named names) (s ∷ w)) y.key) (sym b.2) (record { given = known.0; is = given_whole names s w _ o d e leads })
-          | inr a ↦
-              let b = among_map_back of_head x (filter was_entered heads) a in
-              absurd (function_whole names s w b.0.name.0 o d e (ap (λ y. leads_to (map (named names) (s ∷ w)) (map (named names) y.way)) (sym b.2) ∙ f))
-        ]
+        | inr a ↦
+            let b = among_map_back of_head x (filter was_entered heads) a in
+            absurd (function_whole names s w b.0.name.0 o d e (ap (λ y. leads_to (map (named names) (s ∷ w)) (map (named names) y.way)) (sym b.2) ∙ f))
       ]
 
   pub key_of_row : (s : NumberedStep) (w : List NumberedStep) (o d : ℕ) (row : Row) → AllByRecursion (IsNamed (length names)) (s ∷ w) → last_of s w ≡ at_line o d → IsRowOf sorted (map (ranked tr nr) (s ∷ w)) row → IsKeyWay names keys (map (named names) (s ∷ w)) row.key
@@ -168,22 +156,19 @@ module _ (names : List (List ℕ)) (keys : List Key) (counts : List ℕ) (calls 
   either_way true n e = e
   either_way false n e = refl
 
-  counted_below : (x : Way) → sum_by (below x) (counted keys counts (length keys)) ≡ sum_by (λ id. cond (leads_to x (way_at names keys id)) (get_or counts id 0) 0) (range_with_len 0 (length keys))
+  written_below : (x : Way) → sum_by (below x) (written keys counts calls) ≡ sum_by (λ id. cond (leads_to x (way_at names keys id)) (get_or counts id 0) 0) (range_with_len 0 (length keys))
   unfolding below
-  counted_below x =
-      sum_map (below x) (of_count keys counts) (filter (has_count counts) (range_with_len 0 (length keys)))
-      ∙ sum_filter (λ id. below x (of_count keys counts id)) (has_count counts) (range_with_len 0 (length keys))
-      ∙ sum_same (λ id. cond (has_count counts id) (below x (of_count keys counts id)) 0) (λ id. cond (leads_to x (way_at names keys id)) (get_or counts id 0) 0) (range_with_len 0 (length keys))
-      (all_among (λ id. cond (has_count counts id) (below x (of_count keys counts id)) 0 ≡ cond (leads_to x (way_at names keys id)) (get_or counts id 0) 0) (range_with_len 0 (length keys))
-      (λ id h. bool_cases (has_count counts id)
+  written_below x =
+      sum_map (below x) (of_count keys counts) (filter (is_written counts calls) (range_with_len 0 (length keys)))
+      ∙ sum_filter (λ id. below x (of_count keys counts id)) (is_written counts calls) (range_with_len 0 (length keys))
+      ∙ sum_same (λ id. cond (is_written counts calls id) (below x (of_count keys counts id)) 0) (λ id. cond (leads_to x (way_at names keys id)) (get_or counts id 0) 0) (range_with_len 0 (length keys))
+      (all_among (λ id. cond (is_written counts calls id) (below x (of_count keys counts id)) 0 ≡ cond (leads_to x (way_at names keys id)) (get_or counts id 0) 0) (range_with_len 0 (length keys))
+      (λ id h. bool_cases (is_written counts calls id)
       (λ e. ap (λ b. cond b (below x (of_count keys counts id)) 0) e)
       (λ e.
+      let few : has_count counts id ≡ false = or_first (has_count counts id) (is_caller calls id) e in
       let none : get_or counts id 0 ≡ 0 = grind (arith, nat_tests) in
       ap (λ b. cond b (below x (of_count keys counts id)) 0) e ∙ sym (either_way (leads_to x (way_at names keys id)) (get_or counts id 0) none))))
-
-  called_below : (x : Way) → sum_by (below x) (called keys counts calls) ≡ 0
-  unfolding below
-  called_below x = sum_map (below x) (of_call keys) (filter (is_from_new counts) calls) ∙ sum_none (λ c. below x (of_call keys c)) (filter (is_from_new counts) calls) (all_among (λ c. below x (of_call keys c) ≡ 0) (filter (is_from_new counts) calls) (λ c _. either_way (leads_to x (map (named names) (steps_at keys c.key.0))) 0 refl))
 
   entered_below : (x : Way) → sum_by (below x) (entered_sources heads) ≡ 0
   unfolding below
@@ -192,8 +177,8 @@ module _ (names : List (List ℕ)) (keys : List Key) (counts : List ℕ) (calls 
   sources_below : (x : Way) → sum_by (below x) all_sources ≡ sum_by (λ id. cond (leads_to x (way_at names keys id)) (get_or counts id 0) 0) (range_with_len 0 (length keys))
   unfolding all_sources
   sources_below x =
-      sum_by-append (below x) (counted keys counts (length keys)) (called keys counts calls ++ entered_sources heads)
-      ∙ (λ i. counted_below x i + (sum_by-append (below x) (called keys counts calls) (entered_sources heads) ∙ (λ j. called_below x j + entered_below x j)) i)
+      sum_by-append (below x) (written keys counts calls) (entered_sources heads)
+      ∙ (λ i. written_below x i + entered_below x i)
       ∙ add-zero _
 
   pub total_of_row : (w : List NumberedStep) (row : Row) → AllByRecursion (IsNamed (length names)) w → IsRowOf sorted (map (ranked tr nr) w) row → row.total ≡ total_of (said names keys counts calls heads) (map (named names) w)
@@ -245,22 +230,30 @@ module _ (names : List (List ℕ)) (keys : List Key) (counts : List ℕ) (calls 
       ∙ map_map (λ h. to_function h.0 ∷ []) (λ head. (name_at names head.name.0, head.times)) (filter was_entered heads)
       ∙ sym (map_map (λ s. map (named names) s.way) of_head (filter was_entered heads))
 
-  counted_is : map (λ (c : Way × ℕ). c.0) (filter (λ (c : Way × ℕ). nat_lt 0 c.1) (map (λ id. (way_at names keys id, get_or counts id 0)) (range_with_len 0 (length keys)))) ≡ map (λ s. map (named names) s.way) (counted keys counts (length keys))
+  -- the keys that have a count
+  counted : List Source
+  counted = map (of_count keys counts) (filter (has_count counts) (range_with_len 0 (length keys)))
+
+  counted_is : map (λ (c : Way × ℕ). c.0) (filter (λ (c : Way × ℕ). nat_lt 0 c.1) (map (λ id. (way_at names keys id, get_or counts id 0)) (range_with_len 0 (length keys)))) ≡ map (λ s. map (named names) s.way) counted
+  unfolding counted
   counted_is =
       ap (map (λ (c : Way × ℕ). c.0)) (filter_map (λ (c : Way × ℕ). nat_lt 0 c.1) (λ id. (way_at names keys id, get_or counts id 0)) (range_with_len 0 (length keys)))
       ∙ map_map (λ (c : Way × ℕ). c.0) (λ id. (way_at names keys id, get_or counts id 0)) (filter (has_count counts) (range_with_len 0 (length keys)))
       ∙ sym (map_map (λ s. map (named names) s.way) (of_count keys counts) (filter (has_count counts) (range_with_len 0 (length keys))))
 
-  -- the keys that have a target, with a count or without one
+  -- the keys that have a target, once for each call
+  of_call : Call → Source
+  of_call call = of_count keys counts call.key.0
+
   made : List Source
-  made = map (of_call keys) (filter was_made calls)
+  made = map of_call (filter was_made calls)
 
   called_is : map (λ (c : Way × List ℕ × ℕ). c.0) (filter (λ (c : Way × List ℕ × ℕ). nat_lt 0 c.2) (map (λ call. (way_at names keys call.key.0, name_at names call.callee.0, call.times)) calls)) ≡ map (λ s. map (named names) s.way) made
-  unfolding made
+  unfolding made of_call
   called_is =
       ap (map (λ (c : Way × List ℕ × ℕ). c.0)) (filter_map (λ (c : Way × List ℕ × ℕ). nat_lt 0 c.2) (λ call. (way_at names keys call.key.0, name_at names call.callee.0, call.times)) calls)
       ∙ map_map (λ (c : Way × List ℕ × ℕ). c.0) (λ call. (way_at names keys call.key.0, name_at names call.callee.0, call.times)) (filter was_made calls)
-      ∙ sym (map_map (λ s. map (named names) s.way) (of_call keys) (filter was_made calls))
+      ∙ sym (map_map (λ s. map (named names) s.way) of_call (filter was_made calls))
 
   append_assoc : {T : Type 0} (xs ys zs : List T) → (xs ++ ys) ++ zs ≡ xs ++ (ys ++ zs)
   append_assoc [] ys zs = refl
@@ -270,50 +263,86 @@ module _ (names : List (List ℕ)) (keys : List Key) (counts : List ℕ) (calls 
   way_of_source s = map (named names) s.way
 
   told_sources : List Source
-  told_sources = counted keys counts (length keys) ++ (made ++ entered_sources heads)
+  told_sources = counted ++ (made ++ entered_sources heads)
 
   ways_are : recorded (said names keys counts calls heads) ++ entered (said names keys counts calls heads) ≡ map way_of_source told_sources
   unfolding way_of_source told_sources
   ways_are =
       (λ i. (counted_is i ++ called_is i) ++ entered_is i)
-      ∙ append_assoc (map (λ s. map (named names) s.way) (counted keys counts (length keys))) (map (λ s. map (named names) s.way) made) (map (λ s. map (named names) s.way) (entered_sources heads))
-      ∙ ap (λ l. map (λ s. map (named names) s.way) (counted keys counts (length keys)) ++ l) (sym (map-append (λ s. map (named names) s.way) made (entered_sources heads)))
-      ∙ sym (map-append (λ s. map (named names) s.way) (counted keys counts (length keys)) (made ++ entered_sources heads))
+      ∙ append_assoc (map (λ s. map (named names) s.way) counted) (map (λ s. map (named names) s.way) made) (map (λ s. map (named names) s.way) (entered_sources heads))
+      ∙ ap (λ l. map (λ s. map (named names) s.way) counted ++ l) (sym (map-append (λ s. map (named names) s.way) made (entered_sources heads)))
+      ∙ sym (map-append (λ s. map (named names) s.way) counted (made ++ entered_sources heads))
 
-  -- a call from a key with a count has a way that is written already
-  way_stays : (s : Source) → Among s made → Among (way_of_source s) (map way_of_source (counted keys counts (length keys))) ⊎ Among s (called keys counts calls)
-  unfolding made way_of_source
-  way_stays s h =
-      let b = among_map_back (of_call keys) s (filter was_made calls) h in
-      let at = among_filter_back was_made b.0 calls b.1 in
-      let known = all_to_each (IsGiven (length keys) (length names)) b.0 calls g.calls_given at.1 in
-      bool_cases (get_or counts b.0.key.0 0 == 0)
-      (λ e. inr (subst (λ x. Among x (called keys counts calls)) (sym b.2) (among_map (of_call keys) b.0 (filter (is_from_new counts) calls) (among_filter (is_from_new counts) b.0 calls (and_both _ _ at.0 e) at.1))))
-      (λ e.
-      let some : has_count counts b.0.key.0 ≡ true = grind (arith, nat_tests) in
-      inl (subst (λ x. Among (map (named names) x.way) (map way_of_source (counted keys counts (length keys)))) (sym b.2)
-      (among_map way_of_source (of_count keys counts b.0.key.0) (counted keys counts (length keys))
-      (among_map (of_count keys counts) b.0.key.0 (filter (has_count counts) (range_with_len 0 (length keys)))
-      (among_filter (has_count counts) b.0.key.0 (range_with_len 0 (length keys)) some (range_among 0 (length keys) b.0.key.0 (omega arith) (omega (arith, known.0))))))))
+  -- a key that has a line has it once
+  is_there : (id : ℕ) → id < length keys → is_written counts calls id ≡ true → Among (way_of_source (of_count keys counts id)) (map way_of_source (sources keys counts calls heads))
+  is_there id low is =
+      among_map way_of_source (of_count keys counts id) (sources keys counts calls heads) (among_left (of_count keys counts id) (written keys counts calls) (entered_sources heads)
+      (among_map (of_count keys counts) id (filter (is_written counts calls) (range_with_len 0 (length keys)))
+      (among_filter (is_written counts calls) id (range_with_len 0 (length keys)) is (range_among 0 (length keys) id (omega arith) (omega (arith, low))))))
 
-  made_again : (s : Source) → Among s (called keys counts calls) → Among s made
-  unfolding made
-  made_again s h =
-      let b = among_map_back (of_call keys) s (filter (is_from_new counts) calls) h in
-      let at = among_filter_back (is_from_new counts) b.0 calls b.1 in
-      subst (λ x. Among x (map (of_call keys) (filter was_made calls))) (sym b.2)
-      (among_map (of_call keys) b.0 (filter was_made calls) (among_filter was_made b.0 calls (and_first _ _ at.0) at.1))
+  called_there : (call : Call) → Among call calls → was_made call ≡ true → Among (way_of_source (of_call call)) (map way_of_source (sources keys counts calls heads))
+  unfolding of_call
+  called_there call h was =
+      let known = all_to_each (IsGiven (length keys) (length names)) call calls g.calls_given h in
+      is_there call.key.0 known.0
+      (or_right (has_count counts call.key.0) (is_caller calls call.key.0)
+      (among_any (λ c. was_made c && c.key.0 == call.key.0) call calls h (and_both (was_made call) (call.key.0 == call.key.0) was (nat_refl call.key.0))))
+
+  told_there : (s : Source) → Among s told_sources → Among (way_of_source s) (map way_of_source (sources keys counts calls heads))
+  unfolding told_sources counted made
+  told_there s h =
+      elim (among_either s counted (made ++ entered_sources heads) h) as (λ _. Among (way_of_source s) (map way_of_source (sources keys counts calls heads))) [
+        | inl a ↦
+            let b = among_map_back (of_count keys counts) s (filter (has_count counts) (range_with_len 0 (length keys))) a in
+            let at = among_filter_back (has_count counts) b.0 (range_with_len 0 (length keys)) b.1 in
+            let low = among_range 0 (length keys) b.0 at.1 in
+            subst (λ x. Among (way_of_source x) (map way_of_source (sources keys counts calls heads))) (sym b.2)
+            (is_there b.0 (omega (arith, low.1)) (or_left (has_count counts b.0) (is_caller calls b.0) at.0))
+        | inr rest ↦ elim (among_either s made (entered_sources heads) rest) as (λ _. Among (way_of_source s) (map way_of_source (sources keys counts calls heads))) [
+          | inl a ↦
+              let b = among_map_back of_call s (filter was_made calls) a in
+              let at = among_filter_back was_made b.0 calls b.1 in
+              subst (λ x. Among (way_of_source x) (map way_of_source (sources keys counts calls heads))) (sym b.2) (called_there b.0 at.1 at.0)
+          | inr a ↦ among_map way_of_source s (sources keys counts calls heads) (among_right s (written keys counts calls) (entered_sources heads) a)
+        ]
+      ]
+
+  written_back : (id : ℕ) → id < length keys → is_written counts calls id ≡ true → Among (of_count keys counts id) told_sources
+  unfolding told_sources counted made of_call
+  written_back id low is =
+      bool_cases (has_count counts id)
+      (λ some. among_left (of_count keys counts id) counted (made ++ entered_sources heads)
+      (among_map (of_count keys counts) id (filter (has_count counts) (range_with_len 0 (length keys)))
+      (among_filter (has_count counts) id (range_with_len 0 (length keys)) some (range_among 0 (length keys) id (omega arith) (omega (arith, low))))))
+      (λ none.
+      let one = any_among (λ call. was_made call && call.key.0 == id) calls (or_other (has_count counts id) (is_caller calls id) is none) in
+      let same : one.0.key.0 ≡ id = nat_same one.0.key.0 id (and_second (was_made one.0) (one.0.key.0 == id) one.2) in
+      among_right (of_count keys counts id) counted (made ++ entered_sources heads) (among_left (of_count keys counts id) made (entered_sources heads)
+      (subst (λ k. Among (of_count keys counts k) made) same
+      (among_map of_call one.0 (filter was_made calls) (among_filter was_made one.0 calls (and_first (was_made one.0) (one.0.key.0 == id) one.2) one.1)))))
+
+  told_back : (s : Source) → Among s (sources keys counts calls heads) → Among (way_of_source s) (map way_of_source told_sources)
+  unfolding told_sources
+  told_back s h =
+      among_map way_of_source s told_sources
+      (elim (among_either s (written keys counts calls) (entered_sources heads) h) as (λ _. Among s told_sources) [
+        | inl a ↦
+            let b = among_map_back (of_count keys counts) s (filter (is_written counts calls) (range_with_len 0 (length keys))) a in
+            let at = among_filter_back (is_written counts calls) b.0 (range_with_len 0 (length keys)) b.1 in
+            let low = among_range 0 (length keys) b.0 at.1 in
+            subst (λ x. Among x told_sources) (sym b.2) (written_back b.0 (omega (arith, low.1)) at.0)
+        | inr a ↦ among_right s counted (made ++ entered_sources heads) (among_right s made (entered_sources heads) a)
+      ])
 
   named_ways : map way_of_source (sources keys counts calls heads) ≡ map (map (named names)) source_ways
   unfolding way_of_source source_ways
   named_ways = sym (map_map (map (named names)) (λ s. s.way) (sources keys counts calls heads))
 
   same_written : (total : List ℕ → ℕ) (z : Way) → has (way_cmp total) z (flat_map beginnings (map way_of_source told_sources)) ≡ has (way_cmp total) z (flat_map beginnings (map way_of_source (sources keys counts calls heads)))
-  unfolding told_sources
   same_written total z =
       let p : Way → Bool = λ w. list_any (eq_by_cmp (way_cmp total) z) (beginnings w) in
-      any_flat (eq_by_cmp (way_cmp total) z) beginnings (map way_of_source (counted keys counts (length keys) ++ (made ++ entered_sources heads)))
-      ∙ any_with_fewer way_of_source p (counted keys counts (length keys)) made (called keys counts calls) (entered_sources heads) way_stays made_again
+      any_flat (eq_by_cmp (way_cmp total) z) beginnings (map way_of_source told_sources)
+      ∙ any_alike way_of_source p told_sources (sources keys counts calls heads) told_there told_back
       ∙ sym (any_flat (eq_by_cmp (way_cmp total) z) beginnings (map way_of_source (sources keys counts calls heads)))
 
   pub written_is : ordered (way_cmp (λ name. total_of (said names keys counts calls heads) (to_function name ∷ []))) (flat_map beginnings (recorded (said names keys counts calls heads) ++ entered (said names keys counts calls heads))) ≡ map (map (named names)) fronts

@@ -1,6 +1,6 @@
 -- The ways of a profile, by ranks.
-use Rattle.std.specs.Prelude.{ℕ, ◌==◌, Bool, ◌&&◌, nat_lt, List, [], ◌∷◌, ◌++◌, map, filter, length, slice_index}
-use Rattle.std.specs.List.{range_with_len}
+use Rattle.std.specs.Prelude.{◌≡◌, ◌<◌, ℕ, ◌==◌, Bool, false, ◌&&◌, ◌||◌, nat_lt, List, [], ◌∷◌, ◌++◌, map, filter, length, slice_index, slice_index_or}
+use Rattle.std.specs.List.{list_any, range_with_len}
 use Rattle.key_types.specs.declared.key.Key.{Key}
 use Rattle.profile_tree.specs.Steps.{NumberedStep, at_function, at_line, at_call, steps_at}
 use Rattle.profile_tree.specs.declared.head.Head.{Head}
@@ -24,13 +24,9 @@ pub record Source : Type 0 where
   pub count : ℕ
   pub key : ℕ
 
--- A key that has a count.
+-- A key, with its count.
 abbrev pub of_count : List Key → List ℕ → ℕ → Source
 of_count keys counts id = record { way = steps_at keys id; count = slice_index counts id; key = id }
-
--- A key that has a target, and no count.
-abbrev pub of_call : List Key → Call → Source
-of_call keys call = record { way = steps_at keys call.key.0; count = 0; key = call.key.0 }
 
 -- A function that was entered.
 abbrev pub of_head : Head → Source
@@ -39,25 +35,32 @@ of_head head = record { way = at_function head.name.0 ∷ []; count = 0; key = 0
 abbrev pub has_count : List ℕ → ℕ → Bool
 has_count counts id = nat_lt 0 (slice_index counts id)
 
--- A call that was made from a key without a count: a key with one has its way already.
-abbrev pub is_from_new : List ℕ → Call → Bool
-is_from_new counts call = was_made call && slice_index counts call.key.0 == 0
+-- A function was called from a key.
+abbrev pub is_caller : List Call → ℕ → Bool
+is_caller calls id = list_any (λ call. was_made call && call.key.0 == id) calls
+
+-- A key that has a line: one with a count or a target.
+abbrev pub is_written : List ℕ → List Call → ℕ → Bool
+is_written counts calls id = has_count counts id || is_caller calls id
+
+-- Each of so many keys told whether a function was called from it.
+pub record AreCallers (n : ℕ) (calls : List Call) (callers : List Bool) : Type 0 where
+  pub len : length callers ≡ n
+  pub each : (id : ℕ) → id < n → slice_index_or callers id false ≡ is_caller calls id
 
 abbrev pub was_entered : Head → Bool
 was_entered head = nat_lt 0 head.times
 
-abbrev pub counted : List Key → List ℕ → ℕ → List Source
-counted keys counts n = map (of_count keys counts) (filter (has_count counts) (range_with_len 0 n))
-
-abbrev pub called : List Key → List ℕ → List Call → List Source
-called keys counts calls = map (of_call keys) (filter (is_from_new counts) calls)
+abbrev pub written : List Key → List ℕ → List Call → List Source
+written keys counts calls =
+    map (of_count keys counts) (filter (is_written counts calls) (range_with_len 0 (length keys)))
 
 abbrev pub entered : List Head → List Source
 entered heads = map of_head (filter was_entered heads)
 
--- All ways that lead to a line: those of keys with counts, of other keys with targets, and of functions that were entered.
+-- All ways that lead to a line: those of keys with counts or targets, and of functions that were entered.
 abbrev pub sources : List Key → List ℕ → List Call → List Head → List Source
-sources keys counts calls heads = counted keys counts (length keys) ++ (called keys counts calls ++ entered heads)
+sources keys counts calls heads = written keys counts calls ++ entered heads
 
 -- What an item tells.
 pub record Told : Type 0 where

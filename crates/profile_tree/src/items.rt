@@ -1,7 +1,7 @@
 // The ways that lead to a line, with the ranks of their functions.
-ghost use Rattle.std.specs.Prelude.{◌≡◌, ◌<◌, ◌++◌, [], All, IfOk, IsPermutation, OnOk, filter, length, map};
+ghost use Rattle.std.specs.Prelude.{◌≡◌, ◌<◌, ◌++◌, ◌||◌, [], false, All, IfOk, IsPermutation, OnOk, filter, length, map, slice_index_or};
 ghost use Rattle.std.specs.List.{AllByRecursion, range_with_len};
-ghost use Rattle.profile_tree.specs.Items.{called, entered, has_count, of_count, ranked, ranked_source, sources, told_item};
+ghost use Rattle.profile_tree.specs.Items.{AreCallers, entered, has_count, is_written, of_count, ranked, ranked_source, sources, told_item};
 ghost use Rattle.profile_tree.specs.Known.{HasNames, IsGiven};
 ghost use Rattle.profile_tree.specs.Steps.{at_function, frame_step, steps_at, steps_of};
 
@@ -19,15 +19,14 @@ pub struct RankedBy<'r> {
     pub name: &'r [u32],
 }
 
-/// A key that has a count, with the rank of its function.
+/// A key that has a line, with the rank of its function.
 #[derive(Clone, Copy, Debug, PartialEq, Eq, PartialOrd, Ord)]
-pub struct Counted {
+pub struct Written {
     pub rank: u32,
     pub id: u32,
 }
 
-/// An item for each key with a count, for each call that was made from another key, and for each
-/// function that was entered.
+/// An item for each key that has a count or a target, and for each function that was entered.
 ///
 /// Keys go function by function, so that ways that are compared lie together in memory.
 pub fn items_of(
@@ -47,53 +46,82 @@ pub fn items_of(
         (map (ranked_source ranks.now.total.now ranks.now.name.now)
         (sources keys.now counts.now calls.now heads.now))) }
 {
-    let counted = counted_of(alloc, keys, counts, ranks)?;
+    let written = written_of(alloc, keys, counts, calls, ranks)?;
     let mut items = Vec::new(alloc);
-    push_counted(alloc, &mut items, keys, counts, &counted, ranks)?;
-    push_called(alloc, &mut items, keys, counts, calls, ranks)?;
+    push_written(alloc, &mut items, keys, counts, &written, ranks)?;
     push_entered(alloc, &mut items, heads, ranks)?;
     Ok(items)
 }
 
-/// The keys that have a count, by the ranks of their functions.
-fn counted_of(
+/// The keys that have a line, by the ranks of their functions.
+fn written_of(
     alloc: Global,
     keys: &Keys,
     counts: &[u64],
+    calls: &[Call],
     ranks: &RankedBy,
-) -> Result<Vec<Counted>, NoMemory>
+) -> Result<Vec<Written>, NoMemory>
     requires names { All (HasNames (length ranks.now.total.now)) keys.now }
+    requires calls { All (λ call. call.key.0 < length keys.now) calls.now }
     requires len { length counts.now ≡ length keys.now }
-    ensures { IfOk result (λ made. IsPermutation (map (λ c. c.id) made.items)
-        (filter (has_count counts.now) (range_with_len 0 (length keys.now)))) }
+    ensures { IfOk result (λ made. IsPermutation (map (λ w. w.id) made.items)
+        (filter (is_written counts.now calls.now) (range_with_len 0 (length keys.now)))) }
 {
-    let mut counted = numbered(alloc, keys, counts, ranks)?;
-    sort_counted(&mut counted)?;
-    Ok(counted)
+    let mut written = numbered(alloc, keys, counts, calls, ranks)?;
+    sort_written(&mut written)?;
+    Ok(written)
 }
 
-/// The keys that have a count, by number.
+/// The keys that have a line, by number.
 fn numbered(
     alloc: Global,
     keys: &Keys,
     counts: &[u64],
+    calls: &[Call],
     ranks: &RankedBy,
-) -> Result<Vec<Counted>, NoMemory>
+) -> Result<Vec<Written>, NoMemory>
     requires names { All (HasNames (length ranks.now.total.now)) keys.now }
+    requires calls { All (λ call. call.key.0 < length keys.now) calls.now }
     requires len { length counts.now ≡ length keys.now }
-    ensures { IfOk result (λ made. map (λ c. c.id) made.items
-        ≡ filter (has_count counts.now) (range_with_len 0 (length keys.now))) }
+    ensures { IfOk result (λ made. map (λ w. w.id) made.items
+        ≡ filter (is_written counts.now calls.now) (range_with_len 0 (length keys.now))) }
 {
+    let callers = callers_of(alloc, keys.len(), calls)?;
     let mut made = Vec::new(alloc);
     for id in 0..keys.len() {
-        if counts[id as usize] > 0 {
-            made.push(Counted {
+        if is_written(counts, &callers, id) {
+            made.push(Written {
                 rank: root_rank(keys.get(KeyId(id)), ranks),
                 id,
             })?;
         }
     }
     Ok(made)
+}
+
+/// Of each of so many keys, whether a function was called from it.
+///
+/// However many calls a key has, it has one line, so that its way is kept once.
+fn callers_of(alloc: Global, keys: u32, calls: &[Call]) -> Result<Vec<bool>, NoMemory>
+    requires { All (λ call. call.key.0 < keys) calls.now }
+    ensures { IfOk result (λ callers. AreCallers keys calls.now callers.items) }
+{
+    let mut callers = vec![in alloc; false; keys as usize]?;
+    for call in calls {
+        if call.times > 0 {
+            callers[call.key.0 as usize] = true;
+        }
+    }
+    Ok(callers)
+}
+
+/// Whether a key has a count, or a function was called from it.
+fn is_written(counts: &[u64], callers: &[bool], id: u32) -> bool
+    requires count { id < length counts.now }
+    requires caller { id < length callers.now }
+    ensures { result ≡ (has_count counts.now id || slice_index_or callers.now id false) }
+{
+    counts[id as usize] > 0 || callers[id as usize]
 }
 
 /// The rank of the function of a key.
@@ -104,34 +132,34 @@ fn root_rank(key: &Key, ranks: &RankedBy) -> u32
 }
 
 /// Puts keys into the order of their functions.
-fn sort_counted(counted: &mut Vec<Counted>) -> Result<(), AllocError>
-    ensures { OnOk result (IsPermutation counted.old.items counted.new.items) }
+fn sort_written(written: &mut Vec<Written>) -> Result<(), AllocError>
+    ensures { OnOk result (IsPermutation written.old.items written.new.items) }
 {
-    counted.sort()
+    written.sort()
 }
 
 /// Appends these keys with their counts, those of each function in the order of their ways.
 ///
 /// Sorting few ways that lie together leaves the sort of all items almost nothing to do.
-fn push_counted(
+fn push_written(
     alloc: Global,
     items: &mut Vec<Item>,
     keys: &Keys,
     counts: &[u64],
-    counted: &[Counted],
+    written: &[Written],
     ranks: &RankedBy,
 ) -> Result<(), NoMemory>
     requires names { All (HasNames (length ranks.now.total.now)) keys.now }
     requires callees { All (HasNames (length ranks.now.name.now)) keys.now }
     requires len { length counts.now ≡ length keys.now }
-    requires given { All (λ c. c.id < length keys.now) counted.now }
+    requires given { All (λ w. w.id < length keys.now) written.now }
     ensures { OnOk result (IsPermutation (map told_item items.new.items)
         (map told_item items.old.items ++ map (ranked_source ranks.now.total.now ranks.now.name.now)
-        (map (of_count keys.now counts.now) (map (λ c. c.id) counted.now)))) }
+        (map (of_count keys.now counts.now) (map (λ w. w.id) written.now)))) }
 {
     let mut group = Vec::new(alloc);
     let mut rank = 0;
-    for key in counted {
+    for key in written {
         if key.rank != rank {
             append_sorted(items, &mut group)?;
             rank = key.rank;
@@ -150,31 +178,6 @@ fn append_sorted(items: &mut Vec<Item>, group: &mut Vec<Item>) -> Result<(), NoM
 {
     sort_items(group)?;
     items.append(group)?;
-    Ok(())
-}
-
-/// Appends the keys that have a target and no count, once for each call.
-fn push_called(
-    alloc: Global,
-    items: &mut Vec<Item>,
-    keys: &Keys,
-    counts: &[u64],
-    calls: &[Call],
-    ranks: &RankedBy,
-) -> Result<(), NoMemory>
-    requires names { All (HasNames (length ranks.now.total.now)) keys.now }
-    requires callees { All (HasNames (length ranks.now.name.now)) keys.now }
-    requires calls { All (λ call. call.key.0 < length keys.now) calls.now }
-    requires len { length counts.now ≡ length keys.now }
-    ensures { OnOk result (map told_item items.new.items ≡ map told_item items.old.items
-        ++ map (ranked_source ranks.now.total.now ranks.now.name.now)
-        (called keys.now counts.now calls.now)) }
-{
-    for call in calls {
-        if call.times > 0 && counts[call.key.0 as usize] == 0 {
-            items.push(item_of(alloc, keys, call.key, 0, ranks)?)?;
-        }
-    }
     Ok(())
 }
 

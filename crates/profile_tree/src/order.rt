@@ -2,7 +2,6 @@
 ghost use Rattle.std.specs.Prelude.{◌≡◌, ◌≤◌, ◌<◌, ◌-◌, ◌^◌, IfOk, length, map, replicate};
 ghost use Rattle.name_ranks.specs.Ranks.{AreRanks};
 
-use crate::sums::zeros;
 use key_types::Names;
 use name_ranks::{Ranks, ranks_of};
 use refusal::NoMemory;
@@ -23,7 +22,7 @@ pub fn by_total(alloc: Global, names: &Names, totals: &[u64]) -> Result<Ranks, N
 pub fn by_name(alloc: Global, names: &Names) -> Result<Ranks, NoMemory>
     ensures { IfOk result (λ r. AreRanks names.now (replicate (length names.now) 0) r.ranks r.ids) }
 {
-    let weights = zeros(alloc, names.len())?;
+    let weights = vec![in alloc; 0; names.len() as usize]?;
     ranks_of(alloc, names, &weights)
 }
 

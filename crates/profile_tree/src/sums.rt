@@ -1,5 +1,5 @@
 // Sums for each function.
-ghost use Rattle.std.specs.Prelude.{◌≡◌, ◌<◌, ◌+◌, ◌^◌, ℕ, All, IfOk, length, replicate, slice_index, slice_set};
+ghost use Rattle.std.specs.Prelude.{◌≡◌, ◌<◌, ◌+◌, ◌^◌, ℕ, All, IfOk, length, slice_index, slice_set};
 ghost use Rattle.profile_model.specs.Profile.{capped};
 ghost use Rattle.profile_tree.specs.Sums.{AreEach, entries_of, root_total};
 
@@ -19,7 +19,7 @@ pub fn totals_of(
     requires len { length counts.now ≡ length keys.now }
     ensures { IfOk result (λ totals. AreEach names (root_total keys.now counts.now) totals.items) }
 {
-    let mut totals = zeros(alloc, names)?;
+    let mut totals = vec![in alloc; 0; names as usize]?;
     for id in 0..keys.len() {
         let key = keys.get(KeyId(id));
         raise(&mut totals, key.root, counts[id as usize]);
@@ -43,20 +43,9 @@ pub fn heads_of(alloc: Global, names: u32, heads: &[Head]) -> Result<Vec<u64>, N
     requires fit { (name : ℕ) → entries_of heads.now name < 2 ^ 64 }
     ensures { IfOk result (λ sums. AreEach names (entries_of heads.now) sums.items) }
 {
-    let mut sums = zeros(alloc, names)?;
+    let mut sums = vec![in alloc; 0; names as usize]?;
     for head in heads {
         sums[head.name.0 as usize] += head.times;
     }
     Ok(sums)
-}
-
-/// So many zeros.
-pub fn zeros(alloc: Global, n: u32) -> Result<Vec<u64>, NoMemory>
-    ensures { IfOk result (λ zeros. zeros.items ≡ replicate n 0) }
-{
-    let mut zeros = Vec::new(alloc);
-    for _ in 0..n {
-        zeros.push(0)?;
-    }
-    Ok(zeros)
 }

@@ -1,16 +1,20 @@
-use Rattle.std.proofs.Common.{◌≡◌, ◌∙◌, ◌+◌, ap, arith, filter, map}
+use Rattle.std.proofs.Common.{◌≡◌, ◌∙◌, ◌<◌, ◌+◌, ◌||◌, ap, arith, false, filter, get_or, map, sym}
 use Rattle.std.specs.List.{range_with_len}
 use Rattle.profile_tree.proofs.ItemLemmas.{no_more, one_more}
-use Rattle.profile_tree.specs.Items.{has_count}
+use Rattle.profile_tree.specs.Items.{has_count, is_written}
 use Rattle.profile_tree.proofs.items.numbered.Goals as goal
-use Rattle.profile_tree.proofs.items.numbered.Goals.{then-counts-id-gt0+in_ok-push, else-counts-id-gt0}
+use Rattle.profile_tree.proofs.items.numbered.Goals.{then-is_written+in_ok-push, else-is_written}
 
 pub loop-id-preserved : goal.loop-id-preserved
 loop-id-preserved c =
     let counts = c.args.counts.now in
     let i = c.loop-id.id in
     let old = c.loop-id.made.items in
-    elim c.if-counts-id-gt0.branch as (λ _. map (λ k. k.id) c.if-counts-id-gt0.made.items ≡ filter (has_count counts) (range_with_len 0 (i + 1))) [
-      | then-counts-id-gt0+in_ok-push w ↦ ap (λ v. map (λ k. k.id) v.items) w.made-is ∙ one_more counts i old _ _ w.in_ok-push.ensures.items (λ _. i) w.if-counts-id-gt0.true c.loop-id.invariant
-      | else-counts-id-gt0 w ↦ ap (λ v. map (λ k. k.id) v.items) w.made-is ∙ no_more counts i old (λ some. omega (arith, some, w.if-counts-id-gt0.false)) c.loop-id.invariant
+    let p = is_written counts c.args.calls.now in
+    let low : i < c.len.result = omega (arith, c.loop-id-test.true, c.len.ensures, c.len-id-end.ensures) in
+    let same : c.is_written.result ≡ p i =
+    c.is_written.ensures ∙ ap (λ b. has_count counts i || b) (ap (λ xs. get_or xs i false) c.deref.ensures.value ∙ c.in_ok-callers.ensures.each i low) in
+    elim c.if-is_written.branch as (λ _. map (λ w. w.id) c.if-is_written.made.items ≡ filter p (range_with_len 0 (i + 1))) [
+      | then-is_written+in_ok-push w ↦ ap (λ v. map (λ w. w.id) v.items) w.made-is ∙ one_more p i old _ _ w.in_ok-push.ensures.items (λ _. i) (sym same ∙ w.if-is_written.true) c.loop-id.invariant
+      | else-is_written w ↦ ap (λ v. map (λ w. w.id) v.items) w.made-is ∙ no_more p i old (sym same ∙ w.if-is_written.false) c.loop-id.invariant
     ]

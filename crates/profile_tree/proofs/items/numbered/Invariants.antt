@@ -1,7 +1,7 @@
 use Rattle.std.proofs.Common.{◌≡◌, filter, map}
 use Rattle.std.specs.List.{range_with_len}
-use Rattle.profile_tree.specs.Items.{has_count}
+use Rattle.profile_tree.specs.Items.{is_written}
 use Rattle.profile_tree.proofs.items.numbered.Given as goal
 
 abbrev pub invariant-loop-id : goal.invariant-loop-id
-invariant-loop-id l = map (λ c. c.id) l.made.items ≡ filter (has_count l.counts) (range_with_len 0 l.id)
+invariant-loop-id l = map (λ w. w.id) l.made.items ≡ filter (is_written l.counts l.calls) (range_with_len 0 l.id)

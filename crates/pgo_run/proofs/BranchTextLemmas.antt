@@ -1,5 +1,6 @@
 -- A branch text that is read piece by piece.
 use Rattle.std.proofs.Common.{◌≡◌, ℕ, ◌+◌, ◌-◌, ◌≤◌, List, [], ◌++◌, length, Option, None, Some, Ok, Err, IfSome, refl, sym, ap, subst, ◌∙◌, arith}
+use Rattle.std.proofs.KnownBytes.{Consumes-nil, Consumes-trans}
 use Rattle.std.proofs.lemmas.List.{append-nil, append_assoc, length-append}
 use Rattle.std.specs.Io.KnownBytes.{Consumes, IsAtEnd}
 use Rattle.refusal.specs.declared.place.Stop.{Stop}
@@ -17,16 +18,6 @@ use Rattle.pgo_run.specs.Halt.{halt_of_stop}
 use Rattle.pgo_run.specs.declared.halt.Halt.{Halt}
 use Rattle.pgo_run.specs.declared.halt.Halt.TheVariants as halt
 use Rattle.pgo_run.specs.declared.halt.Halt.TheVariants.{NoSuchFile, ReadFault}
-
-Consumes-nil : (a : Option (List ℕ)) → Consumes a a []
-Consumes-nil None = tt
-Consumes-nil (Some x) = refl
-
-Consumes-trans : (a b c : Option (List ℕ)) (bs cs : List ℕ) → Consumes a b bs → Consumes b c cs → Consumes a c (bs ++ cs)
-Consumes-trans None b c bs cs p q = tt
-Consumes-trans (Some x) None c bs cs p q = absurd p
-Consumes-trans (Some x) (Some y) None bs cs p q = absurd q
-Consumes-trans (Some x) (Some y) (Some z) bs cs p q = p ∙ ap (λ l. bs ++ l) q ∙ sym (append_assoc bs cs z)
 
 -- This was read of what was left, and the reader goes on.
 pub record ReadSoFar (loading : Option LoadMap) (k : ℕ) (before left : Option (List ℕ)) (reader : Reading) (tally : Tally) : Type 0 where

@@ -17,11 +17,11 @@ use Rattle.byte_view.proofs.TextLemmas.{Reads-passed}
 
 -- the value and the rest of one answer
 module _ {X E : Type 0} where
-  same_value : (n m : X) (rest behind : List ℕ) → ◌≡◌ {A = Result (X × List ℕ) E} (Ok (n, rest)) (Ok (m, behind)) → n ≡ m
+  pub same_value : (n m : X) (rest behind : List ℕ) → ◌≡◌ {A = Result (X × List ℕ) E} (Ok (n, rest)) (Ok (m, behind)) → n ≡ m
   same_value n m rest behind e =
       let pair : ◌≡◌ {A = X × List ℕ} (n, rest) (m, behind) = cc in ap (λ (p : X × List ℕ). p.0) pair
 
-  same_rest : (n m : X) (rest behind : List ℕ) → ◌≡◌ {A = Result (X × List ℕ) E} (Ok (n, rest)) (Ok (m, behind)) → rest ≡ behind
+  pub same_rest : (n m : X) (rest behind : List ℕ) → ◌≡◌ {A = Result (X × List ℕ) E} (Ok (n, rest)) (Ok (m, behind)) → rest ≡ behind
   same_rest n m rest behind e =
       let pair : ◌≡◌ {A = X × List ℕ} (n, rest) (m, behind) = cc in ap (λ (p : X × List ℕ). p.1) pair
 

@@ -5,22 +5,12 @@ use Rattle.std.proofs.lemmas.Bool.{cases_Bool, eqb-true}
 use Rattle.std.proofs.lemmas.List.{append_assoc}
 use Rattle.byte_view.specs.Laws.{BeginsWith}
 use Rattle.byte_view.specs.Reading.{Reading, SpellsField, SpellsRun, SpellsText, SpellsUleb, SpellsSleb, field_at, run_at, text_at, uleb_at, sleb_at}
-use Rattle.byte_view.proofs.Fronts.{field_at-spelled, run_at-spelled, text_at-spelled, uleb_at-spelled, sleb_at-spelled}
+use Rattle.byte_view.proofs.Fronts.{same_value, same_rest, field_at-spelled, run_at-spelled, text_at-spelled, uleb_at-spelled, sleb_at-spelled}
 use Rattle.value_model.specs.Value.{Value, addr, block, const, text, flag, str_at, line_str_at, str_index, addr_index, ref_info, ref, sig, offset, loc_index, range_index}
 use Rattle.value_model.specs.Forms.{Operand, in_abbreviation, other_form, flag_of, signed_const, offset_size, forms, look_up, operand_of}
 use Rattle.value_model.specs.Reading.{ValueReading, taken_as, block_behind, direct_at, operand_at, value_behind, value_at}
 use Rattle.value_model.specs.Spelling.{SpellsOffset, SpellsCounted, SpellsDirect, DW_FORM_addr, DW_FORM_block2, DW_FORM_block4, DW_FORM_data2, DW_FORM_data4, DW_FORM_data8, DW_FORM_string, DW_FORM_block, DW_FORM_block1, DW_FORM_data1, DW_FORM_flag, DW_FORM_sdata, DW_FORM_strp, DW_FORM_udata, DW_FORM_ref_addr, DW_FORM_ref1, DW_FORM_ref2, DW_FORM_ref4, DW_FORM_ref8, DW_FORM_ref_udata, DW_FORM_sec_offset, DW_FORM_exprloc, DW_FORM_flag_present, DW_FORM_strx, DW_FORM_addrx, DW_FORM_data16, DW_FORM_line_strp, DW_FORM_ref_sig8, DW_FORM_loclistx, DW_FORM_rnglistx, DW_FORM_strx1, DW_FORM_strx2, DW_FORM_strx3, DW_FORM_strx4, DW_FORM_addrx1, DW_FORM_addrx2, DW_FORM_addrx3, DW_FORM_addrx4, Spells, direct, DW_FORM_indirect, DW_FORM_implicit_const}
 use Rattle.value_model.specs.Laws.{ReadIsSpelled}
-
--- the value and the rest of one answer
-module _ {X E : Type 0} where
-  same_value : (n m : X) (rest behind : List ℕ) → ◌≡◌ {A = Result (X × List ℕ) E} (Ok (n, rest)) (Ok (m, behind)) → n ≡ m
-  same_value n m rest behind e =
-      let pair : ◌≡◌ {A = X × List ℕ} (n, rest) (m, behind) = cc in ap (λ (p : X × List ℕ). p.0) pair
-
-  same_rest : (n m : X) (rest behind : List ℕ) → ◌≡◌ {A = Result (X × List ℕ) E} (Ok (n, rest)) (Ok (m, behind)) → rest ≡ behind
-  same_rest n m rest behind e =
-      let pair : ◌≡◌ {A = X × List ℕ} (n, rest) (m, behind) = cc in ap (λ (p : X × List ℕ). p.1) pair
 
 -- a value taken as one of some class
 module _ {X : Type 0} (class : X → Value) (SpellsX : List ℕ → X → Type 0) (SpellsValue : List ℕ → Value → Type 0) (reading : List ℕ → Reading X) (case : (bytes : List ℕ) (x : X) → SpellsX bytes x → SpellsValue bytes (class x)) (spelled : (bytes rest : List ℕ) (x : X) → reading bytes ≡ Ok (x, rest) → BeginsWith SpellsX bytes x rest) where

@@ -17,4 +17,5 @@ entered_at file address =
 
 -- How often the code at an address was copied, where bases are asked, and else 1.
 unfoldable pub factor_of_address : List ℕ → Bool → ℕ → ℕ
-factor_of_address file base address = factor_at (row_in (tables_in file)) base (numbered_from 0 (members_in file)) address
+factor_of_address file base address =
+    factor_at (row_in (tables_in file)) base (numbered_from 0 (members_in file)) address

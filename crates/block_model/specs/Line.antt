@@ -65,7 +65,8 @@ at_most upper = record { lower = 0; upper = Some upper }
 -- A bound by one number: `lo=A` or `hi=B`.
 abbrev pub bound_by_number : List ℕ → Option Bound
 bound_by_number field =
-    option_or (option_map at_least (bounded_by (codes "lo=") field)) (option_map at_most (bounded_by (codes "hi=") field))
+    option_or (option_map at_least (bounded_by (codes "lo=") field))
+    (option_map at_most (bounded_by (codes "hi=") field))
 
 -- A bound by one word: `never`, `lo=A` or `hi=B`, and for a block `ran`.
 unfoldable pub bound_by_word : Bool → List ℕ → Option Bound

@@ -9,7 +9,8 @@ IsReadBack {X = X} Spells reading =
     (bytes rest : List ℕ) (value : X) → Spells bytes value → reading (bytes ++ rest) ≡ Ok (value, rest)
 
 -- The bytes begin with a spelling of the value, and the rest stands behind it.
-pub record BeginsWith {X : Type 0} (Spells : List ℕ → X → Type 0) (bytes : List ℕ) (value : X) (rest : List ℕ) : Type 0 where
+pub record BeginsWith {X : Type 0} (Spells : List ℕ → X → Type 0)
+    (bytes : List ℕ) (value : X) (rest : List ℕ) : Type 0 where
   pub front : List ℕ
   pub spelled : Spells front value
   pub parts : bytes ≡ front ++ rest

@@ -11,7 +11,8 @@ use Rattle.unit_model.specs.Values.{Found}
 abbrev pub has_name : List Found → ℕ → Bool
 has_name found name = list_any (λ other. other.name == name) found
 
--- An attribute stands behind the others, unless one of its name stands among those of its entry, which begin at `first`.
+-- An attribute stands behind the others, unless one of its name stands among those of its entry, which begin at
+-- `first`.
 abbrev pub AddsFound : ℕ → List Found → List Found → Found → Type 0
 AddsFound first old new more = new ≡ (if has_name (drop first old) more.name then old else old ++ more ∷ [])
 

@@ -16,7 +16,8 @@ pub record IsNext (resolve : Resolves) (pairs : Bool) (base : ℕ) (old new : Cu
 
 -- A call took the next entry, or found the end of the list, or the place where the list is bad.
 abbrev pub TakesNext : Resolves → Bool → ℕ → Cursor → Cursor → Result (Option Step) Place → Type 0
-TakesNext resolve pairs base old new (Ok None) = entries_from pairs old.at old.left ≡ record { entries = []; broken = None }
+TakesNext resolve pairs base old new (Ok None) =
+    entries_from pairs old.at old.left ≡ record { entries = []; broken = None }
 TakesNext resolve pairs base old new (Ok (Some step)) = IsNext resolve pairs base old new step
 TakesNext resolve pairs base old new (Err place) =
     (count : ℕ) → bad_in_list resolve count (entries_from pairs old.at old.left) ≡ Some place

@@ -89,7 +89,8 @@ pub fn read_whole<I: Inputs>(inputs: &mut I, limit: u64, into: &mut Vec<u8>) -> 
     ensures grows { StartsWith into.new.items into.old.items }
     ensures store { I.store inputs.new ≡ I.store inputs.old }
     ensures opens { I.opens inputs.new ≡ I.opens inputs.old }
-    ensures cause { HasCauseWhere tells_read_fault (I.faults inputs.old) (I.faults inputs.new) result }
+    ensures cause { HasCauseWhere tells_read_fault
+        (I.faults inputs.old) (I.faults inputs.new) result }
 {
     let mut piece = [0; PIECE];
     let mut room = limit;

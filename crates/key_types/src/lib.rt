@@ -1,9 +1,9 @@
 //! The names and keys that the places of addresses are told by, and what a map of places answers.
 //!
 //! A key is a place in a program as a profile names it: a function, the calls inlined into it, and
-//! a line of the innermost with its discriminator. `Names` and `Keys` give each a number, so that the
-//! rest of the program compares numbers. `Places` is any map from addresses to keys, and `split`
-//! takes a discriminator apart.
+//! a line of the innermost with its discriminator. `Names` and `Keys` give each a number, so that
+//! the rest of the program compares numbers. `Places` is any map from addresses to keys, and
+//! `split` takes a discriminator apart.
 #![tactic(auto)]
 
 mod chain;

@@ -46,8 +46,8 @@ fn key(alloc: Global, calls: &[Frame], offset: u16, disc: u32) -> Result<Key, Al
     })
 }
 
-// The numbers of two keys that differ in their calls alone and of the first again, and how many keys
-// there are.
+// The numbers of two keys that differ in their calls alone and of the first again, and how many
+// keys there are.
 fn key_numbers(alloc: Global) -> Result<([KeyId; 3], u32), NoMemory> {
     let mut keys = Keys::new(alloc)?;
     let first = keys.add(key(alloc, &[CALL], 2, 0)?)?;

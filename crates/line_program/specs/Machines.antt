@@ -25,7 +25,8 @@ beside rest (Err kind) = Err kind
 
 -- The machine behind an operation that was read, and the bytes behind it; or why it is refused.
 abbrev pub behind_read : Header → ℕ → Machine → OperationReading → Result (Machine × List ℕ) Kind
-behind_read header before machine (Ok (operation, rest)) = beside rest (machine_after header before machine (Ok operation))
+behind_read header before machine (Ok (operation, rest)) =
+    beside rest (machine_after header before machine (Ok operation))
 behind_read header before machine (Err kind) = Err kind
 
 -- The machine and the bytes that are left behind an operation, or why it is refused.

@@ -18,6 +18,7 @@ pub record Sampled (file : Option (List ℕ)) (loading : Option LoadMap) (counts
 abbrev pub SamplesFile : Option (List ℕ) → Option LoadMap → Result Tally Halt → Type 0
 SamplesFile file loading (Ok counts) = Sampled file loading counts
 SamplesFile file loading (Err (NoSuchFile j)) = (j ≡ 2) × (file ≡ None)
-SamplesFile file loading (Err (Refused place)) = (text : List ℕ) × (file ≡ Some text) × (first_bad_of_text 2 text ≡ Some place)
+SamplesFile file loading (Err (Refused place)) =
+    (text : List ℕ) × (file ≡ Some text) × (first_bad_of_text 2 text ≡ Some place)
 SamplesFile file loading (Err (ReadFault j)) = ⊤
 SamplesFile file loading (Err NoMemory) = ⊤

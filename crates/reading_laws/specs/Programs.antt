@@ -10,7 +10,8 @@ use Rattle.binary_model.specs.LinePrograms.{row_count, rows_of_unit, rows_of_uni
 -- The rows of a program are its own, however many stand before them.
 abbrev pub RowsAreOfTheirProgram : Type 0
 RowsAreOfTheirProgram =
-    (before : ℕ) (start_of : Cursor) (rows : List Row) → rows_at before start_of ≡ Ok rows → rows_at 0 start_of ≡ Ok rows
+    (before : ℕ) (start_of : Cursor) (rows : List Row)
+    → rows_at before start_of ≡ Ok rows → rows_at 0 start_of ≡ Ok rows
 
 -- The rows of the first units, each with those of its own program, which is read once and where the rows of the units
 -- before it stand.

@@ -11,8 +11,8 @@ const SHIFTS: u64 = 1 << 60;
 /// The worth of a byte that is no digit.
 const NO_DIGIT: u8 = 0xff;
 
-/// What each byte is worth as a hexadecimal digit. A table, since nearly every byte of a branch text
-/// is such a digit: a `match` reads them six times as slowly.
+/// What each byte is worth as a hexadecimal digit. A table, since nearly every byte of a branch
+/// text is such a digit: a `match` reads them six times as slowly.
 static HEX_DIGITS: [u8; 256] = *b"\
     \xff\xff\xff\xff\xff\xff\xff\xff\xff\xff\xff\xff\xff\xff\xff\xff\
     \xff\xff\xff\xff\xff\xff\xff\xff\xff\xff\xff\xff\xff\xff\xff\xff\

@@ -8,8 +8,8 @@ use Rattle.value_model.specs.Spelling.{Spells}
 -- What spells a value is read as this value, whatever follows it.
 abbrev pub SpelledIsRead : Type 0
 SpelledIsRead =
-    (form : ℕ) (implicit : ℤ) (wide : Bool) (bytes rest : List ℕ) (value : Value) → Spells implicit wide form bytes value
-    → value_at form implicit wide (bytes ++ rest) ≡ Ok (value, rest)
+    (form : ℕ) (implicit : ℤ) (wide : Bool) (bytes rest : List ℕ) (value : Value)
+    → Spells implicit wide form bytes value → value_at form implicit wide (bytes ++ rest) ≡ Ok (value, rest)
 
 -- What is read as a value begins with a spelling of this value.
 abbrev pub ReadIsSpelled : Type 0

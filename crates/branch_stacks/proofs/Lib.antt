@@ -1,6 +1,4 @@
-mod Examples
 pub mod FeedLemmas
-pub mod LineLemmas
 pub mod LoadLemmas
 pub mod ReaderLemmas
 pub mod TextLemmas

@@ -1,11 +1,12 @@
 -- What a reader has read, as bytes come, lines end and the text does.
-use Rattle.std.proofs.Common.{◌≡◌, ℕ, suc, ◌+◌, ◌-◌, ◌<◌, ◌≤◌, Bool, true, false, ◌||◌, List, [], ◌∷◌, ◌++◌, length, take, drop, get_or, cond, min, Option, None, Some, Result, Ok, Err, refl, sym, ap, subst, ◌∙◌, arith}
+use Rattle.std.proofs.Common.{◌≡◌, ℕ, suc, ◌+◌, ◌-◌, ◌<◌, ◌≤◌, nat_lt, Bool, true, false, ◌||◌, List, [], ◌∷◌, ◌++◌, length, take, drop, get_or, cond, min, Option, None, Some, Result, Ok, Err, refl, sym, ap, subst, ◌∙◌, arith}
 use Rattle.std.specs.Prelude.{filter}
 use Rattle.std.specs.List.{AllByRecursion, flat_map, list_any}
 use Rattle.std.specs.Option.{option_map}
 use Rattle.std.proofs.lemmas.Bool.{eqb-true}
+use Rattle.std.proofs.lemmas.Bool.Decides.{nat_tests}
 use Rattle.std.proofs.lemmas.Grind.{flat_map-append}
-use Rattle.std.proofs.lemmas.List.{append-nil, append_assoc, length-append, take_all, take_min}
+use Rattle.std.proofs.lemmas.List.{append-nil, append_assoc, length-append, length-take, take_all, take_min}
 use Rattle.std.proofs.lemmas.List.Folds.{list_any_none}
 use Rattle.std.proofs.Math.Seq.{split_at, take-append-add}
 use Rattle.memchr.specs.Find.{IsFirstByte, is_byte}
@@ -28,8 +29,29 @@ use Rattle.branch_stacks.specs.Loads.{met_in, AddsLine}
 use Rattle.branch_stacks.specs.Reader.{Reading, HasRead, behind_line, held_of, ended_text, ReadsMore}
 use Rattle.branch_counts.specs.Tally.{Tally, total_of, Tells}
 use Rattle.branch_stacks.specs.Text.{item_of_counted, TellsBefore}
-use Rattle.branch_stacks.proofs.LineLemmas.{take-again, cause-held, cause-short}
+use Rattle.branch_lines.proofs.LineLemmas.{take-again, cause-too_long}
 use Rattle.branch_stacks.proofs.TextLemmas.{Tells-more, met_in-more, total_told}
+
+-- ---- what is held of an open line
+
+-- What is held of an open line is refused as that line is, and is all of it where it is not too long.
+cause-held : (before : ℕ) (line : List ℕ) → cause_of_line before (held_of line) ≡ cause_of_line before line
+cause-held before line =
+    elim (nat_lt max_line_bytes (length line)) as (λ b. nat_lt max_line_bytes (length line) ≡ b → cause_of_line before (held_of line) ≡ cause_of_line before line) [
+      | true ↦ λ is.
+          let long : max_line_bytes < length line = grind (arith, nat_tests) in
+          let held : max_line_bytes < length (held_of line) = omega (arith, length-take (max_line_bytes + 1) line) in
+          cause-too_long before (held_of line) held ∙ sym (cause-too_long before line long)
+      | false ↦ λ is. let short : length line ≤ max_line_bytes = grind (arith, nat_tests) in ap (cause_of_line before) (take_all (max_line_bytes + 1) line (omega arith))
+    ] refl
+
+-- a line that is not refused is not too long
+cause-short : (before : ℕ) (line : List ℕ) → cause_of_line before line ≡ None → length line ≤ max_line_bytes
+cause-short before line good =
+    elim (nat_lt max_line_bytes (length line)) as (λ b. nat_lt max_line_bytes (length line) ≡ b → length line ≤ max_line_bytes) [
+      | true ↦ λ is. let long : max_line_bytes < length line = grind (arith, nat_tests) in let bad = sym good ∙ cause-too_long before line long in absurd (cc)
+      | false ↦ λ is. grind (arith, nat_tests)
+    ] refl
 
 -- ---- the lines of a text that goes on
 

@@ -1,4 +1,3 @@
-pub mod Line
 pub mod Loads
 pub mod Reader
 pub mod Text

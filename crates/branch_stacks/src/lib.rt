@@ -6,8 +6,6 @@
 //! prints (perf-script(1), "brstack").
 #![tactic(auto)]
 
-mod line;
-mod load_line;
 mod loads;
 mod reader;
 #[cfg(test)]

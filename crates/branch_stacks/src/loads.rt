@@ -7,8 +7,8 @@ ghost use Rattle.sample_model.specs.Moves as moves;
 ghost use Rattle.branch_stacks.specs.Loads.{map_in, range_behind, AddsLine};
 ghost use Rattle.branch_counts.specs.Tally.{total_of};
 
-use crate::load_line::load_line;
 use branch_counts::{Counts, CountsStop};
+use branch_lines::load_line;
 use load_index::{LoadIndex, SegmentIndex};
 use load_model::LoadSegment;
 use refusal::NoMemory;

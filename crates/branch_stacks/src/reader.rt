@@ -7,10 +7,10 @@ ghost use Rattle.branch_stacks.specs.Loads.{AddsLine};
 ghost use Rattle.branch_stacks.specs.Reader.{behind_line, new_reading, new_reading_by, held_of, room_of, EndsLine, Feeds, Finishes, ReadsMore};
 ghost use Rattle.branch_stacks.specs.Text.{item_of_counted};
 
-use crate::line::{MAX_KEPT, MAX_LINE_BYTES};
 use crate::loads::Loads;
 use crate::text::count_line;
 use branch_counts::Counts;
+use branch_lines::{MAX_KEPT, MAX_LINE_BYTES};
 use load_model::LoadSegment;
 use memchr::memchr;
 use refusal::{Kind, NoMemory, Place, Stop, refuse_if};
@@ -53,7 +53,7 @@ impl Model for Reader {
     ghost use Rattle.sample_model.specs.Limits.{max_text_bytes};
     ghost use Rattle.branch_stacks.specs.Loads.{map_of, met_of};
     ghost use Rattle.branch_stacks.specs.Reader.{Reading};
-    ghost use Rattle.branch_stacks.specs.declared.line.TheConstants.{MAX_KEPT};
+    ghost use Rattle.branch_lines.specs.declared.line.TheConstants.{MAX_KEPT};
     ghost use Rattle.branch_stacks.specs.declared.reader.TheConstants.{MAX_HELD};
 
     ghost Value = { Reading };

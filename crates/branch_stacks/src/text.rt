@@ -9,12 +9,12 @@ ghost use Rattle.sample_model.specs.Limits.{max_branches};
 ghost use Rattle.branch_stacks.specs.Loads.{map_of, met_of, met_in, AddsLine};
 ghost use Rattle.branch_counts.specs.Tally.{total_of, TellsOf};
 ghost use Rattle.branch_stacks.specs.Text.{item_of_counted, TellsLinesBefore};
-ghost use Rattle.branch_stacks.specs.declared.line.TheConstants.{MAX_KEPT};
+ghost use Rattle.branch_lines.specs.declared.line.TheConstants.{MAX_KEPT};
 
-use crate::line::read_line;
 use crate::loads::Loads;
 use crate::reader::Reader;
 use branch_counts::{Counts, CountsStop};
+use branch_lines::read_line;
 use refusal::{Kind, Place, Stop};
 use text_scan::Line;
 

@@ -1,0 +1,292 @@
+#!/usr/bin/env python3
+"""known.py PROGRAM: runs the built program on binaries of which each byte is known, and on texts of samples of them.
+
+What it has to write is worked out by hand from docs/FORMATS.md and docs/RULES.md, and the places of the file where a
+changed byte is refused too. The last line tells how many cases passed and failed; a case that failed has a line.
+"""
+import os
+import subprocess
+import sys
+import tempfile
+
+sys.dont_write_bytecode = True
+sys.path.insert(0, os.path.join(os.path.dirname(os.path.abspath(__file__)), "..", "hostile"))
+import make
+
+USAGE = b"usage: pgo counts, where, profile, build, check or make\n"
+DONE, BAD_WORDS, REFUSED = 0, 2, 4
+
+# The generated binaries of one function and of two: `f0000` with a call of `g` inlined into it, and `f0001` behind it.
+ONE = make.small(1)
+TWO = make.small(2)
+
+# A unit of version 4 and one of version 5: `lo` from line 10, with its ranges in `.debug_ranges`, and `hi` from line 20,
+# with name, base address and ranges by indexes.
+MIXED = make.elf(
+    [
+        # A unit and a function for version 4, and the same for version 5.
+        (b".debug_abbrev", bytes.fromhex(
+            "01110110171101 0000 022e0003083b0b5517 0000 00"
+            "0111011017721773177417111b 0000 022e0003253b0b5523 0000 00")),
+        (b".debug_info", bytes.fromhex(
+            "1e000000 0400 00000000 08 01 00000000 0010400000000000 02 6c6f00 0a 00000000 00"
+            "1f000000 0500 01 08 15000000 01 00000000 08000000 08000000 0c000000 00 02 00 14 00 00")),
+        # Line 11 from 0x401010 on, and line 21 from 0x402010 on, 16 bytes each.
+        (b".debug_line", bytes.fromhex(
+            "40000000 0400 14000000 01 01 01 fb 0e 0d 000101010100000001000001 00 00"
+            "0009021010400000000000 030a 01 0210 000101 0009021020400000000000 0314 01 0210 000101")),
+        (b".debug_str", b"ab\0hi\0"),
+        # Where text 0 begins, and that address 0 is 0x402000.
+        (b".debug_str_offsets", bytes.fromhex("08000000 0500 0000 03000000")),
+        (b".debug_addr", bytes.fromhex("0c000000 0500 08 00 0020400000000000")),
+        # From 0x10 up to 0x20 behind the base of the unit, and the same behind address 0.
+        (b".debug_ranges", bytes.fromhex("1000000000000000 2000000000000000") + bytes(16)),
+        (b".debug_rnglists", bytes.fromhex("12000000 0500 08 00 01000000 04000000 01 00 04 10 20 00")),
+    ],
+    0x2000,
+)
+
+# Three units with `a`, `b` and `c` from lines 10, 20 and 30, of which the first and the last name one line program: it
+# has line 11 for `a` and 31 for `c`. That of `b` has line 22 for it, and line 41 for the addresses of `c`.
+SHARED = make.elf(
+    [
+        (b".debug_abbrev", bytes.fromhex("0111011017 0000 022e0003083b0b11011206 0000 00")),
+        (b".debug_info", bytes.fromhex(
+            "1d000000 0400 00000000 08 01 00000000 02 6100 0a 0010400000000000 10000000 00"
+            "1d000000 0400 00000000 08 01 44000000 02 6200 14 1010400000000000 10000000 00"
+            "1d000000 0400 00000000 08 01 00000000 02 6300 1e 2010400000000000 10000000 00")),
+        (b".debug_line", bytes.fromhex(
+            "40000000 0400 14000000 01 01 01 fb 0e 0d 000101010100000001000001 00 00"
+            "0009020010400000000000 030a 01 0210 000101 0009022010400000000000 031e 01 0210 000101"
+            "40000000 0400 14000000 01 01 01 fb 0e 0d 000101010100000001000001 00 00"
+            "0009021010400000000000 0315 01 0210 000101 0009022010400000000000 0328 01 0210 000101")),
+    ],
+    0x30,
+)
+
+passed = failed = 0
+
+
+def judge(title, wanted, words, **files):
+    """Runs the program on these words and files; wanted is its status, its output and what it says on the error output."""
+    global passed, failed
+    with tempfile.TemporaryDirectory() as folder:
+        for name, data in files.items():
+            with open(f"{folder}/{name}", "wb") as file:
+                file.write(data)
+        ran = subprocess.run([PROGRAM, *words], cwd=folder, stdin=subprocess.DEVNULL, capture_output=True)
+    if (ran.returncode, ran.stdout, ran.stderr) == wanted:
+        passed += 1
+    else:
+        failed += 1
+        print(f"FAILED: {title}: {ran.returncode} {ran.stdout!r} {ran.stderr!r}, wanted {wanted}")
+
+
+def place(title, binary, address, line, *options):
+    judge(f"{title}, {address}", (DONE, line, b""), ["where", *options, "bin", address], bin=binary)
+
+
+def refused(title, binary, at, kind):
+    wanted = REFUSED, b"", b"refused: file 1 at %d: %s\n" % (at, kind)
+    judge(title, wanted, ["where", "bin", "401000"], bin=binary)
+
+
+def changed(binary, *changes):
+    """The binary with other bytes: from the first place of each change to its last one, both held, this byte."""
+    made = bytearray(binary)
+    for first, last, byte in changes:
+        made[first : last + 1] = bytes([byte]) * (last + 1 - first)
+    return bytes(made)
+
+
+def places():
+    for word in ["401000", "0x401000", "0000000000401000"]:
+        place("a word for an address", ONE, word, b"f0000 0\n")
+    place("capital digits", ONE, "0x40103F", b"f0000 3\n")
+    place("address 0", ONE, "0", b"outside\n")
+    for first, end, line in [
+        (0x400FFE, 0x401000, b"outside\n"),
+        (0x401000, 0x401008, b"f0000 0\n"),
+        (0x401008, 0x401010, b"f0000 1\n"),
+        (0x401010, 0x401020, b"f0000 2.1 g 1\n"),
+        (0x401020, 0x401030, b"f0000 2.2\n"),
+        (0x401030, 0x401040, b"f0000 3\n"),
+        (0x401040, 0x401042, b"outside\n"),
+    ]:
+        for address in range(first, end):
+            place("each address", ONE, f"{address:x}", line)
+    place("bases", ONE, "401014", b"f0000 2 g 1\n", "--base")
+    place("bases", ONE, "401020", b"f0000 2.1\n", "--base")
+    for address, line in [
+        ("40100f", b"outside\n"),
+        ("401010", b"lo 1\n"),
+        ("40101f", b"lo 1\n"),
+        ("402010", b"hi 1\n"),
+        ("40201f", b"hi 1\n"),
+        ("402020", b"outside\n"),
+    ]:
+        place("units of both versions", MIXED, address, line)
+    for address, line in [("401000", b"a 1\n"), ("401010", b"b 2\n"), ("401020", b"c 1\n"), ("401030", b"outside\n")]:
+        place("units that share a line program", SHARED, address, line)
+
+
+def other_places():
+    low_line = (271, 271, 0x7F), (274, 274, 0x82)
+    place("a line of 0", changed(ONE, *low_line), "401000", b"noline\n")
+    place("a line before the function's", changed(ONE, *low_line), "401008", b"f0000 65527\n")
+    place("a name with a #", changed(ONE, (187, 187, 0x23)), "401008", b"nameless\n")
+    place("a discarded function", changed(ONE, (195, 202, 0), (262, 269, 0)), "401008", b"outside\n")
+    over = changed(TWO, (237, 237, 0))
+    place("two functions over one another", over, "401008", b"f0000 1\n")
+    place("two functions over one another", over, "401040", b"outside\n")
+
+
+# The places from the first to the last one, both held, that are set to this byte, and where that is refused.
+DAMAGE = [
+    (4, 4, 0x01, 4, b"NotElf64Little"),
+    (16, 16, 0x01, 16, b"BadType"),
+    (399, 399, 0xFF, 399, b"NameBad"),
+    (423, 430, 0xFF, 399, b"SectionPastEnd"),
+    (472, 472, 0x08, 463, b"Compressed"),
+    (122, 122, 0x02, 122, b"BadChildren"),
+    (127, 127, 0x01, 127, b"CodeTwice"),
+    (149, 158, 0xFF, 149, b"LebTooLong"),
+    (166, 166, 0x1E, 195, b"Short"),
+    (170, 170, 0x06, 170, b"BadVersion"),
+    (172, 172, 0x2F, 172, b"PastSection"),
+    (176, 176, 0x04, 176, b"BadAddressSize"),
+    (177, 177, 0x09, 177, b"UnknownAbbrev"),
+    (124, 124, 0x2D, 178, b"BadForm"),
+    (124, 124, 0x08, 178, b"BadClass"),
+    (178, 178, 0xFF, 178, b"PastSection"),
+    (208, 208, 0x11, 208, b"BadReference"),
+    (208, 208, 0x29, 207, b"OriginTooLong"),
+    (233, 233, 0x06, 233, b"BadVersion"),
+    (240, 240, 0x02, 240, b"ManyOperations"),
+    (243, 243, 0x00, 243, b"BadLineRange"),
+    (244, 244, 0x00, 244, b"BadOpcodeBase"),
+    (260, 260, 0x08, 259, b"BadExtended"),
+    (271, 271, 0x76, 270, b"LineOverflow"),
+    (274, 275, 0x00, 274, b"BadExtended"),
+    (285, 285, 0x03, 286, b"NoEnd"),
+]
+
+# The root, the function that is inlined, and one that calls it; and a call that is inlined, below which others stand.
+FUNCTION = bytes.fromhex("01 00000000 02 6700 05 03 6600 0a 0000104000000000 0040000000")
+CALL = bytes.fromhex("04 10000000 1010400000000000 10000000 0c 00 01")
+
+
+def with_entries(entries):
+    """The generated binary with other entries in `.debug_info`, which then stands at its end."""
+    made = bytearray(changed(ONE, (151, 151, 0x01)))
+    size = len(entries) + 11
+    made[487:503] = len(made).to_bytes(8, "little") + size.to_bytes(8, "little")
+    return bytes(made) + (size - 4).to_bytes(4, "little") + bytes([4, 0, 0, 0, 0, 0, 8]) + entries
+
+
+def refusals():
+    for first, last, byte, at, kind in DAMAGE:
+        refused(f"bytes {first} to {last} set to {byte}", changed(ONE, (first, last, byte)), at, kind)
+    for size in range(len(ONE)):
+        at, kind = (0, b"NotElf") if size < 64 else (32, b"BadHeader") if size < 120 else (40, b"BadHeader")
+        refused(f"the first {size} bytes", ONE[:size], at, kind)
+    # Entries in one another, and calls inlined into one another: as many as may stand, and one more.
+    good = DONE, b"outside\n", b""
+    judge("1,025 levels", good, ["where", "bin", "1"], bin=with_entries(FUNCTION[:5] * 1025))
+    refused("1,026 levels", with_entries(FUNCTION[:5] * 1026), 655 + 11 + 5 * 1025, b"TooDeep")
+    judge("255 calls", good, ["where", "bin", "1"], bin=with_entries(FUNCTION + CALL * 255))
+    refused("256 calls", with_entries(FUNCTION + CALL * 256), 655 + 11 + 26 + 20 * 255, b"InlineTooDeep")
+
+
+def words():
+    for spelled in [
+        "where", "where bin", "where bin xyz", "where bin 0x", "where bin 0X1", "where bin 00000000000401000",
+        "where --base --base bin 401000", "where --bases bin 401000", "where -- bin 401000", "where bin --base 401000",
+        "where bin 401000 --base", "profile", "profile bin", "make 1 bin", "build bin perf perf",
+    ]:
+        judge(spelled, (BAD_WORDS, b"", USAGE), spelled.split(), bin=ONE)
+    judge("an empty address", (BAD_WORDS, b"", USAGE), ["where", "bin", ""], bin=ONE)
+
+
+TWO_SAMPLES = (
+    b"401036 0x401038/0x401036/P/-/-/1 0x40100c/0x401020/P/-/-/1 0x401034/0x401000/P/-/-/1\n"
+    b"401036 0x401038/0x401036/P/-/-/1 0x401004/0x401010/P/-/-/1\n"
+)
+PERF_LINE = (
+    b"# captured on: x\n          401036  0x401038/0xffffffff81e00010/P/-/-/0//-  "
+    b"0xffffffff81e01020/0x401036/M/-/-/12//-\n"
+)
+LOAD = b"x 7 PERF_RECORD_MMAP2 7/7: [0x7f0000000000(0x1000) @ 0 08:02 5 0]: r-xp /bin/x\n"
+
+
+def profile(title, binary, text, lines, ran, *options, reversed=0, outside=0, crossing=0):
+    """The profile with its report up to the ranges, and the numbers of ranges behind it."""
+    numbers = b"# ranges ran %d\n# ranges reversed %d\n# ranges outside %d\n# ranges crossing %d\n"
+    wanted = lines + numbers % (ran, reversed, outside, crossing) + b"# units read 1 passed 0\n"
+    judge(title, (DONE, wanted, b""), ["profile", *options, "bin", "perf"], bin=binary, perf=text)
+
+
+def profiles():
+    profile(
+        "two samples", ONE, TWO_SAMPLES,
+        b"f0000:7:1\n 0: 1\n 1: 1\n 2.2: 2\n 3: 2 f0000:1\n 2.1: g:1\n  1: 1\n# branches 5\n# entries 1\n# inside 4\n", 3,
+    )
+    profile("no sample", ONE, b"", b"# branches 0\n# entries 0\n# inside 0\n", 0)
+    profile(
+        "a call alone", ONE, b"0x401034/0x401000",
+        b"f0000:0:1\n 3: 0 f0000:1\n# branches 1\n# entries 1\n# inside 0\n", 0,
+    )
+    profile(
+        "one address", ONE, b"0x401004/0x9 0x9/0x401004",
+        b"f0000:1:0\n 0: 1\n# branches 2\n# entries 0\n# inside 0\n"
+        b"# unmapped FromOutside 0x9 0x401004 1\n# unmapped ToOutside 0x401004 0x9 1\n", 1,
+    )
+    profile(
+        "the largest of a line", ONE,
+        b"0x401033/0x9 0x9/0x401030\n0x401033/0x9 0x9/0x401030\n0x40103b/0x9 0x9/0x401038",
+        b"f0000:2:0\n 3: 2\n# branches 6\n# entries 0\n# inside 0\n"
+        b"# unmapped FromOutside 0x9 0x401030 2\n# unmapped FromOutside 0x9 0x401038 1\n"
+        b"# unmapped ToOutside 0x401033 0x9 2\n# unmapped ToOutside 0x40103b 0x9 1\n", 3,
+    )
+    profile(
+        "a line as perf prints it", ONE, PERF_LINE,
+        b"f0000:1:0\n 3: 1\n# branches 2\n# entries 0\n# inside 0\n"
+        b"# unmapped FromOutside 0xffffffff81e01020 0x401036 1\n# unmapped ToOutside 0x401038 0xffffffff81e00010 1\n", 1,
+    )
+    profile(
+        "ranges that go back, out of all functions, and from one into another", TWO,
+        b"0x401004/0x9 0x9/0x401008\n0x401050/0x9 0x9/0x401030\n0x401004/0x9 0x9/0x400ff0\n",
+        b"# branches 6\n# entries 0\n# inside 0\n"
+        b"# unmapped FromOutside 0x9 0x400ff0 1\n# unmapped FromOutside 0x9 0x401008 1\n"
+        b"# unmapped FromOutside 0x9 0x401030 1\n# unmapped ToOutside 0x401004 0x9 2\n"
+        b"# unmapped ToOutside 0x401050 0x9 1\n", 0, reversed=1, outside=1, crossing=1,
+    )
+
+
+def bases_and_loads():
+    # Discriminator 17 has base 0, by which hits count four times.
+    copied = changed(ONE, (278, 278, 0x11))
+    thrice = b"0x401021/0x9 0x9/0x401020\n" * 3
+    unmapped = b"# unmapped FromOutside 0x9 0x401020 3\n# unmapped ToOutside 0x401021 0x9 3\n"
+    report = b"# branches 6\n# entries 0\n# inside 0\n" + unmapped
+    profile("a discriminator", copied, thrice, b"f0000:3:0\n 2.17: 3\n" + report, 3)
+    profile("its base and its factor", copied, thrice, b"f0000:12:0\n 2: 12\n" + report, 3, "--base")
+    call = LOAD + b"0x7f0000000034/0x7f0000000000/P/-/-/1"
+    profile(
+        "a moved call", ONE, call, b"f0000:0:1\n 3: 0 f0000:1\n# branches 1\n# entries 1\n# inside 0\n", 0, "--map=/bin/x",
+    )
+    profile(
+        "a foreign call", ONE, call,
+        b"# branches 1\n# entries 0\n# inside 0\n# unmapped FromOutside 0x0 0x0 1\n", 0, "--map=/bin/y",
+    )
+    profile(
+        "a moved range between foreign ends", ONE, LOAD + b"0x7f0000000004/0x9 0x9/0x7f0000000000",
+        b"f0000:1:1\n 0: 1\n# branches 2\n# entries 1\n# inside 0\n# unmapped ToOutside 0x401004 0x0 1\n", 1, "--map=/bin/x",
+    )
+
+
+PROGRAM = os.path.abspath(sys.argv[1])
+for part in [places, other_places, refusals, words, profiles, bases_and_loads]:
+    part()
+print(f"{passed} passed, {failed} failed")
+sys.exit(failed > 0)

@@ -1,25 +1,55 @@
+// What clauses leave open: that good files give an output and no `NoMemory`, that a bad line is
+// refused before the text was read to its end, and that time is no more than files' sizes ask for.
+// What is written of many more words and files is in checks/program.
 ghost use Rattle.std.specs.Prelude.{◌<◌};
 
-mod mixed;
-mod profile;
-mod shared;
-mod where_;
-
-use crate::{Status, run, status_line};
+use crate::{Status, run};
+use case_maker::{CasePart, make};
 use io_edge::{Fail, Items, MemoryInputs, MemorySink, StoredFile};
+use memchr::memchr;
 use refusal::{Kind, NoMemory, Place};
 use std::alloc::{AllocError, Global};
 use std::test;
+use text_scan::{Lines, push_hex};
 
-// Two samples with five branches, of which one was taken twice.
+// Two samples with five branches, of which one was taken twice: 144 bytes.
 const TEXT: &[u8] =
     b"401036 0x401038/0x401036/P/-/-/1 0x40100c/0x401020/P/-/-/1 0x401034/0x401000/P/-/-/1\n\
 401036 0x401038/0x401036/P/-/-/1 0x401004/0x401010/P/-/-/1\n";
 
 // What `counts` writes for them: 93 bytes.
-const OUTPUT: &[u8] =
+const COUNTS: &[u8] =
     b"0x401004 0x401010 1\n0x40100c 0x401020 1\n0x401034 0x401000 1\n0x401038 0x401036 2\n\
     # branches 5\n";
+
+// What `profile` writes for them and the generated binary of one function: 207 bytes.
+const PROFILE: &[u8] = b"f0000:7:1\n 0: 1\n 1: 1\n 2.2: 2\n 3: 2 f0000:1\n 2.1: g:1\n  1: 1\n\
+# branches 5\n# entries 1\n# inside 4\n# ranges ran 3\n# ranges reversed 0\n# ranges outside 0\n\
+# ranges crossing 0\n# units read 1 passed 0\n";
+
+// The words for it.
+const WORDS: &[&[u8]] = &[b"profile", b"bin", b"perf"];
+
+// How files are read and an output is written: in pieces, and with calls that fail.
+#[derive(Clone, Copy)]
+struct Pieces {
+    read: usize,
+    room: usize,
+    fail_read: Fail,
+    fail_write: u64,
+}
+
+// Small pieces, of which these fail.
+fn failing(file: u64, call: u64, fail_write: u64) -> Pieces
+    ensures { 0 < result.read }
+{
+    Pieces {
+        read: 64,
+        room: 1000,
+        fail_read: Fail { file, call },
+        fail_write,
+    }
+}
 
 fn file(alloc: Global, name: &[u8], bytes: &[u8]) -> Result<StoredFile, AllocError> {
     Ok(StoredFile {
@@ -28,21 +58,7 @@ fn file(alloc: Global, name: &[u8], bytes: &[u8]) -> Result<StoredFile, AllocErr
     })
 }
 
-// One file, which is read in pieces and fails at these calls.
-fn perf(alloc: Global, text: &[u8], piece: usize, fail: &[Fail]) -> Result<MemoryInputs, AllocError>
-    requires { 0 < piece }
-{
-    let files = vec![in alloc; file(alloc, b"perf", text)?]?;
-    Ok(MemoryInputs::new(files, piece, fail.to_vec(alloc)?))
-}
-
-fn sink(alloc: Global, room: usize, piece: usize, fail: &[u64]) -> Result<MemorySink, test::Fail>
-    requires { 0 < piece }
-{
-    Ok(MemorySink::new(alloc, room, piece, fail.to_vec(alloc)?)?)
-}
-
-fn words(alloc: Global, texts: &[&[u8]]) -> Result<Vec<Vec<u8>>, AllocError> {
+fn words_of(alloc: Global, texts: &[&[u8]]) -> Result<Vec<Vec<u8>>, AllocError> {
     let mut words = Vec::new(alloc);
     for text in texts {
         words.push(text.to_vec(alloc)?)?;
@@ -50,102 +66,56 @@ fn words(alloc: Global, texts: &[&[u8]]) -> Result<Vec<Vec<u8>>, AllocError> {
     Ok(words)
 }
 
-// `counts` of a file of this name.
-fn counts(
+fn inputs_of(
     alloc: Global,
-    name: &[u8],
-    inputs: &mut MemoryInputs,
-    out: &mut MemorySink,
-) -> Result<Status, AllocError> {
-    Ok(run(alloc, &words(alloc, &[b"counts", name])?, inputs, out))
+    bin: &[u8],
+    perf: &[u8],
+    how: &Pieces,
+) -> Result<MemoryInputs, AllocError>
+    requires { 0 < how.now.read }
+{
+    let files = vec![in alloc; file(alloc, b"bin", bin)?, file(alloc, b"perf", perf)?]?;
+    let fail = vec![in alloc; how.fail_read]?;
+    Ok(MemoryInputs::new(files, how.read, fail))
+}
+
+// What words answer over the files `bin` and `perf`, and what is written.
+fn answer(
+    alloc: Global,
+    texts: &[&[u8]],
+    bin: &[u8],
+    perf: &[u8],
+    how: &Pieces,
+) -> Result<(Status, Vec<u8>), NoMemory>
+    requires { 0 < how.now.read }
+{
+    let words = words_of(alloc, texts)?;
+    let mut inputs = inputs_of(alloc, bin, perf, how)?;
+    let fail = vec![in alloc; how.fail_write]?;
+    let mut out = MemorySink::new(alloc, how.room, 16, fail)?;
+    let status = run(alloc, &words, &mut inputs, &mut out);
+    Ok((status, out.written().to_vec(alloc)?))
+}
+
+// The generated binary of so many functions.
+fn binary(alloc: Global, functions: u64) -> Result<Vec<u8>, test::Fail> {
+    let mut bytes = Vec::new(alloc);
+    make(functions, CasePart::Bin, &mut bytes)?;
+    Ok(bytes)
 }
 
 #[test]
-fn good_words_are_done(rt: HostRuntime) -> Result<(), test::Fail> {
+fn each_command_writes_its_output(rt: HostRuntime) -> Result<(), test::Fail> {
     let alloc = rt.alloc();
-    let cases: [(&[u8], &[u8]); 4] = [
-        (TEXT, OUTPUT),
-        (b"", b"# branches 0\n"),
-        (b"# none\n\n401036\n", b"# branches 0\n"),
-        (
-            b"1 0xA/0x9\n0x3/0xb/- 0xa/0x9",
-            b"0x3 0xb 1\n0xa 0x9 2\n# branches 3\n",
-        ),
+    let bin = binary(alloc, 1)?;
+    let cases: [(&[&[u8]], &[u8]); 3] = [
+        (&[b"counts", b"perf"], COUNTS),
+        (&[b"where", b"bin", b"401014"], b"f0000 2.1 g 1\n"),
+        (WORDS, PROFILE),
     ];
-    for (text, want) in cases {
-        let mut inputs = perf(alloc, text, 64, &[])?;
-        let mut out = sink(alloc, 1000, 16, &[])?;
-        assert_eq!(rt;
-            counts(alloc, b"perf", &mut inputs, &mut out)?,
-            Status::Done
-        );
-        assert_eq!(rt; out.written(), want);
-    }
-    Ok(())
-}
-
-#[test]
-fn the_first_bad_line_is_refused(rt: HostRuntime) -> Result<(), test::Fail> {
-    let alloc = rt.alloc();
-    let mut entries = Vec::new(alloc);
-    for _ in 0..1025 {
-        entries.extend_from_slice(b"0x1/0x2 ")?;
-    }
-    let blanks = vec![in alloc; b' '; 65_537]?;
-    let cases: [(&[u8], u64, Kind); 4] = [
-        (b"401036 0x1/0x2\n401036 zz\nzz\n", 2, Kind::BadLine),
-        (b"zz", 1, Kind::BadLine),
-        (&entries, 1, Kind::TooManyEntries),
-        (&blanks, 1, Kind::LineTooLong),
-    ];
-    for (text, at, kind) in cases {
-        let mut inputs = perf(alloc, text, 4096, &[])?;
-        let mut out = sink(alloc, 1000, 16, &[])?;
-        let want = Status::Refused(Place { file: 1, at, kind });
-        assert_eq!(rt; counts(alloc, b"perf", &mut inputs, &mut out)?, want);
-        assert_eq!(rt; out.written().len(), 0);
-    }
-    Ok(())
-}
-
-#[test]
-fn other_words_are_usage(rt: HostRuntime) -> Result<(), test::Fail> {
-    let alloc = rt.alloc();
-    let cases: [&[&[u8]]; 6] = [
-        &[],
-        &[b"counts"],
-        &[b"counts", b"perf", b"perf"],
-        &[b"count", b"perf"],
-        &[b"where", b"perf"],
-        &[b"make", b"1", b"perf"],
-    ];
-    for texts in cases {
-        let mut inputs = perf(alloc, TEXT, 64, &[])?;
-        let mut out = sink(alloc, 1000, 16, &[])?;
-        let status = run(alloc, &words(alloc, texts)?, &mut inputs, &mut out);
-        assert_eq!(rt; status, Status::Usage, "{} words", texts.len());
-        assert_eq!(rt; out.written().len(), 0);
-    }
-    Ok(())
-}
-
-#[test]
-fn the_first_file_of_a_name_is_counted(rt: HostRuntime) -> Result<(), test::Fail> {
-    let alloc = rt.alloc();
-    let cases: [(&[u8], Status, &[u8]); 4] = [
-        (b"a", Status::Done, OUTPUT),
-        (b"b", Status::Done, b"# branches 0\n"),
-        (b"", Status::NoSuchFile(1), b""),
-        (b"ab", Status::NoSuchFile(1), b""),
-    ];
-    for (name, want, written) in cases {
-        let first = file(alloc, b"a", TEXT)?;
-        let second = file(alloc, b"a", b"zz")?;
-        let files = vec![in alloc; file(alloc, b"b", b"")?, first, second]?;
-        let mut inputs = MemoryInputs::new(files, 64, Vec::new(alloc));
-        let mut out = sink(alloc, 1000, 16, &[])?;
-        assert_eq!(rt; counts(alloc, name, &mut inputs, &mut out)?, want);
-        assert_eq!(rt; out.written(), written);
+    for (texts, want) in cases {
+        let (status, written) = answer(alloc, texts, &bin, TEXT, &failing(0, 0, 99))?;
+        assert_eq!(rt; (status, written.as_slice()), (Status::Done, want));
     }
     Ok(())
 }
@@ -153,143 +123,148 @@ fn the_first_file_of_a_name_is_counted(rt: HostRuntime) -> Result<(), test::Fail
 #[test]
 fn each_failing_read_is_told(rt: HostRuntime) -> Result<(), test::Fail> {
     let alloc = rt.alloc();
-    // The 144 bytes of the text take one read more than there are pieces.
-    for (piece, reads) in [(1, 145), (7, 22), (64, 4)] {
-        for call in 0..reads + 2 {
-            let fault = call <= reads;
-            let mut inputs = perf(alloc, TEXT, piece, &[Fail { file: 1, call }])?;
-            let mut out = sink(alloc, 1000, 16, &[])?;
-            let status = counts(alloc, b"perf", &mut inputs, &mut out)?;
+    let bin = binary(alloc, 1)?;
+    // Call 0 opens a file. The 655 bytes of the binary take eleven reads and one that finds their
+    // end, the 144 bytes of the text three and one.
+    for (number, calls) in [(1, 13), (2, 5)] {
+        for call in 0..calls + 2 {
+            let how = failing(u64::from(number), call, 99);
+            let (status, written) = answer(alloc, WORDS, &bin, TEXT, &how)?;
+            let fault = call < calls;
             let want = if fault {
-                Status::ReadFault(1)
+                Status::ReadFault(number)
             } else {
                 Status::Done
             };
-            assert_eq!(rt; status, want, "call {call} of pieces of {piece}");
-            assert_eq!(rt; out.written(), if fault { b"".as_slice() } else { OUTPUT });
+            assert_eq!(rt; status, want, "call {call} of file {number}");
+            assert_eq!(rt; written.is_empty(), fault, "call {call} of file {number}");
         }
     }
     Ok(())
 }
 
 #[test]
+fn a_failing_write_cuts_the_output_off(rt: HostRuntime) -> Result<(), test::Fail> {
+    let alloc = rt.alloc();
+    let bin = binary(alloc, 1)?;
+    // The write that fails, or 0 for the end of the output, and how many bytes were written.
+    let cases = [
+        (1, 0, Status::WriteFault),
+        (2, 16, Status::WriteFault),
+        (13, 192, Status::WriteFault),
+        (0, 207, Status::WriteFault),
+        (14, 207, Status::Done),
+    ];
+    for (call, length, want) in cases {
+        let (status, written) = answer(alloc, WORDS, &bin, TEXT, &failing(0, 0, call))?;
+        assert_eq!(rt; status, want, "write {call}");
+        assert_eq!(rt;
+            Some(written.as_slice()),
+            PROFILE.get(..length),
+            "write {call}"
+        );
+    }
+    Ok(())
+}
+
+// Eight good lines fill a piece, and the line behind them is bad.
+#[test]
 fn a_bad_line_before_a_failing_read_is_refused(rt: HostRuntime) -> Result<(), test::Fail> {
     let alloc = rt.alloc();
-    let refused = |at| Status::Refused(Place {
+    let mut text = b"0x3/0x4\n".repeat(alloc, 8)?;
+    text.extend_from_slice(b"zz\n")?;
+    text.extend_from_slice(&b"0x1/0x2\n".repeat(alloc, 100)?)?;
+    let refused = Status::Refused(Place {
         file: 1,
-        at,
+        at: 9,
         kind: Kind::BadLine,
     });
-    // What stands before the lines `0x1/0x2`, the read that fails, and the answer.
-    let cases: [(&[u8], u64, Status); 4] = [
-        (b"zz\n", 3, refused(1)),
-        (b"0x3/0x4\nzz\n", 3, refused(2)),
-        (b"0x3/0x4\nzz\n", 2, Status::ReadFault(1)),
-        (b"", 3, Status::ReadFault(1)),
-    ];
-    for (front, call, want) in cases {
-        let mut text = front.to_vec(alloc)?;
-        text.extend_from_slice(&b"0x1/0x2\n".repeat(alloc, 100)?)?;
-        let mut inputs = perf(alloc, &text, 8, &[Fail { file: 1, call }])?;
-        let mut out = sink(alloc, 1000, 16, &[])?;
-        assert_eq!(rt; counts(alloc, b"perf", &mut inputs, &mut out)?, want);
-        assert_eq!(rt; out.written().len(), 0);
+    for (call, want) in [(2, Status::ReadFault(1)), (3, refused)] {
+        let words: &[&[u8]] = &[b"counts", b"perf"];
+        let (status, written) = answer(alloc, words, b"", &text, &failing(1, call, 99))?;
+        assert_eq!(rt; status, want);
+        assert_eq!(rt; written.len(), 0);
     }
     Ok(())
-}
-
-#[test]
-fn each_failing_write_is_told(rt: HostRuntime) -> Result<(), test::Fail> {
-    let alloc = rt.alloc();
-    let cases: [(usize, usize, u64, usize); 11] = [
-        (1000, 8, 3, 16),
-        (1000, 16, 1, 0),
-        (1000, 16, 2, 16),
-        (1000, 16, 3, 32),
-        (1000, 16, 4, 48),
-        (1000, 16, 5, 64),
-        (1000, 16, 6, 80),
-        (1000, 16, 0, 93),
-        (92, 16, 9, 92),
-        (93, 16, 7, 93),
-        (93, 16, 0, 93),
-    ];
-    for (room, piece, call, length) in cases {
-        let fault = call < 7 || room < 93;
-        let mut inputs = perf(alloc, TEXT, 64, &[])?;
-        let mut out = sink(alloc, room, piece.max(1), &[call])?;
-        let status = counts(alloc, b"perf", &mut inputs, &mut out)?;
-        let want = if fault {
-            Status::WriteFault
-        } else {
-            Status::Done
-        };
-        assert_eq!(rt; status, want, "write {call} into {room}");
-        assert_eq!(rt; Some(out.written()), OUTPUT.get(..length));
-    }
-    Ok(())
-}
-
-// What `counts` answers over the text, and where it writes.
-fn counted(alloc: Global) -> Result<(Status, MemorySink), NoMemory> {
-    let mut inputs = perf(alloc, TEXT, 64, &[])?;
-    let mut out = MemorySink::new(alloc, 1000, 16, Vec::new(alloc))?;
-    Ok((counts(alloc, b"perf", &mut inputs, &mut out)?, out))
 }
 
 // For runs in which one request for memory is refused. Where it is one of the test's own, there is
 // nothing to see.
 #[test]
 fn without_memory_nothing_is_written(rt: HostRuntime) {
-    if let Ok((status, out)) = counted(rt.alloc()) {
+    let words: &[&[u8]] = &[b"counts", b"perf"];
+    if let Ok((status, out)) = answer(rt.alloc(), words, b"", TEXT, &failing(0, 0, 99)) {
         let refused = status == Status::NoMemory;
-        let want = if refused { b"".as_slice() } else { OUTPUT };
+        let want = if refused { b"".as_slice() } else { COUNTS };
         assert!(rt; refused || status == Status::Done);
-        assert_eq!(rt; out.written(), want);
+        assert_eq!(rt; out.as_slice(), want);
     }
 }
 
-#[test]
-fn a_status_has_its_code_and_its_line(rt: HostRuntime) {
-    let place = |file, at, kind| Status::Refused(Place { file, at, kind });
-    let cases: [(Status, u8, &[u8]); 12] = [
-        (Status::Done, 0, b""),
-        (Status::CheckFailed(7), 1, b"check failed at line 7\n"),
-        (
-            Status::CheckFailed(u64::MAX),
-            1,
-            b"check failed at line 18446744073709551615\n",
-        ),
-        (
-            Status::Usage,
-            2,
-            b"usage: pgo counts, where, profile, build, check or make\n",
-        ),
-        (Status::NoSuchFile(2), 3, b"no such file: 2\n"),
-        (
-            place(1, 2, Kind::BadLine),
-            4,
-            b"refused: file 1 at 2: BadLine\n",
-        ),
-        (
-            place(1, 1 << 30, Kind::FileTooLarge),
-            4,
-            b"refused: file 1 at 1073741824: FileTooLarge\n",
-        ),
-        (
-            place(255, u64::MAX, Kind::TooManyEntries),
-            4,
-            b"refused: file 255 at 18446744073709551615: TooManyEntries\n",
-        ),
-        (Status::ReadFault(3), 5, b"read fault: file 3\n"),
-        (Status::ReadFault(255), 5, b"read fault: file 255\n"),
-        (Status::WriteFault, 6, b"write fault\n"),
-        (Status::NoMemory, 7, b"no memory\n"),
-    ];
-    for (status, code, line) in cases {
-        let mut buf = [b'x'; 256];
-        assert_eq!(rt; status.code(), code);
-        assert_eq!(rt; status_line(&status, &mut buf), line.len());
-        assert!(rt; buf.starts_with(line), "{status:?}");
+/// Appends a branch behind a space.
+fn push_branch(text: &mut Vec<u8>, from: u64, to: u64) -> Result<(), test::Fail> {
+    text.push(b' ')?;
+    push_hex(text, from)?;
+    text.push(b'/')?;
+    push_hex(text, to)?;
+    Ok(())
+}
+
+/// A line with one range for each address of each of 4,096 functions: to its last address.
+fn many_ranges(alloc: Global) -> Result<Vec<u8>, test::Fail> {
+    let mut text = Vec::new(alloc);
+    for function in 0..4096u64 {
+        let start = 0x401000 + 0x40 * function;
+        for address in start..start + 0x40 {
+            push_branch(&mut text, start + 0x3f, 9)?;
+            push_branch(&mut text, 9, address)?;
+            text.push(b'\n')?;
+        }
     }
+    Ok(text)
+}
+
+/// What stands in a text from its first `#` on.
+fn report_in(text: &[u8]) -> &[u8] {
+    let (_, report) = text.split_at(memchr(b'#', text).unwrap_or(text.len()));
+    report
+}
+
+/// How many lines of a text begin with these bytes.
+fn lines_with(front: &[u8], text: &[u8]) -> u64 {
+    let mut count = 0u64;
+    for line in Lines::new(text) {
+        if line.bytes.starts_with(front) {
+            count = count.wrapping_add(1);
+        }
+    }
+    count
+}
+
+// Scans over lists of pairs, ranges or segments do not end here in a test's time. From outside 64
+// addresses of each function are branched to: its first one, which enters it, and 63 others. All
+// branches back are one for each function.
+#[test]
+fn a_quarter_of_a_million_ranges_are_counted(rt: HostRuntime) -> Result<(), test::Fail> {
+    let alloc = rt.alloc();
+    let how = Pieces {
+        read: 1 << 16,
+        room: 1 << 25,
+        fail_read: Fail { file: 0, call: 0 },
+        fail_write: 1 << 60,
+    };
+    let text = many_ranges(alloc)?;
+    let (status, written) = answer(alloc, WORDS, &binary(alloc, 4096)?, &text, &how)?;
+    assert_eq!(rt; status, Status::Done);
+    let first = b"f0000:168:1\n 0: 8\n 1: 16\n 2.2: 48\n 3: 64\n 2.1: g:32\n  1: 32\nf0001:";
+    let report = b"# branches 524288\n# entries 4096\n# inside 0\n\
+# unmapped FromOutside 0x9 0x401001 1\n";
+    let last = b" 64\n# ranges ran 262144\n# ranges reversed 0\n# ranges outside 0\n\
+# ranges crossing 0\n# units read 1 passed 0\n";
+    assert!(rt; written.starts_with(first));
+    assert!(rt; report_in(&written).starts_with(report));
+    assert_eq!(rt; lines_with(b"# unmapped", &written), 262_144);
+    assert_eq!(rt; lines_with(b"# unmapped ToOutside", &written), 4096);
+    assert!(rt; written.ends_with(last));
+    Ok(())
 }

@@ -1,5 +1,5 @@
 -- Files in memory, and the calls at which reading them fails.
-use Rattle.std.specs.Prelude.{◌≡◌, ℕ, Bool, ◌==◌, nat_lt, ◌&&◌, List, [], find, drop, slice_get, unwrap_or, Option, option_and_then}
+use Rattle.std.specs.Prelude.{◌≡◌, ℕ, min, Bool, ◌==◌, nat_lt, ◌&&◌, List, [], length, find, drop, slice_get, unwrap_or, Option, option_and_then}
 use Rattle.std.specs.Option.{option_map}
 use Rattle.std.specs.List.{list_any}
 use Rattle.std.specs.Str.{bytes_eq}
@@ -39,6 +39,10 @@ pub record GoesByPlan (file call : ℕ) (old new : InputsInMemory) (failed : Boo
   pub files_stay : new.files ≡ old.files
   pub piece_stays : new.piece ≡ old.piece
   pub plan_stays : new.fails ≡ old.fails
+
+-- How many bytes a read gives into a buffer of a size: all that are left, or as many as a piece and the buffer allow.
+abbrev pub given_of : InputsInMemory → ℕ → ℕ
+given_of inputs size = min (min (length inputs.left) inputs.piece) size
 
 -- The bytes behind this place of the file at this index.
 abbrev pub rest_of : List StoredFile → Option ℕ → ℕ → List ℕ

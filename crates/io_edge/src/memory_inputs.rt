@@ -2,7 +2,7 @@ ghost use Rattle.std.specs.Prelude.{◌≡◌, ◌+◌, ◌^◌, ◌<◌, ◌≤
 ghost use Rattle.std.specs.Io.KnownBytes.{ReadConsumes};
 ghost use Rattle.io_edge.specs.Faults.{raised, HasCause};
 ghost use Rattle.io_edge.specs.Inputs.{Opens};
-ghost use Rattle.io_edge.specs.MemoryInputs.{is_named, is_planned, rest_of, stored, GoesByPlan};
+ghost use Rattle.io_edge.specs.MemoryInputs.{given_of, is_named, is_planned, rest_of, stored, GoesByPlan};
 
 use crate::inputs::{Inputs, OpenFailed, ReadFailed};
 use crate::items::Items;
@@ -117,7 +117,7 @@ impl Inputs for MemoryInputs {
     fn read(&mut self, buf: &mut [u8]) -> Result<usize, ReadFailed>
         ensures plan { GoesByPlan self.old.opens (raised self.old.reads) self.old self.new
             (is_err result) }
-        ensures piece { IfOk result (λ n. n ≤ self.old.piece) }
+        ensures piece { IfOk result (λ n. n ≡ given_of self.old (length buf.old)) }
         ensures within { IfOk result (λ n. n ≤ length buf.old) }
         ensures bytes { ReadConsumes (Some self.old.left) (Some self.new.left) result buf.new }
         ensures store { Some (stored self.new.files) ≡ Some (stored self.old.files) }

@@ -1,7 +1,7 @@
 ghost use Rattle.std.specs.Prelude.{◌≡◌, ◌<◌, ◌≤◌, [], length, Ok, is_ok, is_err, IfOk, Some, false};
 ghost use Rattle.std.specs.Io.KnownBytes.{WriteAppends};
 ghost use Rattle.io_edge.specs.Faults.{raised, HasCause};
-ghost use Rattle.io_edge.specs.MemorySink.{is_to_fail, write_fails, KeepsPlan};
+ghost use Rattle.io_edge.specs.MemorySink.{is_to_fail, taken_of, write_fails, KeepsPlan};
 ghost use Rattle.io_edge.specs.Sink.{IsTaken};
 
 use crate::sink::{Sink, WriteFailed};
@@ -92,7 +92,7 @@ impl Sink for MemorySink {
         ensures plan { is_err result ≡ write_fails self.old (raised self.old.writes) }
         ensures writes { self.new.writes ≡ raised self.old.writes }
         ensures kept { KeepsPlan self.old self.new }
-        ensures piece { IfOk result (λ n. n ≤ self.old.piece) }
+        ensures piece { IfOk result (λ n. n ≡ taken_of self.old (length bytes.now)) }
         ensures taken { IfOk result (λ n. IsTaken n bytes.now) }
         ensures written { WriteAppends (Some self.old.written) (Some self.new.written) result
             bytes.now }

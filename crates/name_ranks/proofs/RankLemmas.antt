@@ -150,6 +150,7 @@ are_ranks names weights old new ids ranks e p s is len back =
     let o = number_total names weights in
     record {
       len = len ∙ size;
+      as_many = size;
       below = λ i h. subst (λ r. r < length ids) (sym (rank_is i h)) (place i h).1;
       back = λ i h. ap (λ r. get_or ids r 0) (rank_is i h) ∙ (place i h).2;
       known = λ r h. ids_within n ids perm r 0 h;

@@ -21,10 +21,11 @@ entry_of names weights i = (slice_index weights i, unwrap_or (slice_get names i)
 abbrev pub number_cmp : List (List ℕ) → List ℕ → ℕ → ℕ → Ordering
 number_cmp names weights i j = entry_cmp (entry_of names weights i) (entry_of names weights j)
 
--- Each of the names that have a weight has a rank, the ranks compare as the names do, and the number of the name of
--- each rank is at hand.
+-- Each of the names that have a weight has a rank, and there are no more ranks than such names. The ranks compare as
+-- the names do, and the number of the name of each rank is at hand.
 pub record AreRanks (names : List (List ℕ)) (weights ranks ids : List ℕ) : Type 0 where
   pub len : length ranks ≡ length weights
+  pub as_many : length ids ≡ length weights
   pub below : (i : ℕ) → i < length weights → slice_index ranks i < length ids
   pub back : (i : ℕ) → i < length weights → slice_index ids (slice_index ranks i) ≡ i
   pub known : (r : ℕ) → r < length ids → slice_index ids r < length weights

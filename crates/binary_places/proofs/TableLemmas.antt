@@ -13,6 +13,7 @@ use Rattle.refusal.specs.Place.{JudgesUnlessNoMemory}
 use Rattle.byte_view.specs.Cursor.{Cursor}
 use Rattle.placed_view.specs.Reader.{cursor_behind}
 use Rattle.unit_model.specs.Values.{Found}
+use Rattle.unit_model.specs.Constants.{DW_AT_stmt_list}
 use Rattle.unit_model.specs.Units.{Unit, Units}
 use Rattle.base_model.specs.Bases.{root_attribute, section_place}
 use Rattle.line_model.specs.declared.row.Row.{Row}
@@ -65,7 +66,7 @@ if_within before section (Some found) rows few e = by_within before section foun
 pub unit_within : (before : ℕ) (section : Option Cursor) (told : Units) (place : ℕ) (rows : Option (List Row)) → before ≤ max_rows_of_all
     → rows_of_unit section told place before ≡ Ok rows → before + count rows ≤ max_rows_of_all
 unfolding rows_of_unit
-unit_within before section told place rows few e = if_within before section (root_attribute told place 0x10) rows few e
+unit_within before section told place rows few e = if_within before section (root_attribute told place DW_AT_stmt_list) rows few e
 
 -- ---- the units one behind the other
 

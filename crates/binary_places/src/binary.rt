@@ -53,12 +53,11 @@ pub fn read(alloc: Global, file: &[u8], base: bool) -> Result<Binary<'_>, Stop>
         parts: &sections.ranges,
     };
     let loads = elf.loads(alloc)?;
-    let mut names = Names::new(alloc)?;
-    let members = inline_tree::make(alloc, &source, &mut names)?;
+    let tree = inline_tree::make(alloc, &source)?;
     let mut keys = Keys::new(alloc)?;
-    let map = context_map::make(alloc, &members, &tables, &mut keys, base)?;
+    let map = context_map::make(alloc, &tree.members, &tables, &mut keys, base)?;
     Ok(Binary {
-        names,
+        names: tree.names,
         keys,
         map,
         loads,

@@ -8,14 +8,11 @@ ghost use Rattle.binary_model.specs.LinePrograms.{rows_from as rows_from_told};
 ghost use Rattle.binary_places.specs.Tables.{IsNamed, IsRest};
 
 use byte_view::Part;
-use dwarf_info::Units;
+use dwarf_info::{DW_AT_STMT_LIST, Units};
 use line_program::{Row, rows};
 use refusal::{Kind, Place, Stop};
 use std::alloc::Global;
 use unit_bases::{root_attribute, section_place};
-
-/// `DW_AT_stmt_list`, which names a unit's line program.
-const STMT_LIST: u64 = 0x10;
 
 /// A line program, as a unit names it.
 #[derive(Clone, Copy)]
@@ -28,12 +25,12 @@ pub(crate) struct Named {
 
 /// The line program that the unit at a place among the units names by its root, if it names one.
 ///
-/// Source: DWARF 5, section 3.1.1, `DW_AT_stmt_list`.
+/// Source: DWARF 5, section 3.1.1.
 #[tactic(auto, unfolding(binary_model::specs::LinePrograms::rows_of_unit))]
 pub(crate) fn program_of(units: &Units<'_>, place: u32) -> Option<Named>
     ensures { IsNamed units.now place result }
 {
-    let found = root_attribute(units, place, STMT_LIST)?;
+    let found = root_attribute(units, place, DW_AT_STMT_LIST)?;
     let offset = section_place(found.value)?;
     Some(Named {
         at: found.at,
@@ -71,15 +68,12 @@ pub(crate) fn rows_from(
     ensures { GivesRows result
         (rows_from_told before (option_map start_of line.entry) program.at program.offset) }
 {
-    let file = 1;
-    let at = program.at;
+    let at = program.at as usize;
     let Some(section) = line else {
-        let kind = Kind::NoSection;
-        return Err(Stop::Refused(Place { file, at, kind }));
+        return Err(Stop::Refused(Place::in_binary(at, Kind::NoSection)));
     };
     let Some(rest) = rest_from(section, program.offset) else {
-        let kind = Kind::PastSection;
-        return Err(Stop::Refused(Place { file, at, kind }));
+        return Err(Stop::Refused(Place::in_binary(at, Kind::PastSection)));
     };
     rows(alloc, rest, before)
 }

@@ -1,8 +1,8 @@
 -- Entries one behind the other, and units.
-use Rattle.std.proofs.Common.{◌≡◌, ◌<◌, ◌≤◌, ◌+◌, ◌-◌, ℕ, zero, suc, List, [], ◌∷◌, length, take, drop, None, Some, Result, Ok, Err, refl, sym, ap, subst, ◌∙◌, add-one, drop-cons, get_or, ◌^◌, arith}
+use Rattle.std.proofs.Common.{◌≡◌, ◌<◌, ◌≤◌, ◌+◌, ℕ, suc, List, [], ◌∷◌, length, take, drop, None, Some, Result, Ok, Err, refl, sym, ap, subst, ◌∙◌, add-one, drop-cons, get_or, ◌^◌, arith}
 use Rattle.std.specs.Prelude.{slice_get, sum_by}
 use Rattle.std.specs.List.{AllZip, flat_map}
-use Rattle.std.proofs.lemmas.List.{drop_all}
+use Rattle.std.proofs.lemmas.List.{drop_all, length-take}
 use Rattle.std.proofs.lemmas.List.Sums.{sum_by-cons}
 use Rattle.std.specs.Result.{IsErrAnd, result_err}
 use Rattle.refusal.specs.declared.place.Place.{Place}
@@ -16,7 +16,7 @@ use Rattle.piece_model.specs.Pieces.{InUnit, and_then}
 use Rattle.entry_names.specs.Meaning.{Extends}
 use Rattle.tree_model.specs.Members.{Told}
 use Rattle.tree_model.specs.Frames.{SoFar, all_members, nothing}
-use Rattle.tree_model.specs.Tree.{Source, entries_of_unit, members, next_entries, next_entry, next_unit, next_units}
+use Rattle.tree_model.specs.Tree.{Source, members, next_entries, next_entry, next_unit, next_units}
 use Rattle.inline_tree.specs.Told.{Advances, AreTold, Grows, IsMadeOf, IsSoFar, IsTold}
 use Rattle.inline_tree.proofs.StepLemmas.{AllZip-append, stopped}
 
@@ -24,15 +24,6 @@ use Rattle.inline_tree.proofs.StepLemmas.{AllZip-append, stopped}
 
 pub Grows-none : (names : List (List ℕ)) (count : ℕ) → Grows count names names
 Grows-none names count = record { kept = λ n name is. is; most = omega arith }
-
-pub Grows-more : (count : ℕ) (old mid new : List (List ℕ)) → Grows count old mid → Extends mid new → Grows (count + 1) old new
-Grows-more count old mid new grown more =
-    let most = grown.most in
-    let one = more.one_more in
-    record { kept = λ n name is. more.kept n name (grown.kept n name is); most = omega arith }
-
-pub Grows-within : (few many : ℕ) (old new : List (List ℕ)) → few ≤ many → Grows few old new → Grows many old new
-Grows-within few many old new less grown = let most = grown.most in record { kept = grown.kept; most = omega arith }
 
 -- ---- the entries of a unit
 
@@ -73,49 +64,27 @@ module _ (source : Source) (of : InUnit) (all : List Entry) (first_names : List 
       (λ place same. reached.1 ∙ ap (λ es. next_entries source of es reached.0) here
       ∙ ap (λ x. and_then x (next_entries source of rest)) (subst (λ w. Advances more (Err w) new (next_entry source of entry reached.0)) same step)) stops
 
--- the entries from one place up to another
-abbrev pub up_to : List Entry → ℕ → ℕ → List Entry
-up_to entries place end = take (end - place) (drop place entries)
+-- The names have room for those of the entries that are left.
+pub record GrowsSoFar (count : ℕ) (old : List (List ℕ)) (left : List Entry) (names : List (List ℕ)) : Type 0 where
+  pub kept : (n : ℕ) (name : List ℕ) → slice_get old n ≡ Some name → slice_get names n ≡ Some name
+  pub most : length names + length left ≤ length old + count
 
-drop-get : {X : Type 0} (xs : List X) (n : ℕ) (x : X) → slice_get xs n ≡ Some x → drop n xs ≡ x ∷ drop (suc n) xs
-drop-get [] n x is = absurd cc
-drop-get (y ∷ xs) zero x is = let same : y ≡ x = cc in ap (λ z. z ∷ xs) same
-drop-get (y ∷ xs) (suc n) x is = drop-get xs n x is
+pub GrowsSoFar-start : (count first : ℕ) (entries left : List Entry) (names : List (List ℕ)) → left ≡ take count (drop first entries) → GrowsSoFar count names left names
+GrowsSoFar-start count first entries left names is =
+    let few = ap (λ (es : List Entry). length es) is in
+    let most = length-take count (drop first entries) in
+    record { kept = λ n name same. same; most = omega arith }
 
-drop-past : {X : Type 0} (xs : List X) (n : ℕ) → slice_get xs n ≡ None → drop n xs ≡ []
-drop-past [] zero none = refl
-drop-past [] (suc n) none = refl
-drop-past (y ∷ xs) zero none = absurd cc
-drop-past (y ∷ xs) (suc n) none = drop-past xs n none
+pub GrowsSoFar-more : (count : ℕ) (old : List (List ℕ)) (left rest : List Entry) (entry : Entry) (names more : List (List ℕ)) → GrowsSoFar count old left names → left ≡ entry ∷ rest
+    → Extends names more → GrowsSoFar count old rest more
+GrowsSoFar-more count old left rest entry names more grown here extends =
+    let most = grown.most in
+    let one = extends.one_more in
+    let long = ap (λ (es : List Entry). length es) here in
+    record { kept = λ n name is. extends.kept n name (grown.kept n name is); most = omega arith }
 
-take-suc : {X : Type 0} (n m : ℕ) (x : X) (xs : List X) → n ≡ suc m → take n (x ∷ xs) ≡ x ∷ take m xs
-take-suc n m x xs same = ap (λ k. take k (x ∷ xs)) same
-
-take-nil : {X : Type 0} (n : ℕ) → take {A = X} n [] ≡ []
-take-nil zero = refl
-take-nil (suc n) = refl
-
-pub up_to-first : (entries : List Entry) (place end : ℕ) (entry : Entry) → place < end → slice_get entries place ≡ Some entry
-    → up_to entries place end ≡ entry ∷ up_to entries (place + 1) end
-up_to-first entries place end entry less is =
-    let left : end - place ≡ suc (end - (place + 1)) = omega arith in
-    ap (λ es. take (end - place) es) (drop-get entries place entry is) ∙ take-suc (end - place) (end - (place + 1)) entry (drop (suc place) entries) left
-    ∙ ap (λ n. entry ∷ take (end - (place + 1)) (drop n entries)) (sym (add-one place))
-
-pub up_to-past : (entries : List Entry) (place end : ℕ) → slice_get entries place ≡ None → up_to entries place end ≡ []
-up_to-past entries place end none = ap (λ es. take (end - place) es) (drop-past entries place none) ∙ take-nil (end - place)
-
-take-none : {X : Type 0} (n : ℕ) (xs : List X) → n ≡ 0 → take n xs ≡ []
-take-none n xs none = ap (λ k. take k xs) none
-
-pub up_to-end : (entries : List Entry) (place end : ℕ) → end ≤ place → up_to entries place end ≡ []
-up_to-end entries place end past = take-none (end - place) (drop place entries) (omega arith)
-
-pub up_to-all : (entries : List Entry) (unit : unit_model.Unit) (first end : ℕ) → first ≡ unit.first → end ≡ first + unit.count
-    → entries_of_unit entries unit ≡ up_to entries first end
-up_to-all entries unit first end first_is end_is =
-    let same : unit.count ≡ end - first = omega arith in
-    ap (λ n. take n (drop unit.first entries)) same ∙ ap (λ n. take (end - first) (drop n entries)) (sym first_is)
+pub Grows-end : (count : ℕ) (old : List (List ℕ)) (left : List Entry) (names : List (List ℕ)) → GrowsSoFar count old left names → Grows count old names
+Grows-end count old left names grown = let most = grown.most in record { kept = grown.kept; most = omega arith }
 
 -- ---- the units of a file
 
@@ -131,13 +100,13 @@ pub record UnitsSoFar (source : Source) (room : ℕ) (units : List unit_model.Un
 drop-item : {X : Type 0} (xs : List X) (n : ℕ) (x : X) → n < length xs → x ≡ get_or xs n x → drop n xs ≡ x ∷ drop (n + 1) xs
 drop-item xs n x within is = rw add-one (drop-cons xs n x within ∙ ap (λ y. y ∷ drop (suc n) xs) (sym is))
 
-pub UnitsSoFar-start : (source : Source) (units : List unit_model.Unit) (names : List (List ℕ)) (made : SoFar Member) → made ≡ nothing
-    → UnitsSoFar source (length names + sum_by (λ unit. unit.count) units) units 0 names made
-UnitsSoFar-start source units names made none = record {
+pub UnitsSoFar-start : (source : Source) (units : List unit_model.Unit) (names : List (List ℕ)) (made : SoFar Member) → names ≡ [] → made ≡ nothing
+    → UnitsSoFar source (sum_by (λ unit. unit.count) units) units 0 names made
+UnitsSoFar-start source units names made no_names none = record {
   now = nothing;
   reached = refl;
   is = record { functions_are = subst (λ (s : SoFar Member). AllZip (AreTold names) [] s.functions) (sym none) tt; pieces_are = ap (λ (s : SoFar Member). s.pieces) none; frames_are = ap (λ (s : SoFar Member). s.frames) none };
-  few_names = omega arith;
+  few_names = let zero_names = ap (λ (ns : List (List ℕ)). length ns) no_names in omega arith;
   few = let zero_pieces = ap (λ (s : SoFar Member). s.pieces) none in omega arith;
 }
 
@@ -199,13 +168,13 @@ UnitsSoFar-end source room units place names made all same so_far past is =
       subst (λ l. AreTold names (all_members so_far.now) l) (sym is) (all_members-told names so_far.now.functions made.functions so_far.is.functions_are),
     )
 
-pub UnitsSoFar-stop : (source : Source) (room : ℕ) (units : List unit_model.Unit) (place : ℕ) (names more : List (List ℕ)) (made new : SoFar Member) (unit : unit_model.Unit) (why : Stop) {T : Type 0} (seen : T → List Member) (r : Result T Stop)
+pub UnitsSoFar-stop : (source : Source) (room : ℕ) (units : List unit_model.Unit) (place : ℕ) (names more : List (List ℕ)) (made new : SoFar Member) (unit : unit_model.Unit) (why : Stop) {T : Type 0} (P : T → Type 0) (r : Result T Stop)
     → units ≡ source.info.units.units → UnitsSoFar source room units place names made → place < length units → unit ≡ get_or units place unit
     → ((told : SoFar Told) → IsSoFar names told made → Advances more (Err why) new (next_unit source place unit told)) → IsErrAnd r (λ s. s ≡ why)
-    → JudgesUnlessNoMemory (result_err (members source)) r (λ x. IsMadeOf more (members source) (seen x))
-UnitsSoFar-stop source room units place names more made new unit why {T} seen (Ok x) all so_far within is read stops = absurd stops
-UnitsSoFar-stop source room units place names more made new unit why {T} seen (Err NoMemory) all so_far within is read stops = tt
-UnitsSoFar-stop source room units place names more made new unit why {T} seen (Err (Refused bad)) all so_far within is read stops =
+    → JudgesUnlessNoMemory (result_err (members source)) r P
+UnitsSoFar-stop source room units place names more made new unit why {T} P (Ok x) all so_far within is read stops = absurd stops
+UnitsSoFar-stop source room units place names more made new unit why {T} P (Err NoMemory) all so_far within is read stops = tt
+UnitsSoFar-stop source room units place names more made new unit why {T} P (Err (Refused bad)) all so_far within is read stops =
     let here = drop-item units place unit within is in
     let step = subst (λ w. Advances more (Err w) new (next_unit source place unit so_far.now)) (sym stops) (read so_far.now so_far.is) in
     let reached = ap (λ us. next_units source 0 us nothing) (sym all) ∙ so_far.reached ∙ ap (λ us. next_units source place us so_far.now) here

@@ -9,6 +9,7 @@ use Rattle.refusal.specs.declared.place.Stop.TheVariants.{Refused, NoMemory}
 use Rattle.refusal.specs.declared.kind.Kind.TheVariants.{TooManyRanges}
 use Rattle.refusal.specs.Place.{in_binary}
 use Rattle.entry_pieces.specs.Told.{Tells}
+use Rattle.unit_model.specs.Constants.{DW_TAG_inlined_subroutine, DW_TAG_subprogram}
 use Rattle.unit_model.specs.Entries.{Entry}
 use Rattle.chain_model.specs.declared.member.Member.{Member}
 use Rattle.key_types.specs.declared.ids.NameId.{NameId}
@@ -222,18 +223,18 @@ function-stop_origin source of entry names more told old new ps why r is found s
 
 -- ---- an entry of another tag
 
-entry-passed_at : (source : Source) (of : InUnit) (entry : Entry) (told : SoFar Told) → entry.tag ≢ 0x2e → entry.tag ≢ 0x1d
+entry-passed_at : (source : Source) (of : InUnit) (entry : Entry) (told : SoFar Told) → entry.tag ≢ DW_TAG_subprogram → entry.tag ≢ DW_TAG_inlined_subroutine
     → next_entry source of entry told ≡ Ok (behind_other entry.depth (frame_above entry.depth told.frames) 0 told)
 unfolding next_entry
 entry-passed_at source of entry told no_function no_call =
     ap (λ b. cond b (next_function source of entry told)
-    (cond (entry.tag == 0x1d) (next_call source of entry (frame_above entry.depth told.frames) told) (Ok (behind_other entry.depth (frame_above entry.depth told.frames) 0 told))))
-    (ne_eqb entry.tag 0x2e no_function)
+    (cond (entry.tag == DW_TAG_inlined_subroutine) (next_call source of entry (frame_above entry.depth told.frames) told) (Ok (behind_other entry.depth (frame_above entry.depth told.frames) 0 told))))
+    (ne_eqb entry.tag DW_TAG_subprogram no_function)
     ∙ ap (λ b. cond b (next_call source of entry (frame_above entry.depth told.frames) told) (Ok (behind_other entry.depth (frame_above entry.depth told.frames) 0 told)))
-    (ne_eqb entry.tag 0x1d no_call)
+    (ne_eqb entry.tag DW_TAG_inlined_subroutine no_call)
 
 pub entry-passed : (source : Source) (of : InUnit) (entry : Entry) (names : List (List ℕ)) (told : SoFar Told) (old new : SoFar Member) (tag depth : ℕ) (above : Frame)
-    → IsSoFar names told old → tag ≢ 0x2e → tag ≢ 0x1d → tag ≡ entry.tag → depth ≡ entry.depth → above ≡ frame_above depth old.frames → new ≡ behind_other depth above 0 old
+    → IsSoFar names told old → tag ≢ DW_TAG_subprogram → tag ≢ DW_TAG_inlined_subroutine → tag ≡ entry.tag → depth ≡ entry.depth → above ≡ frame_above depth old.frames → new ≡ behind_other depth above 0 old
     → Advances names (Ok tt) new (next_entry source of entry told)
 entry-passed source of entry names told old new tag depth above is no_function no_call same at frame after =
     let own = frame_above entry.depth told.frames in

@@ -4,6 +4,7 @@ use Rattle.std.specs.List.{AllZip}
 use Rattle.refusal.specs.declared.place.Place.{Place}
 use Rattle.refusal.specs.declared.place.Stop.{Stop}
 use Rattle.refusal.specs.declared.place.Stop.TheVariants.{Refused, NoMemory}
+use Rattle.unit_model.specs.Constants.{DW_AT_GNU_discriminator, DW_AT_call_line}
 use Rattle.unit_model.specs.Entries.{Entry}
 use Rattle.chain_model.specs.declared.member.Member.{Member}
 use Rattle.dwarf_ranges.specs.Meaning.{range_sections_of}
@@ -45,8 +46,8 @@ call_made depth entry origin pieces = record {
   unit = entry.unit;
   name = origin.name;
   start = origin.line;
-  line = number_in 0x59 entry;
-  disc = number_in 0x2136 entry % 2 ^ 32;
+  line = number_in DW_AT_call_line entry;
+  disc = number_in DW_AT_GNU_discriminator entry % 2 ^ 32;
   pieces = pieces;
 }
 

@@ -9,20 +9,14 @@ ghost use Rattle.tree_model.specs.Members.{Told};
 ghost use Rattle.tree_model.specs.Tree.{next_call as next_call_told, next_entry as next_entry_told, next_function as next_function_told};
 ghost use Rattle.inline_tree.specs.Told.{Advances, CountsCalls, IsSoFar, Knows, source_of};
 
+use crate::collected::Collected;
 use crate::member::{call_of, function_of};
 use crate::source::Source;
-use dwarf_info::Entry;
-use entry_names::Origins;
+use dwarf_info::{DW_TAG_INLINED_SUBROUTINE, DW_TAG_SUBPROGRAM, Entry};
 use entry_pieces::{InUnit, pieces};
-use key_types::Names;
 use member_lists::{Frame, SoFar};
 use refusal::{Kind, Place, Stop};
 use std::alloc::Global;
-
-/// The tags of functions and inlined calls: `DW_TAG_subprogram`, `DW_TAG_inlined_subroutine`.
-const SUBPROGRAM: u64 = 0x2e;
-
-const INLINED_SUBROUTINE: u64 = 0x1d;
 
 /// The deepest that inlined calls can stand.
 const MAX_CALLS: u8 = 255;
@@ -33,13 +27,13 @@ fn pieces_behind<'a>(
     source: &Source<'a, '_>,
     of: &InUnit<'a>,
     entry: &Entry<'a, '_>,
-    so_far: &SoFar,
+    before: &SoFar,
 ) -> Result<Vec<(u64, u64)>, Stop>
-    requires { so_far.now.pieces ≤ 2 ^ 26 }
+    requires { before.now.pieces ≤ 2 ^ 26 }
     ensures { Tells (λ pieces. pieces.items) result
-        (pieces_told source.now.elf.now (in_unit of.now) so_far.now.pieces entry.now) }
+        (pieces_told source.now.elf.now (in_unit of.now) before.now.pieces entry.now) }
 {
-    pieces(alloc, source.elf, of, so_far.pieces(), entry)
+    pieces(alloc, source.elf, of, before.pieces(), entry)
 }
 
 /// Reads a subprogram: a function, where it has pieces.
@@ -48,30 +42,29 @@ fn next_function<'a>(
     source: &Source<'a, '_>,
     of: &InUnit<'a>,
     entry: &Entry<'a, '_>,
-    names: &mut Names<'a>,
-    origins: &mut Origins,
-    so_far: &mut SoFar,
+    all: &mut Collected<'a>,
 ) -> Result<(), Stop>
     requires order { AreInOrder 0 (2 ^ 64) source.now.units.now.entries }
-    requires room { length names.old < 2 ^ 32 - 1 }
-    requires few { so_far.old.pieces ≤ 2 ^ 26 }
-    requires known { Knows (source_of source.now) names.old origins.old }
-    ensures read { (told : so_far_told Told) → IsSoFar names.old told so_far.old
-        → Advances names.new result so_far.new
+    requires room { length all.old.names < 2 ^ 32 - 1 }
+    requires few { all.old.members.pieces ≤ 2 ^ 26 }
+    requires known { Knows (source_of source.now) all.old.names all.old.origins }
+    ensures read { (told : so_far_told Told) → IsSoFar all.old.names told all.old.members
+        → Advances all.new.names result all.new.members
         (next_function_told (source_of source.now) (in_unit of.now) entry.now told) }
-    ensures names { Extends names.old names.new }
-    ensures few { OnOk result (so_far.new.pieces ≤ 2 ^ 26) }
-    ensures known { OnOk result (Knows (source_of source.now) names.new origins.new) }
+    ensures names { Extends all.old.names all.new.names }
+    ensures few { OnOk result (all.new.members.pieces ≤ 2 ^ 26) }
+    ensures known { OnOk result (Knows (source_of source.now) all.new.names all.new.origins) }
 {
-    let pieces = pieces_behind(alloc, source, of, entry, so_far)?;
+    let pieces = pieces_behind(alloc, source, of, entry, &all.members)?;
     if pieces.is_empty() {
-        so_far.pass(entry.depth, Frame::outside())?;
+        all.members.pass(entry.depth, Frame::outside())?;
         return Ok(());
     }
     let count = pieces.len() as u64;
-    let origin = source.origin(entry, names, origins)?;
+    let origin = source.origin(entry, &mut all.names, &mut all.origins)?;
     let function = function_of(entry, origin, pieces);
-    so_far.add_function(alloc, entry.depth, function, count)?;
+    all.members
+        .add_function(alloc, entry.depth, function, count)?;
     Ok(())
 }
 
@@ -83,11 +76,7 @@ fn calls_below(above: &Frame, entry: &Entry<'_, '_>) -> Result<u8, Place>
     ensures { CountsCalls entry.now.at above.now.calls result }
 {
     if above.calls == MAX_CALLS {
-        return Err(Place {
-            file: 1,
-            at: entry.at,
-            kind: Kind::InlineTooDeep,
-        });
+        return Err(Place::in_binary(entry.at as usize, Kind::InlineTooDeep));
     }
     Ok(above.calls + 1)
 }
@@ -98,35 +87,34 @@ fn next_call<'a>(
     source: &Source<'a, '_>,
     of: &InUnit<'a>,
     entry: &Entry<'a, '_>,
-    names: &mut Names<'a>,
-    origins: &mut Origins,
-    so_far: &mut SoFar,
+    all: &mut Collected<'a>,
 ) -> Result<(), Stop>
     requires order { AreInOrder 0 (2 ^ 64) source.now.units.now.entries }
-    requires room { length names.old < 2 ^ 32 - 1 }
-    requires few { so_far.old.pieces ≤ 2 ^ 26 }
-    requires known { Knows (source_of source.now) names.old origins.old }
-    ensures read { (told : so_far_told Told) → IsSoFar names.old told so_far.old
-        → Advances names.new result so_far.new
+    requires room { length all.old.names < 2 ^ 32 - 1 }
+    requires few { all.old.members.pieces ≤ 2 ^ 26 }
+    requires known { Knows (source_of source.now) all.old.names all.old.origins }
+    ensures read { (told : so_far_told Told) → IsSoFar all.old.names told all.old.members
+        → Advances all.new.names result all.new.members
         (next_call_told (source_of source.now) (in_unit of.now) entry.now
         (frame_above entry.now.depth told.frames) told) }
-    ensures names { Extends names.old names.new }
-    ensures few { OnOk result (so_far.new.pieces ≤ 2 ^ 26) }
-    ensures known { OnOk result (Knows (source_of source.now) names.new origins.new) }
+    ensures names { Extends all.old.names all.new.names }
+    ensures few { OnOk result (all.new.members.pieces ≤ 2 ^ 26) }
+    ensures known { OnOk result (Knows (source_of source.now) all.new.names all.new.origins) }
 {
-    let above = so_far.frame_above(entry.depth);
+    let above = all.members.frame_above(entry.depth);
     let calls = calls_below(&above, entry)?;
-    let pieces = pieces_behind(alloc, source, of, entry, so_far)?;
+    let pieces = pieces_behind(alloc, source, of, entry, &all.members)?;
     if pieces.is_empty() {
         let function = None;
-        so_far.pass(entry.depth, Frame { calls, function })?;
+        all.members.pass(entry.depth, Frame { calls, function })?;
         return Ok(());
     }
     let count = pieces.len() as u64;
-    let origin = source.origin(entry, names, origins)?;
+    let origin = source.origin(entry, &mut all.names, &mut all.origins)?;
     let call = call_of(calls, entry, origin, pieces);
     let function = above.function;
-    so_far.add_call(entry.depth, Frame { calls, function }, call, count)?;
+    all.members
+        .add_call(entry.depth, Frame { calls, function }, call, count)?;
     Ok(())
 }
 
@@ -138,28 +126,26 @@ pub(crate) fn next_entry<'a>(
     source: &Source<'a, '_>,
     of: &InUnit<'a>,
     entry: &Entry<'a, '_>,
-    names: &mut Names<'a>,
-    origins: &mut Origins,
-    so_far: &mut SoFar,
+    all: &mut Collected<'a>,
 ) -> Result<(), Stop>
     requires order { AreInOrder 0 (2 ^ 64) source.now.units.now.entries }
-    requires room { length names.old < 2 ^ 32 - 1 }
-    requires few { so_far.old.pieces ≤ 2 ^ 26 }
-    requires known { Knows (source_of source.now) names.old origins.old }
-    ensures read { (told : so_far_told Told) → IsSoFar names.old told so_far.old
-        → Advances names.new result so_far.new
+    requires room { length all.old.names < 2 ^ 32 - 1 }
+    requires few { all.old.members.pieces ≤ 2 ^ 26 }
+    requires known { Knows (source_of source.now) all.old.names all.old.origins }
+    ensures read { (told : so_far_told Told) → IsSoFar all.old.names told all.old.members
+        → Advances all.new.names result all.new.members
         (next_entry_told (source_of source.now) (in_unit of.now) entry.now told) }
-    ensures names { Extends names.old names.new }
-    ensures few { OnOk result (so_far.new.pieces ≤ 2 ^ 26) }
-    ensures known { OnOk result (Knows (source_of source.now) names.new origins.new) }
+    ensures names { Extends all.old.names all.new.names }
+    ensures few { OnOk result (all.new.members.pieces ≤ 2 ^ 26) }
+    ensures known { OnOk result (Knows (source_of source.now) all.new.names all.new.origins) }
 {
-    if entry.tag == SUBPROGRAM {
-        return next_function(alloc, source, of, entry, names, origins, so_far);
+    if entry.tag == DW_TAG_SUBPROGRAM {
+        return next_function(alloc, source, of, entry, all);
     }
-    if entry.tag == INLINED_SUBROUTINE {
-        return next_call(alloc, source, of, entry, names, origins, so_far);
+    if entry.tag == DW_TAG_INLINED_SUBROUTINE {
+        return next_call(alloc, source, of, entry, all);
     }
-    let above = so_far.frame_above(entry.depth);
-    so_far.pass(entry.depth, above)?;
+    let above = all.members.frame_above(entry.depth);
+    all.members.pass(entry.depth, above)?;
     Ok(())
 }

@@ -6,6 +6,7 @@
 //! Source: DWARF 5, sections 2.17, 3.3.1 and 3.3.8.
 #![tactic(auto)]
 
+mod collected;
 mod entries;
 mod member;
 mod source;
@@ -14,4 +15,4 @@ mod tests;
 mod tree;
 
 pub use source::Source;
-pub use tree::make;
+pub use tree::{InlineTree, make};

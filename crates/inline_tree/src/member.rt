@@ -7,14 +7,10 @@ ghost use Rattle.inline_tree.specs.Told.{call_made, function_made};
 
 use chain_model::Member;
 use dwarf_forms::Value;
-use dwarf_info::Entry;
+use dwarf_info::{DW_AT_CALL_LINE, DW_AT_GNU_DISCRIMINATOR, Entry};
 use entry_names::Origin;
 use key_types::Chain;
 use unit_bases::attribute;
-
-const CALL_LINE: u64 = 0x59;
-
-const GNU_DISCRIMINATOR: u64 = 0x2136;
 
 /// The number that a value is.
 fn number_of(value: Value<'_>) -> u64
@@ -65,8 +61,8 @@ pub(crate) fn call_of(
         unit: entry.unit,
         name: origin.name,
         start: origin.line,
-        line: number_in(CALL_LINE, entry),
-        disc: (number_in(GNU_DISCRIMINATOR, entry) % (1 << 32)) as u32,
+        line: number_in(DW_AT_CALL_LINE, entry),
+        disc: (number_in(DW_AT_GNU_DISCRIMINATOR, entry) % (1 << 32)) as u32,
         pieces: Chain::new(pieces),
     }
 }

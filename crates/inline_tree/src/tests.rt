@@ -5,7 +5,7 @@ use dwarf_info::read_units;
 use dwarf_ranges::RangeParts;
 use dwarf_strings::Texts;
 use elf_sections::read;
-use key_types::{NameId, Names};
+use key_types::NameId;
 use refusal::{Kind, Place, Stop};
 use std::alloc::{AllocError, Global};
 use std::test::Fail;
@@ -70,16 +70,13 @@ fn members(alloc: Global, file: &[u8], at: usize) -> Option<Result<Vec<Member>, 
     let Ok(elf) = read(alloc, FILE) else {
         return None;
     };
-    let Ok(mut names) = Names::new(alloc) else {
-        return None;
-    };
     let source = Source {
         elf: &elf,
         start: at,
         units: &units,
         parts: &NO_PARTS,
     };
-    Some(make(alloc, &source, &mut names))
+    Some(make(alloc, &source).map(|made| made.members))
 }
 
 #[test]
@@ -139,11 +136,7 @@ fn the_256th_call_is_too_deep(rt: HostRuntime) -> Result<(), Fail> {
         Some(true)
     );
     let deeper = calls(rt.alloc(), 255)?;
-    let too_deep = Place {
-        file: 1,
-        at: 307,
-        kind: Kind::InlineTooDeep,
-    };
+    let too_deep = Place::in_binary(307, Kind::InlineTooDeep);
     let found = members(rt.alloc(), &deeper, 40).and_then(|made| made.err());
     assert_eq!(rt; found, Some(Stop::Refused(too_deep)));
     Ok(())

@@ -8,7 +8,7 @@ use dwarf_ranges::RangeParts;
 use dwarf_strings::Texts;
 use elf_sections::Elf;
 use inline_tree::Source;
-use key_types::{Keys, Names};
+use key_types::Keys;
 use row_table::RowTable;
 use std::alloc::Global;
 use std::time::CpuClock;
@@ -75,12 +75,9 @@ fn read_units_of<'a, R: AllocGlobal + Print + Eprint + CpuClock>(
     join(rt, &members, &tables.tables, watch)
 }
 
-/// The members, whose names are numbered here alone.
+/// The members.
 fn members<'a>(alloc: Global, source: &Source<'a, '_>) -> Option<Vec<Member>> {
-    let Ok(mut names) = Names::new(alloc) else {
-        return None;
-    };
-    inline_tree::make(alloc, source, &mut names).ok()
+    Some(inline_tree::make(alloc, source).ok()?.members)
 }
 
 /// The last step, from members and row tables to their map.

@@ -1,15 +1,12 @@
 // The row tables of a binary's units.
 use byte_view::Part;
 use dwarf_forms::Value;
-use dwarf_info::{Unit, Units};
+use dwarf_info::{DW_AT_STMT_LIST, Unit, Units};
 use elf_sections::Elf;
 use line_program::rows;
 use row_table::RowTable;
 use std::alloc::Global;
 use unit_bases::attribute;
-
-/// `DW_AT_stmt_list`.
-const LINE_PROGRAM: u64 = 0x10;
 
 /// The most rows of a file.
 const MAX_ROWS: u64 = 1 << 26;
@@ -54,7 +51,7 @@ impl Tables {
 /// Where the line program of a unit begins, up to the end of the section.
 fn program_of<'a>(units: &Units<'_>, unit: &Unit, lines: Option<Part<'a>>) -> Option<Part<'a>> {
     let root = units.entry(unit.first as usize)?;
-    let at = match attribute(root.found, LINE_PROGRAM)?.value {
+    let at = match attribute(root.found, DW_AT_STMT_LIST)?.value {
         Value::Offset(at) | Value::Const(at) => at,
         _ => return None,
     };

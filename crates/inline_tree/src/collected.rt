@@ -1,0 +1,32 @@
+ghost use Rattle.std.specs.Prelude.{◌≡◌, [], IfOk};
+ghost use Rattle.tree_model.specs.Frames.{nothing};
+
+use entry_names::Origins;
+use key_types::Names;
+use member_lists::SoFar;
+use refusal::NoMemory;
+use std::alloc::Global;
+
+/// What the entries so far come to: the names by their numbers, the origins that are kept for
+/// entries to come, and the functions with their calls.
+#[derive(Drop)]
+pub(crate) struct Collected<'a> {
+    pub names: Names<'a>,
+    pub origins: Origins,
+    pub members: SoFar,
+}
+
+impl<'a> Collected<'a> {
+    /// Of no entries.
+    pub fn new(alloc: Global) -> Result<Collected<'a>, NoMemory>
+        ensures names { IfOk result (λ none. none.names ≡ []) }
+        ensures origins { IfOk result (λ none. none.origins ≡ []) }
+        ensures members { IfOk result (λ none. none.members ≡ nothing) }
+    {
+        Ok(Collected {
+            names: Names::new(alloc)?,
+            origins: Origins::new(alloc),
+            members: SoFar::new(alloc),
+        })
+    }
+}

@@ -8,8 +8,6 @@
 
 mod hits;
 mod program;
-#[cfg(test)]
-mod tests;
 mod tree;
 
 use std::process::ExitCode;

@@ -1,7 +1,0 @@
-use Rattle.std.proofs.Common.{◌≤◌, ◌+◌, ◌*◌, length}
-use Rattle.profile_bench.specs.Laid.{AreLaid}
-use Rattle.profile_bench.proofs.tests.lay_places.Given as goal
-
-abbrev pub invariant-loop-number : goal.invariant-loop-number
-invariant-loop-number l =
-    AreLaid (length l.names) (4198400 + l.number * 8) l.laid.keys l.laid.segments.items × (length l.laid.keys ≤ l.number)

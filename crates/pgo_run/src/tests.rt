@@ -22,7 +22,7 @@ const COUNTS: &[u8] =
     b"0x401004 0x401010 1\n0x40100c 0x401020 1\n0x401034 0x401000 1\n0x401038 0x401036 2\n\
     # branches 5\n";
 
-// What `profile` writes for them and the generated binary of one function: 207 bytes.
+// What `profile` writes for them and the generated binary of one function: 195 bytes.
 const PROFILE: &[u8] = b"f0000:7:1\n 0: 1\n 1: 1\n 2.2: 2\n 3: 2 f0000:1\n 2.1: g:1\n  1: 1\n\
 # branches 5\n# entries 1\n# inside 4\n# ranges ran 3\n# ranges reversed 0\n# ranges outside 0\n\
 # ranges crossing 0\n# units read 1 passed 0\n";
@@ -152,8 +152,8 @@ fn a_failing_write_cuts_the_output_off(rt: HostRuntime) -> Result<(), test::Fail
         (1, 0, Status::WriteFault),
         (2, 16, Status::WriteFault),
         (13, 192, Status::WriteFault),
-        (0, 207, Status::WriteFault),
-        (14, 207, Status::Done),
+        (0, 195, Status::WriteFault),
+        (14, 195, Status::Done),
     ];
     for (call, length, want) in cases {
         let (status, written) = answer(alloc, WORDS, &bin, TEXT, &failing(0, 0, call))?;

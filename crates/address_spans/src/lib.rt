@@ -11,8 +11,6 @@ mod frames;
 mod overlay;
 mod search;
 mod span;
-#[cfg(test)]
-mod tests;
 
 pub use cover::disjoint;
 pub use frames::framed;

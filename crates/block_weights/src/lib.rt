@@ -4,8 +4,6 @@
 #![tactic(auto)]
 
 mod blocks;
-#[cfg(test)]
-mod tests;
 
 pub use block_model::Weight;
 pub use blocks::weights;

@@ -6,8 +6,6 @@
 
 mod branch;
 mod range;
-#[cfg(test)]
-mod tests;
 
 pub use branch::classify;
 pub use class_model::{Class, RangeClass, Reason};

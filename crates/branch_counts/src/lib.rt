@@ -7,7 +7,5 @@
 mod counts;
 mod order;
 mod table;
-#[cfg(test)]
-mod tests;
 
 pub use counts::{Counts, CountsStop};

@@ -6,8 +6,6 @@
 
 mod line;
 mod load;
-#[cfg(test)]
-mod tests;
 
 pub use line::{MAX_KEPT, MAX_LINE_BYTES, read_line};
 pub use load::{LoadLine, load_line};

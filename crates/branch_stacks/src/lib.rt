@@ -8,8 +8,6 @@
 
 mod loads;
 mod reader;
-#[cfg(test)]
-mod tests;
 mod text;
 
 pub use branch_counts::{Counts, CountsStop};

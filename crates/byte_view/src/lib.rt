@@ -13,8 +13,6 @@ mod fault;
 mod laws;
 mod leb;
 mod part;
-#[cfg(test)]
-mod tests;
 
 pub use cur::Cur;
 pub use fault::ViewFault;

@@ -15,7 +15,5 @@ mod function;
 mod info;
 mod line;
 mod samples;
-#[cfg(test)]
-mod tests;
 
 pub use case::{CasePart, CaseStop, make};

@@ -8,8 +8,6 @@ mod draft;
 mod fun;
 mod said;
 mod taken;
-#[cfg(test)]
-mod tests;
 mod text;
 
 pub use block_model::{Block, Bound, Edge, Weight};

@@ -9,8 +9,6 @@ mod entrance;
 mod map;
 mod parts;
 mod span;
-#[cfg(test)]
-mod tests;
 
 pub use entrance::Entrance;
 pub use map::{Map, make};

@@ -13,8 +13,6 @@ mod block;
 mod fits;
 mod spot;
 mod sums;
-#[cfg(test)]
-mod tests;
 mod verdict;
 
 pub use spot::{Spot, first_bad};

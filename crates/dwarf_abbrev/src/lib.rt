@@ -11,8 +11,6 @@ mod attr;
 mod codes;
 mod rows;
 mod table;
-#[cfg(test)]
-mod tests;
 
 pub use abbrev::Abbrev;
 pub use attr::Attr;

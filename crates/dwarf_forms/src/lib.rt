@@ -11,8 +11,6 @@ mod form;
 mod laws;
 mod read;
 mod table;
-#[cfg(test)]
-mod tests;
 mod value;
 
 pub use form::{FormKind, kind};

@@ -12,8 +12,6 @@ mod header;
 mod kinds;
 mod rows;
 mod tables;
-#[cfg(test)]
-mod tests;
 mod unit_entries;
 mod units;
 mod values;

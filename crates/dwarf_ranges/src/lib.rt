@@ -12,8 +12,6 @@ mod list;
 mod ranges;
 mod read;
 mod step;
-#[cfg(test)]
-mod tests;
 mod walk;
 
 pub use list::RangeParts;

@@ -7,8 +7,6 @@
 #![tactic(auto)]
 
 mod section;
-#[cfg(test)]
-mod tests;
 mod unit;
 mod value;
 

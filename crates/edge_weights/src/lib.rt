@@ -8,8 +8,6 @@ mod edges;
 mod passing;
 mod samples;
 mod taken;
-#[cfg(test)]
-mod tests;
 
 pub use block_model::Weight;
 pub use edges::edge_weights;

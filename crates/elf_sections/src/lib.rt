@@ -19,7 +19,5 @@ mod program_header;
 mod reach;
 mod section_header;
 mod section_table;
-#[cfg(test)]
-mod tests;
 
 pub use elf::{Elf, read};

@@ -11,8 +11,6 @@ mod info;
 mod name;
 mod origin;
 mod origins;
-#[cfg(test)]
-mod tests;
 mod way;
 
 pub use info::Info;

@@ -9,8 +9,6 @@
 mod in_unit;
 mod pieces_of;
 mod spelled;
-#[cfg(test)]
-mod tests;
 
 pub use in_unit::InUnit;
 pub use pieces_of::{MAX_PIECES, pieces};

@@ -16,8 +16,6 @@ mod excess;
 mod prices;
 mod repair;
 mod starting;
-#[cfg(test)]
-mod tests;
 
 pub use flow_network::Solved;
 pub use repair::solve;

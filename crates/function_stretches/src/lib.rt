@@ -8,8 +8,6 @@ mod join;
 mod laws;
 mod number;
 mod stretches;
-#[cfg(test)]
-mod tests;
 
 pub use laws::numbers_are_stretches;
 pub use stretches::Stretches;

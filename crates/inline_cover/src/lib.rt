@@ -9,8 +9,6 @@ mod frame;
 mod functions;
 mod level;
 mod pieces;
-#[cfg(test)]
-mod tests;
 mod whole;
 
 pub use functions::function_cover;

@@ -10,8 +10,6 @@ mod collected;
 mod entries;
 mod member;
 mod source;
-#[cfg(test)]
-mod tests;
 mod tree;
 
 pub use source::Source;

@@ -13,8 +13,6 @@ mod memory_inputs;
 mod memory_sink;
 mod sink;
 mod std_sink;
-#[cfg(test)]
-mod tests;
 mod whole;
 
 pub use file_inputs::FileInputs;

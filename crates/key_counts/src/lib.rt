@@ -3,8 +3,6 @@
 
 mod counts;
 mod laws;
-#[cfg(test)]
-mod tests;
 
 pub use counts::counts_of;
 pub use laws::counts_are_those_of_places;

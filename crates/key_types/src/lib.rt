@@ -14,8 +14,6 @@ mod keys;
 mod laws;
 mod names;
 mod places;
-#[cfg(test)]
-mod tests;
 
 pub use chain::Chain;
 pub use discriminator::split;

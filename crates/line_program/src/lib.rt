@@ -16,8 +16,6 @@ mod program;
 mod registers;
 mod run;
 mod tables;
-#[cfg(test)]
-mod tests;
 
 pub use line_model::Row;
 pub use run::rows;

@@ -11,8 +11,6 @@
 mod index;
 mod search;
 mod segments;
-#[cfg(test)]
-mod tests;
 
 pub use index::LoadIndex;
 pub use segments::SegmentIndex;

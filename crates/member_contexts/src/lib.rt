@@ -9,8 +9,6 @@ mod context;
 mod named;
 mod offset;
 mod parent;
-#[cfg(test)]
-mod tests;
 
 pub use context::{Context, context_of};
 pub use named::Named;

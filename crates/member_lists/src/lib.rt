@@ -9,8 +9,6 @@
 mod frame;
 mod functions;
 mod so_far;
-#[cfg(test)]
-mod tests;
 
 pub use frame::Frame;
 pub use so_far::SoFar;

@@ -2,7 +2,5 @@
 #![tactic(auto)]
 
 mod ranks;
-#[cfg(test)]
-mod tests;
 
 pub use ranks::{Ranks, ranks_of};

@@ -11,8 +11,6 @@ mod order;
 mod profile;
 mod program;
 mod status;
-#[cfg(test)]
-mod tests;
 mod where_;
 
 pub use program::run;

@@ -10,8 +10,6 @@ mod classed;
 mod line;
 mod ranges;
 mod report;
-#[cfg(test)]
-mod tests;
 mod unmapped;
 
 pub use classed::{Classed, class_branches, class_ranges};

@@ -3,5 +3,4 @@ pub mod LargestLemmas
 pub mod PartLemmas
 pub mod StepLemmas
 pub mod SweepLemmas
-pub mod TestLemmas
 pub mod WalkLemmas

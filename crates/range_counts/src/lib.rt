@@ -8,8 +8,6 @@
 mod changes;
 mod hits;
 mod steps;
-#[cfg(test)]
-mod tests;
 mod walk;
 
 pub use changes::sweep;

@@ -10,8 +10,6 @@
 mod frontier;
 mod mark;
 mod marks;
-#[cfg(test)]
-mod tests;
 
 pub use frontier::Frontier;
 pub use mark::{Mark, Way};

@@ -11,8 +11,6 @@ mod row_data;
 mod sequence;
 mod sequences;
 mod table;
-#[cfg(test)]
-mod tests;
 
 pub use row_data::RowData;
 pub use table::RowTable;

@@ -3,8 +3,6 @@
 
 mod lists;
 mod pairs;
-#[cfg(test)]
-mod tests;
 
 pub use lists::{Target, Targets, targets_of};
 pub use pairs::Call;

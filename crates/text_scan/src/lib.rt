@@ -9,8 +9,6 @@ mod decimals;
 mod fields;
 mod lines;
 mod read;
-#[cfg(test)]
-mod tests;
 mod write;
 
 pub use decimals::decimal;

@@ -10,8 +10,6 @@
 mod attributes;
 mod bases;
 mod root;
-#[cfg(test)]
-mod tests;
 
 pub use attributes::{address_at, attribute};
 pub use bases::{base_address, bases_of, section_place};

@@ -7,8 +7,6 @@ mod item;
 mod rows;
 mod shared;
 mod sums;
-#[cfg(test)]
-mod tests;
 
 pub use item::{Item, Kind, Step, sort_items};
 pub use rows::{Row, rows_of};

@@ -1,0 +1,18 @@
+use Rattle.std.proofs.Common.{◌≡◌, ◌∙◌, List, length, ap, sym}
+use Rattle.block_model.specs.declared.parts.Block.{Block}
+use Rattle.block_model.specs.declared.parts.Edge.{Edge}
+use Rattle.flow_model.specs.Network.{Network}
+use Rattle.balance_model.proofs.NetLemmas.{length-block_arcs, length-edge_arcs}
+use Rattle.flow_tests.proofs.of_dual_check.two_ways.Goals as goal
+
+pub returns-clause-blocks : goal.returns-clause-blocks
+returns-clause-blocks c =
+    let four : length c.new.result ≡ 4 = ap (λ (list : List Block). length list) (c.new.ensures ∙ c.in_ok-blocks.ensures.items) in
+    ap (λ (net : Network). length net.blocks) c.in_ok-net.ensures
+    ∙ (length-block_arcs 0 c.new.result c.args.weights.now (c.requires.weighed.each ∙ sym four) ∙ four)
+
+pub returns-clause-edges : goal.returns-clause-edges
+returns-clause-edges c =
+    let four : length c.new-2.result ≡ 4 = ap (λ (list : List Edge). length list) (c.new-2.ensures ∙ c.in_ok-edges.ensures.items) in
+    ap (λ (net : Network). length net.edges) c.in_ok-net.ensures
+    ∙ (length-edge_arcs c.new-2.result c.args.edge_weights.now (c.requires.edges_weighed.each ∙ sym four) ∙ four)

@@ -1,0 +1,13 @@
+//! Tests of weights, of the solver and of the checker: values from outside.
+#![tactic(auto)]
+
+#[cfg(test)]
+mod of_block_weights;
+#[cfg(test)]
+mod of_dual_check;
+#[cfg(test)]
+mod of_edge_weights;
+#[cfg(test)]
+mod of_flow_solver;
+#[cfg(test)]
+mod of_reached_sides;

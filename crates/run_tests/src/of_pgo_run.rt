@@ -1,0 +1,270 @@
+// What clauses leave open: that good files give an output and no `NoMemory`, that a bad line is
+// refused before the text was read to its end, and that time is no more than files' sizes ask for.
+// What is written of many more words and files is in checks/program.
+ghost use Rattle.std.specs.Prelude.{◌<◌};
+
+use case_maker::{CasePart, make};
+use io_edge::{Fail, Items, MemoryInputs, MemorySink, StoredFile};
+use memchr::memchr;
+use pgo_run::{Status, run};
+use refusal::{Kind, NoMemory, Place};
+use std::alloc::{AllocError, Global};
+use std::test;
+use text_scan::{Lines, push_hex};
+
+// Two samples with five branches, of which one was taken twice: 144 bytes.
+const TEXT: &[u8] =
+    b"401036 0x401038/0x401036/P/-/-/1 0x40100c/0x401020/P/-/-/1 0x401034/0x401000/P/-/-/1\n\
+401036 0x401038/0x401036/P/-/-/1 0x401004/0x401010/P/-/-/1\n";
+
+// What `counts` writes for them: 93 bytes.
+const COUNTS: &[u8] =
+    b"0x401004 0x401010 1\n0x40100c 0x401020 1\n0x401034 0x401000 1\n0x401038 0x401036 2\n\
+    # branches 5\n";
+
+// What `profile` writes for them and the generated binary of one function: 195 bytes.
+const PROFILE: &[u8] = b"f0000:7:1\n 0: 1\n 1: 1\n 2.2: 2\n 3: 2 f0000:1\n 2.1: g:1\n  1: 1\n\
+# branches 5\n# entries 1\n# inside 4\n# ranges ran 3\n# ranges reversed 0\n# ranges outside 0\n\
+# ranges crossing 0\n# units read 1 passed 0\n";
+
+// The words for it.
+const WORDS: &[&[u8]] = &[b"profile", b"bin", b"perf"];
+
+// How files are read and an output is written: in pieces, and with calls that fail.
+#[derive(Clone, Copy)]
+struct Pieces {
+    read: usize,
+    room: usize,
+    fail_read: Fail,
+    fail_write: u64,
+}
+
+// Small pieces, of which these fail.
+fn failing(file: u64, call: u64, fail_write: u64) -> Pieces
+    ensures { 0 < result.read }
+{
+    Pieces {
+        read: 64,
+        room: 1000,
+        fail_read: Fail { file, call },
+        fail_write,
+    }
+}
+
+fn file(alloc: Global, name: &[u8], bytes: &[u8]) -> Result<StoredFile, AllocError> {
+    Ok(StoredFile {
+        name: Items::new(name.to_vec(alloc)?),
+        bytes: Items::new(bytes.to_vec(alloc)?),
+    })
+}
+
+fn words_of(alloc: Global, texts: &[&[u8]]) -> Result<Vec<Vec<u8>>, AllocError> {
+    let mut words = Vec::new(alloc);
+    for text in texts {
+        words.push(text.to_vec(alloc)?)?;
+    }
+    Ok(words)
+}
+
+fn inputs_of(
+    alloc: Global,
+    bin: &[u8],
+    perf: &[u8],
+    how: &Pieces,
+) -> Result<MemoryInputs, AllocError>
+    requires { 0 < how.now.read }
+{
+    let files = vec![in alloc; file(alloc, b"bin", bin)?, file(alloc, b"perf", perf)?]?;
+    let fail = vec![in alloc; how.fail_read]?;
+    Ok(MemoryInputs::new(files, how.read, fail))
+}
+
+// What words answer over the files `bin` and `perf`, and what is written.
+fn answer(
+    alloc: Global,
+    texts: &[&[u8]],
+    bin: &[u8],
+    perf: &[u8],
+    how: &Pieces,
+) -> Result<(Status, Vec<u8>), NoMemory>
+    requires { 0 < how.now.read }
+{
+    let words = words_of(alloc, texts)?;
+    let mut inputs = inputs_of(alloc, bin, perf, how)?;
+    let fail = vec![in alloc; how.fail_write]?;
+    let mut out = MemorySink::new(alloc, how.room, 16, fail)?;
+    let status = run(alloc, &words, &mut inputs, &mut out);
+    Ok((status, out.written().to_vec(alloc)?))
+}
+
+// The generated binary of so many functions.
+fn binary(alloc: Global, functions: u64) -> Result<Vec<u8>, test::Fail> {
+    let mut bytes = Vec::new(alloc);
+    make(functions, CasePart::Bin, &mut bytes)?;
+    Ok(bytes)
+}
+
+#[test]
+fn each_command_writes_its_output(rt: HostRuntime) -> Result<(), test::Fail> {
+    let alloc = rt.alloc();
+    let bin = binary(alloc, 1)?;
+    let cases: [(&[&[u8]], &[u8]); 3] = [
+        (&[b"counts", b"perf"], COUNTS),
+        (&[b"where", b"bin", b"401014"], b"f0000 2.1 g 1\n"),
+        (WORDS, PROFILE),
+    ];
+    for (texts, want) in cases {
+        let (status, written) = answer(alloc, texts, &bin, TEXT, &failing(0, 0, 99))?;
+        assert_eq!(rt; (status, written.as_slice()), (Status::Done, want));
+    }
+    Ok(())
+}
+
+#[test]
+fn each_failing_read_is_told(rt: HostRuntime) -> Result<(), test::Fail> {
+    let alloc = rt.alloc();
+    let bin = binary(alloc, 1)?;
+    // Call 0 opens a file. The 655 bytes of the binary take eleven reads and one that finds their
+    // end, the 144 bytes of the text three and one.
+    for (number, calls) in [(1, 13), (2, 5)] {
+        for call in 0..calls + 2 {
+            let how = failing(u64::from(number), call, 99);
+            let (status, written) = answer(alloc, WORDS, &bin, TEXT, &how)?;
+            let fault = call < calls;
+            let want = if fault {
+                Status::ReadFault(number)
+            } else {
+                Status::Done
+            };
+            assert_eq!(rt; status, want, "call {call} of file {number}");
+            assert_eq!(rt; written.is_empty(), fault, "call {call} of file {number}");
+        }
+    }
+    Ok(())
+}
+
+#[test]
+fn a_failing_write_cuts_the_output_off(rt: HostRuntime) -> Result<(), test::Fail> {
+    let alloc = rt.alloc();
+    let bin = binary(alloc, 1)?;
+    // The write that fails, or 0 for the end of the output, and how many bytes were written.
+    let cases = [
+        (1, 0, Status::WriteFault),
+        (2, 16, Status::WriteFault),
+        (13, 192, Status::WriteFault),
+        (0, 195, Status::WriteFault),
+        (14, 195, Status::Done),
+    ];
+    for (call, length, want) in cases {
+        let (status, written) = answer(alloc, WORDS, &bin, TEXT, &failing(0, 0, call))?;
+        assert_eq!(rt; status, want, "write {call}");
+        assert_eq!(rt;
+            Some(written.as_slice()),
+            PROFILE.get(..length),
+            "write {call}"
+        );
+    }
+    Ok(())
+}
+
+// Eight good lines fill a piece, and the line behind them is bad.
+#[test]
+fn a_bad_line_before_a_failing_read_is_refused(rt: HostRuntime) -> Result<(), test::Fail> {
+    let alloc = rt.alloc();
+    let mut text = b"0x3/0x4\n".repeat(alloc, 8)?;
+    text.extend_from_slice(b"zz\n")?;
+    text.extend_from_slice(&b"0x1/0x2\n".repeat(alloc, 100)?)?;
+    let refused = Status::Refused(Place {
+        file: 1,
+        at: 9,
+        kind: Kind::BadLine,
+    });
+    for (call, want) in [(2, Status::ReadFault(1)), (3, refused)] {
+        let words: &[&[u8]] = &[b"counts", b"perf"];
+        let (status, written) = answer(alloc, words, b"", &text, &failing(1, call, 99))?;
+        assert_eq!(rt; status, want);
+        assert_eq!(rt; written.len(), 0);
+    }
+    Ok(())
+}
+
+// For runs in which one request for memory is refused. Where it is one of the test's own, there is
+// nothing to see.
+#[test]
+fn without_memory_nothing_is_written(rt: HostRuntime) {
+    let words: &[&[u8]] = &[b"counts", b"perf"];
+    if let Ok((status, out)) = answer(rt.alloc(), words, b"", TEXT, &failing(0, 0, 99)) {
+        let refused = status == Status::NoMemory;
+        let want = if refused { b"".as_slice() } else { COUNTS };
+        assert!(rt; refused || status == Status::Done);
+        assert_eq!(rt; out.as_slice(), want);
+    }
+}
+
+/// Appends a branch behind a space.
+fn push_branch(text: &mut Vec<u8>, from: u64, to: u64) -> Result<(), test::Fail> {
+    text.push(b' ')?;
+    push_hex(text, from)?;
+    text.push(b'/')?;
+    push_hex(text, to)?;
+    Ok(())
+}
+
+/// A line with one range for each address of each of 4,096 functions: to its last address.
+fn many_ranges(alloc: Global) -> Result<Vec<u8>, test::Fail> {
+    let mut text = Vec::new(alloc);
+    for function in 0..4096u64 {
+        let start = 0x401000 + 0x40 * function;
+        for address in start..start + 0x40 {
+            push_branch(&mut text, start + 0x3f, 9)?;
+            push_branch(&mut text, 9, address)?;
+            text.push(b'\n')?;
+        }
+    }
+    Ok(text)
+}
+
+/// What stands in a text from its first `#` on.
+fn report_in(text: &[u8]) -> &[u8] {
+    let (_, report) = text.split_at(memchr(b'#', text).unwrap_or(text.len()));
+    report
+}
+
+/// How many lines of a text begin with these bytes.
+fn lines_with(front: &[u8], text: &[u8]) -> u64 {
+    let mut count = 0u64;
+    for line in Lines::new(text) {
+        if line.bytes.starts_with(front) {
+            count = count.wrapping_add(1);
+        }
+    }
+    count
+}
+
+// Scans over lists of pairs, ranges or segments do not end here in a test's time. From outside 64
+// addresses of each function are branched to: its first one, which enters it, and 63 others. All
+// branches back are one for each function.
+#[test]
+fn a_quarter_of_a_million_ranges_are_counted(rt: HostRuntime) -> Result<(), test::Fail> {
+    let alloc = rt.alloc();
+    let how = Pieces {
+        read: 1 << 16,
+        room: 1 << 25,
+        fail_read: Fail { file: 0, call: 0 },
+        fail_write: 1 << 60,
+    };
+    let text = many_ranges(alloc)?;
+    let (status, written) = answer(alloc, WORDS, &binary(alloc, 4096)?, &text, &how)?;
+    assert_eq!(rt; status, Status::Done);
+    let first = b"f0000:168:1\n 0: 8\n 1: 16\n 2.2: 48\n 3: 64\n 2.1: g:32\n  1: 32\nf0001:";
+    let report = b"# branches 524288\n# entries 4096\n# inside 0\n\
+# unmapped FromOutside 0x9 0x401001 1\n";
+    let last = b" 64\n# ranges ran 262144\n# ranges reversed 0\n# ranges outside 0\n\
+# ranges crossing 0\n# units read 1 passed 0\n";
+    assert!(rt; written.starts_with(first));
+    assert!(rt; report_in(&written).starts_with(report));
+    assert_eq!(rt; lines_with(b"# unmapped", &written), 262_144);
+    assert_eq!(rt; lines_with(b"# unmapped ToOutside", &written), 4096);
+    assert!(rt; written.ends_with(last));
+    Ok(())
+}

@@ -1,4 +1,5 @@
 ghost use Rattle.std.specs.Prelude.{◌≡◌, ◌≢◌, ◌<◌, ◌≤◌, ◌+◌, ◌↔◌, true, false, [], length, IfOk, OnOk, OnErr, IsErrOf, IsPermutation, IsSorted, replicate};
+ghost use Rattle.std.specs.declared.alloc.Global.{Global as GlobalTold};
 ghost use Rattle.sample_model.specs.Limits.{max_branches};
 ghost use Rattle.branch_counts.specs.Pair.{pair_cmp};
 ghost use Rattle.branch_counts.specs.Table.{AddsPairs, IsTable, total_in};
@@ -144,8 +145,10 @@ impl Counts {
         self.total
     }
 
-    /// The allocator of the rows.
-    pub fn allocator(&self) -> Global {
+    /// The allocator of the rows, which is the only one there is.
+    pub fn allocator(&self) -> Global
+        ensures { (other : GlobalTold) → result ≡ other }
+    {
         self.branches.allocator()
     }
 

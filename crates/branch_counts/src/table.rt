@@ -1,5 +1,6 @@
 // A table of pairs: a row for each distinct pair, found by an index.
 ghost use Rattle.std.specs.Prelude.{◌≡◌, ◌+◌, ◌<◌, ◌≤◌, ◌^◌, [], length, IfOk, OnOk, IsOk, replicate};
+ghost use Rattle.std.specs.declared.alloc.Global.{Global as GlobalTold};
 ghost use Rattle.sample_model.specs.Samples.{ranges_between};
 ghost use Rattle.branch_counts.specs.Table.{AddsPairs, total_in};
 
@@ -66,7 +67,9 @@ impl Table {
         rows
     }
 
-    pub(crate) fn allocator(&self) -> Global {
+    pub(crate) fn allocator(&self) -> Global
+        ensures { (other : GlobalTold) → result ≡ other }
+    {
         *self.rows.allocator()
     }
 

@@ -1,6 +1,6 @@
 -- Attributes that tell nothing change no value and no refusal.
 use Rattle.std.proofs.Common.{◌≡◌, ◌≢◌, ℕ, ℤ, pos, negsuc, not, nat_lt, nat_le, ◌-◌, ◌⊎◌, ◌+◌, ◌<◌, ◌≤◌, Bool, true, false, cond, List, [], ◌∷◌, ◌++◌, length, map, take, get_or, Option, None, Some, Ok, Err, refl, sym, ap, subst, ◌∙◌, inl, inr, arith}
-use Rattle.std.specs.Prelude.{◌==◌, ◌||◌, ◌&&◌, position, slice_get}
+use Rattle.std.specs.Prelude.{◌==◌, ◌||◌, ◌&&◌, ◌^◌, min, position, slice_get, sum_by}
 use Rattle.std.specs.Option.{option_map}
 use Rattle.std.specs.List.{position_or_len}
 use Rattle.std.proofs.lemmas.Bool.{cases_Bool, or_cases, or_parts, or_from, or_left, or_right, and_cases, cond-true, cond-false, eqb-true, eq-eqb, ne_eqb}
@@ -8,6 +8,7 @@ use Rattle.std.proofs.lemmas.Bool.Decides.{nat_tests}
 use Rattle.std.proofs.lemmas.Option.{slice_get_read, slice_get_past, slice_get_within, slice_get-map, get_or_from_slice_get}
 use Rattle.std.proofs.lemmas.List.{length-map, map-append, take_more}
 use Rattle.std.proofs.lemmas.List.Quantifiers.{position-Some}
+use Rattle.std.proofs.lemmas.List.Sums.{sum_by_push}
 use Rattle.std.proofs.lemmas.List.Folds.{find_at, list_any-append}
 use Rattle.byte_view.specs.Cursor.{Cursor}
 use Rattle.value_model.specs.Value.{Value, const, flag}
@@ -21,6 +22,7 @@ use Rattle.unit_model.specs.Values.{Found, value, placed_value, is_unused, with_
 use Rattle.unit_model.specs.Entries.{InUnit, SoFar, max_entries, closed, entry_of, entry_if_known, entry_of_code, next_entry}
 use Rattle.entry_model.proofs.CursorLemmas.{same_pair, split, unless}
 use Rattle.dwarf_info.specs.Values.{has_name}
+use Rattle.dwarf_info.specs.Tables.{room_of}
 use Rattle.dwarf_info.specs.Telling.{is_implicit, takes_none, is_among, tells_nothing, told_with, telling_behind, shortened}
 
 -- ---- values that take no bytes
@@ -249,20 +251,20 @@ pub unknown-shortened : (found : Option Abbrev) → None ≡ option_map shortene
 unknown-shortened None is = refl
 unknown-shortened (Some known) is = absurd cc
 
-position_within : (table : List Abbrev) (code place : ℕ) → position (λ (a : Abbrev). a.code == code) table ≡ Some place → place < length table
-position_within table code place is = (position-Some (λ (a : Abbrev). a.code == code) table place (record { code = 0; tag = 0; children = false; attrs = [] }) is).0
+position_within : (table : List Abbrev) (code index : ℕ) → position (λ (a : Abbrev). a.code == code) table ≡ Some index → index < length table
+position_within table code index is = (position-Some (λ (a : Abbrev). a.code == code) table index (record { code = 0; tag = 0; children = false; attrs = [] }) is).0
 
-pub place-within : (table kinds : List Abbrev) (code place : ℕ) → kinds ≡ map shortened table → position (λ (a : Abbrev). a.code == code) table ≡ Some place → place < length kinds
-place-within table kinds code place are is =
-    omega (arith, position_within table code place is, ap (λ (ks : List Abbrev). length ks) are, length-map table shortened)
+pub index-within : (table kinds : List Abbrev) (code index : ℕ) → kinds ≡ map shortened table → position (λ (a : Abbrev). a.code == code) table ≡ Some index → index < length kinds
+index-within table kinds code index are is =
+    omega (arith, position_within table code index is, ap (λ (ks : List Abbrev). length ks) are, length-map table shortened)
 
-pub kind-found : (table kinds : List Abbrev) (code place : ℕ) (kind : Abbrev) → kinds ≡ map shortened table → position (λ (a : Abbrev). a.code == code) table ≡ Some place
-    → kind ≡ get_or kinds place kind → Some kind ≡ option_map shortened (find_code table code)
+pub kind-found : (table kinds : List Abbrev) (code index : ℕ) (kind : Abbrev) → kinds ≡ map shortened table → position (λ (a : Abbrev). a.code == code) table ≡ Some index
+    → kind ≡ get_or kinds index kind → Some kind ≡ option_map shortened (find_code table code)
 unfolding find_code
-kind-found table kinds code place kind are is here =
-    let first : position_or_len (λ (a : Abbrev). a.code == code) table ≡ place = grind (arith, nat_tests) in
-    sym (slice_get_read kinds (length kinds) place kind refl (place-within table kinds code place are is) here)
-    ∙ ap (λ (ks : List Abbrev). slice_get ks place) are ∙ slice_get-map shortened table place
+kind-found table kinds code index kind are is here =
+    let first : position_or_len (λ (a : Abbrev). a.code == code) table ≡ index = grind (arith, nat_tests) in
+    sym (slice_get_read kinds (length kinds) index kind refl (index-within table kinds code index are is) here)
+    ∙ ap (λ (ks : List Abbrev). slice_get ks index) are ∙ slice_get-map shortened table index
     ∙ ap (option_map shortened) (sym (find_at (λ (a : Abbrev). a.code == code) table ∙ ap (slice_get table) first))
 
 pub kind-none : (table : List Abbrev) (code : ℕ) → position (λ (a : Abbrev). a.code == code) table ≡ None → None ≡ option_map shortened (find_code table code)
@@ -271,12 +273,22 @@ kind-none table code none =
     let past : length table ≤ position_or_len (λ (a : Abbrev). a.code == code) table = grind (arith, nat_tests) in
     ap (option_map shortened) (sym (find_at (λ (a : Abbrev). a.code == code) table ∙ slice_get_past table _ past))
 
-pub kinds-more : (table kinds : List Abbrev) (place : ℕ) (kind : Abbrev) → kinds ≡ map shortened (take place table) → slice_get table place ≡ Some kind
-    → kinds ++ shortened kind ∷ [] ≡ map shortened (take (place + 1) table)
-kinds-more table kinds place kind are is =
-    let all : take (place + 1) table ≡ take place table ++ kind ∷ [] =
-    take_more table place kind (slice_get_within table place kind is) ∙ ap (λ (k : Abbrev). take place table ++ k ∷ []) (get_or_from_slice_get table place kind kind is) in
-    ap (λ (ks : List Abbrev). ks ++ shortened kind ∷ []) are ∙ sym (map-append shortened (take place table) (kind ∷ [])) ∙ ap (map shortened) (sym all)
+pub kinds-more : (table kinds : List Abbrev) (index : ℕ) (kind : Abbrev) → kinds ≡ map shortened (take index table) → slice_get table index ≡ Some kind
+    → kinds ++ shortened kind ∷ [] ≡ map shortened (take (index + 1) table)
+kinds-more table kinds index kind are is =
+    let all : take (index + 1) table ≡ take index table ++ kind ∷ [] =
+    take_more table index kind (slice_get_within table index kind is) ∙ ap (λ (k : Abbrev). take index table ++ k ∷ []) (get_or_from_slice_get table index kind kind is) in
+    ap (λ (ks : List Abbrev). ks ++ shortened kind ∷ []) are ∙ sym (map-append shortened (take index table) (kind ∷ [])) ∙ ap (map shortened) (sym all)
+
+-- one abbreviation more takes its room
+pub room-more : (table : List Abbrev) (index room : ℕ) (kind : Abbrev) → room ≡ room_of (take index table) → slice_get table index ≡ Some kind
+    → min (min (room + 1) (2 ^ 64 - 1) + length kind.attrs) (2 ^ 64 - 1) ≡ room_of (take (index + 1) table)
+room-more table index room kind are is =
+    let all : take (index + 1) table ≡ take index table ++ kind ∷ [] =
+    take_more table index kind (slice_get_within table index kind is) ∙ ap (λ (k : Abbrev). take index table ++ k ∷ []) (get_or_from_slice_get table index kind kind is) in
+    let own : Abbrev → ℕ = λ (k : Abbrev). 1 + length k.attrs in
+    let total : sum_by own (take (index + 1) table) ≡ sum_by own (take index table) + own kind = ap (sum_by own) all ∙ sum_by_push own (take index table) kind in
+    omega (arith, are, total)
 
 -- an entry whose code is in the table
 pub next-known : (of : InUnit) (table : List Abbrev) (so_far : SoFar) (cur mid : Cursor) (code at : ℕ) (kind : Abbrev) → uleb cur ≡ Ok (code, mid) → code ≢ 0 → at ≡ cur.at

@@ -7,6 +7,7 @@ ghost use Rattle.refusal.specs.Place.{JudgesUnlessNoMemory};
 ghost use Rattle.placed_view.specs.Reader.{IsRead, refused_at, start_of};
 ghost use Rattle.abbrev_model.specs.Abbrev.{Attr as AttrTold};
 ghost use Rattle.abbrev_model.specs.Table.{table};
+ghost use Rattle.dwarf_info.specs.Tables.{room_of as room_told};
 ghost use Rattle.dwarf_info.specs.Telling.{is_among as is_among_told, is_implicit as is_implicit_told, shortened, takes_none as takes_none_told, telling_behind, tells_nothing as tells_nothing_told, told_with};
 
 use crate::wanted::{is_unused, wanted};
@@ -163,8 +164,8 @@ fn kinds_of(alloc: Global, table: &Abbrevs) -> Result<Vec<EntryKind>, NoMemory>
     ensures { IfOk result (λ kinds. kinds.items ≡ map shortened table.now) }
 {
     let mut kinds = Vec::new(alloc);
-    for place in 0..table.len() {
-        let kind = kind_of(alloc, &table.at(place))?;
+    for index in 0..table.len() {
+        let kind = kind_of(alloc, &table.at(index))?;
         kinds.push(kind)?;
     }
     Ok(kinds)
@@ -181,19 +182,22 @@ pub(crate) struct EntryKinds {
 impl Model for EntryKinds {
     ghost use Rattle.std.specs.Prelude.{◌≡◌, List, map};
     ghost use Rattle.abbrev_model.specs.Abbrev.{Abbrev};
+    ghost use Rattle.dwarf_info.specs.Tables.{room_of as room_told};
     ghost use Rattle.dwarf_info.specs.Telling.{shortened};
 
     ghost Value = { List Abbrev };
 
     ghost view = { λ k. k.table };
 
-    ghost invariant = { λ k. k.kinds.items ≡ map shortened k.table };
+    ghost invariant = { λ k. (k.kinds.items ≡ map shortened k.table)
+        × (k.room ≡ room_told k.table) };
 }
 
 impl EntryKinds {
     ghost use Rattle.std.specs.Prelude.{◌≡◌, IfOk};
     ghost use Rattle.std.specs.Option.{option_map};
     ghost use Rattle.abbrev_model.specs.Abbrev.{find_code};
+    ghost use Rattle.dwarf_info.specs.Tables.{room_of as room_told};
     ghost use Rattle.dwarf_info.specs.Telling.{shortened};
 
     /// The kinds of entries of a table.
@@ -209,21 +213,25 @@ impl EntryKinds {
     pub fn find(&self, code: u64) -> Option<Abbrev<'_>>
         ensures { result ≡ option_map shortened (find_code self.now code) }
     {
-        let place = self.table.place(code)?;
-        Some(self.kinds[place].lend())
+        let index = self.table.place(code)?;
+        Some(self.kinds[index].lend())
     }
 
     /// How much room the table takes.
-    pub fn room(&self) -> usize {
+    pub fn room(&self) -> usize
+        ensures { result ≡ room_told self.now }
+    {
         self.room
     }
 }
 
 /// How much room a table takes: one for each abbreviation and each attribute, and one for its end.
-fn room_of(table: &Abbrevs) -> usize {
+fn room_of(table: &Abbrevs) -> usize
+    ensures { result ≡ room_told table.now }
+{
     let mut room = 1usize;
-    for place in 0..table.len() {
-        let attrs = table.at(place).attrs.len();
+    for index in 0..table.len() {
+        let attrs = table.at(index).attrs.len();
         room = room.saturating_add(1).saturating_add(attrs);
     }
     room

@@ -5,13 +5,13 @@ use Rattle.dwarf_info.specs.Telling.{shortened}
 use Rattle.dwarf_info.proofs.TellingLemmas.{kind-found, kind-none}
 use Rattle.dwarf_info.proofs.kinds.EntryKinds.find.Goals as goal
 
-pub returns-in_err-place : goal.returns-in_err-place
-returns-in_err-place c =
-    c.from_residual.ensures ∙ kind-none c.self.inside.table c.args.code (sym c.in_err-place.ensures)
+pub returns-in_err-index : goal.returns-in_err-index
+returns-in_err-index c =
+    c.from_residual.ensures ∙ kind-none c.self.inside.table c.args.code (sym c.in_err-index.ensures)
     ∙ ap (λ (t : List Abbrev). option_map shortened (find_code t c.args.code)) c.self.view_is
 
 pub returns : goal.returns
 returns c =
     ap Some c.lend.ensures
-    ∙ kind-found c.self.inside.table c.self.inside.kinds.items c.args.code c.in_ok-place.place c.index.result.now c.self.invariant (sym c.in_ok-place.ensures) c.index.ensures
+    ∙ kind-found c.self.inside.table c.self.inside.kinds.items c.args.code c.in_ok-index.index c.index.result.now c.self.invariant.0 (sym c.in_ok-index.ensures) c.index.ensures
     ∙ ap (λ (t : List Abbrev). option_map shortened (find_code t c.args.code)) c.self.view_is

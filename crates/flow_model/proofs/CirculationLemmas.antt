@@ -5,7 +5,7 @@ use Rattle.flow_model.specs.declared.arc.Arc.{Arc}
 use Rattle.flow_model.specs.Circulation.{root, sum_where, inflow, outflow, Conserve}
 
 -- the sum over the nodes below k
-sum_to : ℕ → (ℕ → ℕ) → ℕ
+unfoldable pub sum_to : ℕ → (ℕ → ℕ) → ℕ
 sum_to zero f = 0
 sum_to (suc k) f = f 0 + sum_to k (λ s. f (suc s))
 
@@ -45,7 +45,7 @@ priced end p (arc ∷ arcs) (n ∷ counts) = p (end arc) * n + priced end p arcs
 priced end p _ _ = 0
 
 -- a number above all ends
-above : (Arc → ℕ) → List Arc → ℕ
+pub above : (Arc → ℕ) → List Arc → ℕ
 above end [] = 0
 above end (arc ∷ arcs) = suc (end arc) + above end arcs
 
@@ -58,7 +58,7 @@ at_itself p h n = rw (eq-eqb h h refl)
 spread : (p : ℕ → ℕ) (s m n : ℕ) → p s * (m + n) ≡ p s * m + p s * n
 spread p s m n = omega arith
 
-priced_by_node : (k : ℕ) (end : Arc → ℕ) (p : ℕ → ℕ) (arcs : List Arc) (counts : List ℕ) → above end arcs ≤ k
+pub priced_by_node : (k : ℕ) (end : Arc → ℕ) (p : ℕ → ℕ) (arcs : List Arc) (counts : List ℕ) → above end arcs ≤ k
     → priced end p arcs counts ≡ sum_to k (λ s. p s * sum_where (λ arc. end arc == s) arcs counts)
 unfolding priced above
 priced_by_node k end p [] counts within = sym (sum_to-none k (λ s. p s * 0) (λ s. omega arith))

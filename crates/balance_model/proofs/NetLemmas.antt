@@ -98,14 +98,14 @@ block_heads_at number (block ∷ blocks) (weight ∷ weights) (n ∷ ns) b same 
     let more = block_heads_at (number + 1) blocks weights ns b (omega (arith, same)) (omega (arith, also)) in
     rw (same_out_side number b) (omega (arith, more))
 
-no_block_tails : (number : ℕ) (blocks : List Block) (weights : List Weight) (b : ℕ)
+pub no_block_tails : (number : ℕ) (blocks : List Block) (weights : List Weight) (b : ℕ)
     → list_any (λ arc. arc.tail == out_side b) (block_arcs number blocks weights) ≡ false
 no_block_tails number [] weights b = refl
 no_block_tails number (block ∷ blocks) [] b = refl
 no_block_tails number (block ∷ blocks) (weight ∷ weights) b =
     or_from (in_side number == out_side b) _ (sides_apart number b) (no_block_tails (number + 1) blocks weights b)
 
-no_block_heads : (number : ℕ) (blocks : List Block) (weights : List Weight) (b : ℕ)
+pub no_block_heads : (number : ℕ) (blocks : List Block) (weights : List Weight) (b : ℕ)
     → list_any (λ arc. arc.head == in_side b) (block_arcs number blocks weights) ≡ false
 no_block_heads number [] weights b = refl
 no_block_heads number (block ∷ blocks) [] b = refl
@@ -149,14 +149,14 @@ length-edge_arcs (edge ∷ edges) [] same = absurd (omega (arith, same))
 length-edge_arcs (edge ∷ edges) (weight ∷ weights) same =
     let more = length-edge_arcs edges weights (omega (arith, same)) in omega (arith, more)
 
-no_edge_tails : (edges : List Edge) (weights : List Weight) (b : ℕ)
+pub no_edge_tails : (edges : List Edge) (weights : List Weight) (b : ℕ)
     → list_any (λ arc. arc.tail == in_side b) (edge_arcs edges weights) ≡ false
 no_edge_tails [] weights b = refl
 no_edge_tails (edge ∷ edges) [] b = refl
 no_edge_tails (edge ∷ edges) (weight ∷ weights) b =
     or_from (out_side edge.from == in_side b) _ (sides_apart_back edge.from b) (no_edge_tails edges weights b)
 
-no_edge_heads : (edges : List Edge) (weights : List Weight) (b : ℕ)
+pub no_edge_heads : (edges : List Edge) (weights : List Weight) (b : ℕ)
     → list_any (λ arc. arc.head == out_side b) (edge_arcs edges weights) ≡ false
 no_edge_heads [] weights b = refl
 no_edge_heads (edge ∷ edges) [] b = refl
@@ -184,7 +184,7 @@ no_edge_from count (edge ∷ edges) (weight ∷ weights) b joined behind =
 
 -- ---- the arcs of returns
 
-no_return_heads : (number : ℕ) (blocks : List Block) (node : ℕ) → node ≢ root
+pub no_return_heads : (number : ℕ) (blocks : List Block) (node : ℕ) → node ≢ root
     → list_any (λ arc. arc.head == node) (return_arcs number blocks) ≡ false
 no_return_heads number [] node apart = refl
 no_return_heads number (block ∷ blocks) node apart =
@@ -192,7 +192,7 @@ no_return_heads number (block ∷ blocks) node apart =
     let P : List Arc → Type 0 = λ arcs. list_any (λ arc. arc.head == node) arcs ≡ false in
     cond_both block.exit _ _ P (λ _. or_from (root == node) _ (ne_eqb root node (λ e. apart (sym e))) more) (λ _. more)
 
-no_return_tails : (number : ℕ) (blocks : List Block) (b : ℕ)
+pub no_return_tails : (number : ℕ) (blocks : List Block) (b : ℕ)
     → list_any (λ arc. arc.tail == in_side b) (return_arcs number blocks) ≡ false
 no_return_tails number [] b = refl
 no_return_tails number (block ∷ blocks) b =
@@ -200,7 +200,7 @@ no_return_tails number (block ∷ blocks) b =
     let P : List Arc → Type 0 = λ arcs. list_any (λ arc. arc.tail == in_side b) arcs ≡ false in
     cond_both block.exit _ _ P (λ _. or_from (out_side number == in_side b) _ (sides_apart_back number b) more) (λ _. more)
 
-no_return_before : (number : ℕ) (blocks : List Block) (b : ℕ) → b < number
+pub no_return_before : (number : ℕ) (blocks : List Block) (b : ℕ) → b < number
     → list_any (λ arc. arc.tail == out_side b) (return_arcs number blocks) ≡ false
 no_return_before number [] b before = refl
 no_return_before number (block ∷ blocks) b before =

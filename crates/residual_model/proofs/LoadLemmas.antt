@@ -1,74 +1,18 @@
 -- What a circulation has on the arcs of calls and returns.
-use Rattle.std.proofs.Common.{◌≡◌, ◌≢◌, ℕ, ◌+◌, ◌<◌, ◌==◌, Bool, true, false, List, [], ◌∷◌, ◌++◌, length, take, drop, map, if◌then◌else◌, refl, arith, sym, ◌∙◌, ap, subst, inl, inr, length-append, length-drop}
+use Rattle.std.proofs.Common.{◌≡◌, ℕ, ◌+◌, ◌==◌, Bool, true, false, List, [], ◌∷◌, ◌++◌, length, take, drop, map, if◌then◌else◌, refl, arith, sym, ◌∙◌, ap, subst, inl, inr, length-append, length-drop}
 use Rattle.std.specs.List.{list_any}
-use Rattle.std.proofs.lemmas.Bool.{eq-eqb, ne_eqb, cases_eq, or_from, cond_both}
+use Rattle.std.proofs.lemmas.Bool.{eq-eqb, ne_eqb, cases_eq, cond_both}
 use Rattle.std.proofs.lemmas.List.{length-take-le, take-append-drop}
 use Rattle.block_model.specs.declared.parts.Block.{Block}
 use Rattle.block_model.specs.declared.parts.Edge.{Edge}
 use Rattle.block_model.specs.declared.parts.Weight.{Weight}
 use Rattle.flow_model.specs.declared.arc.Arc.{Arc}
 use Rattle.flow_model.specs.Circulation.{root, IsWithin, sum_where, Conserve, IsCirculation}
-use Rattle.flow_model.specs.Network.{in_side, out_side, free_arc, block_arcs, edge_arcs, return_arcs, Network, arcs_of, network_of, Counts, calls, returns, loads}
+use Rattle.flow_model.specs.Network.{in_side, out_side, free_arc, return_arcs, Network, arcs_of, network_of, Counts, calls, returns, loads}
 use Rattle.flow_model.specs.Repair.{AreCounts}
 use Rattle.balance_model.proofs.ArcLemmas.{sum_where-append, sum_where_none, each-length}
-use Rattle.balance_model.proofs.NetLemmas.{sides_apart, sides_apart_back}
+use Rattle.balance_model.proofs.NetLemmas.{no_block_heads, no_block_tails, no_edge_heads, no_edge_tails, no_return_before, no_return_heads, no_return_tails, sides_apart}
 use Rattle.residual_model.specs.Loads.{own_counts, CirculationsAreLoads}
-
--- ---- which arcs meet a side
-
-no_block_heads : (number : ℕ) (blocks : List Block) (weights : List Weight) (b : ℕ)
-    → list_any (λ arc. arc.head == in_side b) (block_arcs number blocks weights) ≡ false
-no_block_heads number [] weights b = refl
-no_block_heads number (block ∷ blocks) [] b = refl
-no_block_heads number (block ∷ blocks) (weight ∷ weights) b =
-    or_from (out_side number == in_side b) _ (sides_apart_back number b) (no_block_heads (number + 1) blocks weights b)
-
-no_block_tails : (number : ℕ) (blocks : List Block) (weights : List Weight) (b : ℕ)
-    → list_any (λ arc. arc.tail == out_side b) (block_arcs number blocks weights) ≡ false
-no_block_tails number [] weights b = refl
-no_block_tails number (block ∷ blocks) [] b = refl
-no_block_tails number (block ∷ blocks) (weight ∷ weights) b =
-    or_from (in_side number == out_side b) _ (sides_apart number b) (no_block_tails (number + 1) blocks weights b)
-
-no_edge_tails : (edges : List Edge) (weights : List Weight) (b : ℕ)
-    → list_any (λ arc. arc.tail == in_side b) (edge_arcs edges weights) ≡ false
-no_edge_tails [] weights b = refl
-no_edge_tails (edge ∷ edges) [] b = refl
-no_edge_tails (edge ∷ edges) (weight ∷ weights) b =
-    or_from (out_side edge.from == in_side b) _ (sides_apart_back edge.from b) (no_edge_tails edges weights b)
-
-no_edge_heads : (edges : List Edge) (weights : List Weight) (b : ℕ)
-    → list_any (λ arc. arc.head == out_side b) (edge_arcs edges weights) ≡ false
-no_edge_heads [] weights b = refl
-no_edge_heads (edge ∷ edges) [] b = refl
-no_edge_heads (edge ∷ edges) (weight ∷ weights) b =
-    or_from (in_side edge.to == out_side b) _ (sides_apart edge.to b) (no_edge_heads edges weights b)
-
-no_return_heads : (number : ℕ) (blocks : List Block) (node : ℕ) → node ≢ root
-    → list_any (λ arc. arc.head == node) (return_arcs number blocks) ≡ false
-no_return_heads number [] node apart = refl
-no_return_heads number (block ∷ blocks) node apart =
-    let more = no_return_heads (number + 1) blocks node apart in
-    let P : List Arc → Type 0 = λ arcs. list_any (λ arc. arc.head == node) arcs ≡ false in
-    cond_both block.exit _ _ P (λ _. or_from (root == node) _ (ne_eqb root node (λ e. apart (sym e))) more) (λ _. more)
-
-no_return_tails : (number : ℕ) (blocks : List Block) (b : ℕ)
-    → list_any (λ arc. arc.tail == in_side b) (return_arcs number blocks) ≡ false
-no_return_tails number [] b = refl
-no_return_tails number (block ∷ blocks) b =
-    let more = no_return_tails (number + 1) blocks b in
-    let P : List Arc → Type 0 = λ arcs. list_any (λ arc. arc.tail == in_side b) arcs ≡ false in
-    cond_both block.exit _ _ P (λ _. or_from (out_side number == in_side b) _ (sides_apart_back number b) more) (λ _. more)
-
-no_return_before : (number : ℕ) (blocks : List Block) (b : ℕ) → b < number
-    → list_any (λ arc. arc.tail == out_side b) (return_arcs number blocks) ≡ false
-no_return_before number [] b before = refl
-no_return_before number (block ∷ blocks) b before =
-    let more = no_return_before (number + 1) blocks b (omega (arith, before)) in
-    let P : List Arc → Type 0 = λ arcs. list_any (λ arc. arc.tail == out_side b) arcs ≡ false in
-    cond_both block.exit _ _ P
-    (λ _. or_from (out_side number == out_side b) _ (ne_eqb (out_side number) (out_side b) (λ e. omega (arith, e, before))) more)
-    (λ _. more)
 
 -- ---- the returns
 

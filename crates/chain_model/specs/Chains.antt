@@ -16,7 +16,7 @@ holds address member = list_any (piece_holds address) member.pieces
 abbrev pub holds_at : ℕ → ℕ → Member → Bool
 holds_at depth address member = member.depth == depth && holds address member
 
--- A member's number is its place in the list, from 0.
+-- A member's number is its index in the list, from 0.
 abbrev pub numbered : List Member → List (ℕ × Member)
 numbered members = enumerate_from 0 members
 

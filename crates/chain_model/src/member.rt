@@ -8,7 +8,7 @@ use key_types::{Chain, NameId};
 pub struct Member {
     /// How many members it stands below: 0 for a function, at most 255 for an inlined call.
     pub depth: u8,
-    /// The place of its unit among the units.
+    /// The index of its unit among the units.
     pub unit: u32,
     /// The name of the function, or of the function that was inlined.
     pub name: Option<NameId>,

@@ -1,6 +1,5 @@
 -- Profiles that count the same have the same lines.
 use Rattle.std.proofs.Common.{◌≡◌, ◌⊎◌, ◌≤◌, ◌<◌, ℕ, ◌+◌, ◌-◌, nat_lt, Bool, true, false, cond, ◌&&◌, List, [], ◌∷◌, ◌++◌, map, filter, length, sum_by, refl, sym, ap, subst, ◌∙◌, inl, inr, arith, add-zero, zero-add}
-use Rattle.std.proofs.lemmas.Bool.{true≢false}
 use Rattle.std.proofs.lemmas.Bool.Decides.{nat_tests}
 use Rattle.std.proofs.lemmas.List.Sums.{sum_by-cons}
 use Rattle.std.specs.Cmp.Lexicographic.{bytes_decides}
@@ -10,26 +9,14 @@ use Rattle.std.specs.declared.cmp.Ordering.{Ordering}
 use Rattle.profile_model.specs.Laws.{TellsApart, has, IsInOrder}
 use Rattle.profile_model.specs.Orders.{ordered, way_cmp, target_cmp}
 use Rattle.profile_model.specs.Profile.{Profile, function_line, body_line, call_line, capped, count_of, target_of, head_of, total_of, total_of_function, targets_of, recorded, entered, written, line_by, line_at, lines_of}
-use Rattle.profile_model.specs.Ways.{Kind, Step, Way, function, body, call, to_function, same_name, same_step, same_way, leads_to, beginnings, last_step}
+use Rattle.profile_model.specs.Ways.{Kind, Step, Way, function, body, call, to_function, same_name, same_way, leads_to, beginnings, last_step}
 use Rattle.profile_model.proofs.OrderLemmas.{ways_tell_apart, targets_tell_apart}
 use Rattle.profile_model.proofs.OrderedLemmas.{Above, ordered_is_in_order, only_ordered_is_in_order}
-use Rattle.profile_laws.proofs.TotalLemmas.{and_first, and_second, and_both, same_steps, step_itself, Among, among_append_left, among_append_right, among_map, among_flat, among_filter, has_from_among, among_from_has, not_among_above, sum_both, sum_none}
+use Rattle.profile_model.proofs.StepLemmas.{and_first, and_second, and_both, bool_same, same_ways, way_itself}
+use Rattle.profile_laws.proofs.TotalLemmas.{Among, among_append_left, among_append_right, among_map, among_flat, among_filter, has_from_among, among_from_has, not_among_above, sum_both, sum_none}
 use Rattle.profile_laws.specs.Counts.{CountTheSame, LinesAreByCounts}
 
--- tests of ways and names
-same_ways : (x y : Way) → same_way x y ≡ true → x ≡ y
-same_ways [] [] e = refl
-same_ways [] (t ∷ y) e = absurd (true≢false (sym e))
-same_ways (s ∷ x) [] e = absurd (true≢false (sym e))
-same_ways (s ∷ x) (t ∷ y) e =
-    let first : s ≡ t = same_steps s t (and_first (same_step s t) (same_way x y) e) in
-    let rest : x ≡ y = same_ways x y (and_second (same_step s t) (same_way x y) e) in
-    λ i. first i ∷ rest i
-
-way_itself : (x : Way) → same_way x x ≡ true
-way_itself [] = refl
-way_itself (s ∷ x) = and_both (same_step s s) (same_way x x) (step_itself s) (way_itself x)
-
+-- tests of names
 name_itself : (x : List ℕ) → same_name x x ≡ true
 name_itself x = (bytes_decides x x).1 refl
 
@@ -84,11 +71,6 @@ append_inside xs ys vs ws first second x h = elim (append_from x xs ys h) as (λ
 ]
 
 -- lists with the same items are the same in order
-bool_same : (a b : Bool) → (a ≡ true → b ≡ true) → (b ≡ true → a ≡ true) → a ≡ b
-bool_same true b f g = sym (f refl)
-bool_same false true f g = g refl
-bool_same false false f g = refl
-
 ordered_alike : {T : Type 0} (cmp : T → T → Ordering) → TellsApart cmp → (xs ys : List T) → Inside xs ys → Inside ys xs → ordered cmp xs ≡ ordered cmp ys
 unfolding Inside
 ordered_alike {T} cmp t xs ys there back =

@@ -4,7 +4,6 @@ use Rattle.std.proofs.lemmas.Bool.{true≢false}
 use Rattle.std.proofs.lemmas.Bool.Decides.{nat_tests}
 use Rattle.std.proofs.lemmas.List.Sums.{sum_by-cons}
 use Rattle.std.proofs.lemmas.List.Kept.{IsStrictlySortedBy-filter}
-use Rattle.std.specs.Cmp.Lexicographic.{bytes_decides}
 use Rattle.std.specs.List.{AllByRecursion, flat_map}
 use Rattle.std.specs.List.Sorted.{IsStrictlySortedBy}
 use Rattle.std.specs.Ordering.{is_eq, eq_by_cmp}
@@ -13,54 +12,11 @@ use Rattle.std.specs.declared.cmp.Ordering.TheVariants.{Less, Equal, Greater}
 use Rattle.profile_model.specs.Laws.{TellsApart, has}
 use Rattle.profile_model.specs.Orders.{way_cmp}
 use Rattle.profile_model.specs.Profile.{Profile, capped, count_of, total_of_function, recorded, entered, written}
-use Rattle.profile_model.specs.Ways.{Kind, Step, Way, kind_rank, function, body, call, same_step, same_way, leads_to, beginnings, last_step}
+use Rattle.profile_model.specs.Ways.{Step, Way, function, body, call, same_step, same_way, leads_to, beginnings, last_step}
 use Rattle.profile_model.proofs.OrderLemmas.{ways_tell_apart}
 use Rattle.profile_model.proofs.OrderedLemmas.{Above, ordered_is_in_order, has-head}
+use Rattle.profile_model.proofs.StepLemmas.{and_first, and_second, and_both, nat_refl, nat_same, same_steps, step_itself}
 use Rattle.profile_laws.specs.Totals.{EndsInBody, IsKeyWay, HasKeyWays, is_next, right_below, number_by, number_of, IsAbove, TotalsAddUp}
-
--- tests of steps
-pub and_first : (a b : Bool) → (a && b) ≡ true → a ≡ true
-and_first true b e = refl
-and_first false b e = e
-
-pub and_second : (a b : Bool) → (a && b) ≡ true → b ≡ true
-and_second true b e = e
-and_second false b e = absurd (true≢false (sym e))
-
-pub and_both : (a b : Bool) → a ≡ true → b ≡ true → (a && b) ≡ true
-and_both true b e f = f
-and_both false b e f = e
-
-nat_same : (x y : ℕ) → (x == y) ≡ true → x ≡ y
-nat_same x y e = grind (arith, nat_tests)
-
-nat_refl : (x : ℕ) → (x == x) ≡ true
-nat_refl x = grind (arith, nat_tests)
-
-kinds_same : (k l : Kind) → kind_rank k ≡ kind_rank l → k ≡ l
-kinds_same function function e = refl
-kinds_same function body e = absurd (omega arith)
-kinds_same function call e = absurd (omega arith)
-kinds_same body function e = absurd (omega arith)
-kinds_same body body e = refl
-kinds_same body call e = absurd (omega arith)
-kinds_same call function e = absurd (omega arith)
-kinds_same call body e = absurd (omega arith)
-kinds_same call call e = refl
-
-pub same_steps : (s t : Step) → same_step s t ≡ true → s ≡ t
-same_steps s t e =
-    let kind : s.kind ≡ t.kind = kinds_same s.kind t.kind (nat_same _ _ (and_first _ _ e)) in
-    let behind_kind = and_second _ _ e in
-    let offset : s.offset ≡ t.offset = nat_same _ _ (and_first _ _ behind_kind) in
-    let behind_offset = and_second _ _ behind_kind in
-    let disc : s.disc ≡ t.disc = nat_same _ _ (and_first _ _ behind_offset) in
-    let name : s.name ≡ t.name = (bytes_decides s.name t.name).0 (and_second _ _ behind_offset) in
-    λ i. record { kind = kind i; offset = offset i; disc = disc i; name = name i }
-
-pub step_itself : (s : Step) → same_step s s ≡ true
-step_itself s =
-    and_both _ _ (nat_refl (kind_rank s.kind)) (and_both _ _ (nat_refl s.offset) (and_both _ _ (nat_refl s.disc) ((bytes_decides s.name s.name).1 refl)))
 
 -- fronts
 front_is_take : (x k : Way) → leads_to x k ≡ true → x ≡ take (length x) k

@@ -1,3 +1,4 @@
 mod Examples
 pub mod OrderLemmas
 pub mod OrderedLemmas
+pub mod StepLemmas

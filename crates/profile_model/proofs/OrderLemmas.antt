@@ -36,7 +36,7 @@ lists_apart cmp apart (x ∷ xs) (y ∷ ys) e =
 pub names_apart : (x y : List ℕ) → name_cmp x y ≡ Equal → x ≡ y
 names_apart = lists_apart nat_cmp nat_apart
 
-kinds_apart : (k l : Kind) → kind_rank k ≡ kind_rank l → k ≡ l
+pub kinds_apart : (k l : Kind) → kind_rank k ≡ kind_rank l → k ≡ l
 kinds_apart function function e = refl
 kinds_apart function body e = absurd (omega arith)
 kinds_apart function call e = absurd (omega arith)

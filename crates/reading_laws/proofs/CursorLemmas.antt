@@ -1,30 +1,13 @@
 -- Readers and how far they go.
-use Rattle.std.proofs.Common.{◌≡◌, ℕ, ◌+◌, ◌-◌, ◌≤◌, Bool, true, false, cond, length, nat_le, nat_lt, Ok, Err, refl, ap, subst, ◌∙◌, List, ◌++◌, arith}
+use Rattle.std.proofs.Common.{◌≡◌, ℕ, ◌+◌, ◌-◌, ◌≤◌, Bool, true, false, cond, length, nat_le, nat_lt, Ok, Err, refl, ap, subst, ◌∙◌, arith}
 use Rattle.std.specs.Prelude.{◌==◌}
 use Rattle.std.proofs.lemmas.Bool.Decides.{nat_tests}
 use Rattle.std.proofs.lemmas.List.{length-append}
-use Rattle.byte_view.specs.Cursor.{Cursor, Passes, Reads}
-use Rattle.byte_view.specs.Reading.{Reading, SpellsField, field_at}
-use Rattle.byte_view.proofs.Fronts.{field_at-spelled}
-use Rattle.byte_view.proofs.Spellings.{field_at-again}
+use Rattle.byte_view.specs.Cursor.{Cursor}
 use Rattle.refusal.specs.declared.kind.Kind.{Kind}
-use Rattle.placed_view.specs.Reader.{Read, Reader, behind, refuse_if, told_as, placed, field}
-use Rattle.placed_view.proofs.ReadLemmas.{field-ok}
+use Rattle.placed_view.specs.Reader.{Read, behind, told_as, field}
+pub use Rattle.entry_model.proofs.CursorLemmas.{same_pair, reads_field, field_reads, Split, split, Unless, unless}
 use Rattle.unit_model.specs.Header.{long_length, short_length, sized, unit_length}
-
-pub same_pair : {X : Type 0} (x y : X) (a b : Cursor) → ◌≡◌ {A = Read X} (Ok (x, a)) (Ok (y, b)) → ◌≡◌ {A = X × Cursor} (x, a) (y, b)
-same_pair x y a b e = cc
-
--- One reader behind another read this.
-pub record Split {X Y : Type 0} (read : Read X) (next : X → Reader Y) (y : Y) (last : Cursor) : Type 0 where
-  pub value : X
-  pub cur : Cursor
-  pub first : read ≡ Ok (value, cur)
-  pub follows : next value cur ≡ Ok (y, last)
-
-pub split : {X Y : Type 0} (read : Read X) (next : X → Reader Y) (y : Y) (last : Cursor) → behind read next ≡ Ok (y, last) → Split read next y last
-split (Ok (x, cur)) next y last e = record { value = x; cur = cur; first = refl; follows = e }
-split (Err place) next y last e = absurd cc
 
 -- The cursor went forward in its piece by so many bytes at least.
 pub record Ahead (least : ℕ) (old new : Cursor) : Type 0 where
@@ -33,23 +16,6 @@ pub record Ahead (least : ℕ) (old new : Cursor) : Type 0 where
 
 same_place : (least : ℕ) (old a b : Cursor) → Ahead least old a → a ≡ b → Ahead least old b
 same_place least old a b ahead same = subst (λ (c : Cursor). Ahead least old c) same ahead
-
-passes_front : (old : Cursor) (front left : List ℕ) → old.left ≡ front ++ left → Passes old (record { at = old.at + (length old.left - length left); left = left }) front
-passes_front old front left parts = record { left = parts; at = omega (arith, ap length parts, length-append front left) }
-
-pub reads_field : (size : ℕ) (old new : Cursor) (n : ℕ) → field size old ≡ Ok (n, new) → Reads (SpellsField size) old new n
-unfolding field
-reads_field size old new n e = go (field_at size old.left) refl e
-  where
-    go : (answer : Reading ℕ) → field_at size old.left ≡ answer → placed old answer ≡ Ok (n, new) → Reads (SpellsField size) old new n
-    go (Err fault) is e = absurd cc
-    go (Ok (m, left)) is e =
-        let b = field_at-spelled size old.left left m is in
-        subst (λ (p : ℕ × Cursor). Reads (SpellsField size) old p.1 p.0) (same_pair m n (record { at = old.at + (length old.left - length left); left = left }) new e)
-        (record { bytes = b.front; spelled = b.spelled; passed = passes_front old b.front left b.parts })
-
-pub field_reads : (size : ℕ) (old new : Cursor) (n : ℕ) → Reads (SpellsField size) old new n → field size old ≡ Ok (n, new)
-field_reads size old new n r = field-ok size old new n r (ap (field_at size) r.passed.left ∙ field_at-again size r.bytes new.left n r.spelled)
 
 ahead_field : (size : ℕ) (old new : Cursor) (n : ℕ) → field size old ≡ Ok (n, new) → Ahead size old new
 ahead_field size old new n e =
@@ -65,15 +31,6 @@ told_as-same at kind (Err place) x new e = absurd cc
 
 pub second : {X : Type 0} (x y : X) (a b : Cursor) → ◌≡◌ {A = Read X} (Ok (x, a)) (Ok (y, b)) → a ≡ b
 second {X = X} x y a b e = ap (λ (p : X × Cursor). p.1) (same_pair x y a b e)
-
--- Nothing is in the way.
-pub record Unless (cause : Bool) (old new : Cursor) : Type 0 where
-  pub holds_not : cause ≡ false
-  pub stays : old ≡ new
-
-pub unless : (cause : Bool) (at : ℕ) (kind : Kind) (u : Unit {0}) (old new : Cursor) → refuse_if cause at kind old ≡ Ok (u, new) → Unless cause old new
-unless true at kind u old new e = absurd cc
-unless false at kind u old new e = record { holds_not = refl; stays = second tt u old new e }
 
 -- ---- the length of a unit
 

@@ -63,19 +63,19 @@ if_within : (before : ℕ) (section : Option Cursor) (found : Option Found) (row
 if_within before section None rows few e = none_within before rows few e
 if_within before section (Some found) rows few e = by_within before section found.at (section_place found.value) rows few e
 
-pub unit_within : (before : ℕ) (section : Option Cursor) (told : Units) (place : ℕ) (rows : Option (List Row)) → before ≤ max_rows_of_all
-    → rows_of_unit section told place before ≡ Ok rows → before + count rows ≤ max_rows_of_all
+pub unit_within : (before : ℕ) (section : Option Cursor) (told : Units) (index : ℕ) (rows : Option (List Row)) → before ≤ max_rows_of_all
+    → rows_of_unit section told index before ≡ Ok rows → before + count rows ≤ max_rows_of_all
 unfolding rows_of_unit
-unit_within before section told place rows few e = if_within before section (root_attribute told place DW_AT_stmt_list) rows few e
+unit_within before section told index rows few e = if_within before section (root_attribute told index DW_AT_stmt_list) rows few e
 
 -- ---- the units one behind the other
 
 -- Reading the programs of all units is reading those of the units that are left, behind rows of which there are tables.
-pub record TablesSoFar (file : List ℕ) (section : Option Cursor) (told : Units) (place before : ℕ) (tables : List (Option (List Sequence))) : Type 0 where
+pub record TablesSoFar (file : List ℕ) (section : Option Cursor) (told : Units) (index before : ℕ) (tables : List (Option (List Sequence))) : Type 0 where
   pub now : List (Option (List Row))
-  pub reached : rows_of_units section told ≡ rows_behind section told place (drop place told.units) now
+  pub reached : rows_of_units section told ≡ rows_behind section told index (drop index told.units) now
   pub is : AreTablesOf file now tables
-  pub long : length tables ≡ place
+  pub long : length tables ≡ index
   pub counted : before ≡ row_count now
   pub few : before ≤ max_rows_of_all
 
@@ -93,34 +93,34 @@ unfolding rows_of_units
 TablesSoFar-start file section told tables none = record { now = []; reached = refl; is = none; long = ap length none; counted = refl; few = omega arith }
 
 -- one unit is read
-one : (section : Option Cursor) (told : Units) (place : ℕ) (unit : Unit) (rest : List Unit) (now : List (Option (List Row))) (before : ℕ) (read : Judged (Option (List Row)))
-    → before ≡ row_count now → rows_of_unit section told place before ≡ read
-    → rows_behind section told place (unit ∷ rest) now ≡ ((read >>= λ rows. Ok (now ++ rows ∷ [])) >>= rows_behind section told (place + 1) rest)
-one section told place unit rest now before read counted is =
-    ap (λ n. (rows_of_unit section told place n >>= λ rows. Ok (now ++ rows ∷ [])) >>= rows_behind section told (place + 1) rest) (sym counted)
-    ∙ ap (λ (r : Judged (Option (List Row))). (r >>= λ rows. Ok (now ++ rows ∷ [])) >>= rows_behind section told (place + 1) rest) is
+one : (section : Option Cursor) (told : Units) (index : ℕ) (unit : Unit) (rest : List Unit) (now : List (Option (List Row))) (before : ℕ) (read : Judged (Option (List Row)))
+    → before ≡ row_count now → rows_of_unit section told index before ≡ read
+    → rows_behind section told index (unit ∷ rest) now ≡ ((read >>= λ rows. Ok (now ++ rows ∷ [])) >>= rows_behind section told (index + 1) rest)
+one section told index unit rest now before read counted is =
+    ap (λ n. (rows_of_unit section told index n >>= λ rows. Ok (now ++ rows ∷ [])) >>= rows_behind section told (index + 1) rest) (sym counted)
+    ∙ ap (λ (r : Judged (Option (List Row))). (r >>= λ rows. Ok (now ++ rows ∷ [])) >>= rows_behind section told (index + 1) rest) is
 
 -- the next unit is read
-reach : (file : List ℕ) (section : Option Cursor) (told : Units) (place before : ℕ) (tables : List (Option (List Sequence))) (so_far : TablesSoFar file section told place before tables)
-    (read : Judged (Option (List Row))) → place < length told.units → rows_of_unit section told place before ≡ read
-    → rows_of_units section told ≡ ((read >>= λ rows. Ok (so_far.now ++ rows ∷ [])) >>= rows_behind section told (place + 1) (drop (place + 1) told.units))
-reach file section told place before tables so_far read within is =
-    let there = drop-there told.units place within in
-    so_far.reached ∙ ap (λ us. rows_behind section told place us so_far.now) there.1
-    ∙ one section told place there.0 (drop (suc place) told.units) so_far.now before read so_far.counted is
-    ∙ ap (λ n. (read >>= λ rows. Ok (so_far.now ++ rows ∷ [])) >>= rows_behind section told (place + 1) (drop n told.units)) (sym (add-one place))
+reach : (file : List ℕ) (section : Option Cursor) (told : Units) (index before : ℕ) (tables : List (Option (List Sequence))) (so_far : TablesSoFar file section told index before tables)
+    (read : Judged (Option (List Row))) → index < length told.units → rows_of_unit section told index before ≡ read
+    → rows_of_units section told ≡ ((read >>= λ rows. Ok (so_far.now ++ rows ∷ [])) >>= rows_behind section told (index + 1) (drop (index + 1) told.units))
+reach file section told index before tables so_far read within is =
+    let there = drop-there told.units index within in
+    so_far.reached ∙ ap (λ us. rows_behind section told index us so_far.now) there.1
+    ∙ one section told index there.0 (drop (suc index) told.units) so_far.now before read so_far.counted is
+    ∙ ap (λ n. (read >>= λ rows. Ok (so_far.now ++ rows ∷ [])) >>= rows_behind section told (index + 1) (drop n told.units)) (sym (add-one index))
 
-pub TablesSoFar-more : (file : List ℕ) (section : Option Cursor) (told : Units) (place before rows : ℕ) (tables : List (Option (List Sequence))) (all : Option (List Row)) (table : Option (List Sequence))
-    → TablesSoFar file section told place before tables → place < length told.units → rows_of_unit section told place before ≡ Ok all
+pub TablesSoFar-more : (file : List ℕ) (section : Option Cursor) (told : Units) (index before rows : ℕ) (tables : List (Option (List Sequence))) (all : Option (List Row)) (table : Option (List Sequence))
+    → TablesSoFar file section told index before tables → index < length told.units → rows_of_unit section told index before ≡ Ok all
     → table ≡ option_map (live_sequences file) all → rows ≡ count all
-    → TablesSoFar file section told (place + 1) (before + rows) (tables ++ table ∷ [])
-TablesSoFar-more file section told place before rows tables all table so_far within read is counts =
+    → TablesSoFar file section told (index + 1) (before + rows) (tables ++ table ∷ [])
+TablesSoFar-more file section told index before rows tables all table so_far within read is counts =
     let sums = sum_by_push (λ rows. option_map_or length rows 0) so_far.now all in
     let more = length-append tables (table ∷ []) in
-    let within_all = unit_within before section told place all so_far.few read in
+    let within_all = unit_within before section told index all so_far.few read in
     record {
       now = so_far.now ++ all ∷ [];
-      reached = reach file section told place before tables so_far (Ok all) within read;
+      reached = reach file section told index before tables so_far (Ok all) within read;
       is = ap (λ ts. ts ++ table ∷ []) so_far.is ∙ ap (λ t. map (option_map (live_sequences file)) so_far.now ++ t ∷ []) is
           ∙ sym (map-push (option_map (live_sequences file)) so_far.now all);
       long = omega (arith, more, so_far.long);
@@ -132,21 +132,21 @@ judged : (file : List ℕ) (told : Judged (List (Option (List Row)))) (units : L
     → (result_err told ≡ None) × AreTables file told tables
 judged file told units tables is are = (ap result_err is, (units, is, are))
 
-pub TablesSoFar-end : (file : List ℕ) (section : Option Cursor) (told : Units) (place before : ℕ) (tables : List (Option (List Sequence)))
-    → TablesSoFar file section told place before tables → length told.units ≤ place
+pub TablesSoFar-end : (file : List ℕ) (section : Option Cursor) (told : Units) (index before : ℕ) (tables : List (Option (List Sequence)))
+    → TablesSoFar file section told index before tables → length told.units ≤ index
     → (result_err (rows_of_units section told) ≡ None) × AreTables file (rows_of_units section told) tables
-TablesSoFar-end file section told place before tables so_far past =
+TablesSoFar-end file section told index before tables so_far past =
     judged file (rows_of_units section told) so_far.now tables
-    (so_far.reached ∙ ap (λ us. rows_behind section told place us so_far.now) (drop_all place told.units past)) so_far.is
+    (so_far.reached ∙ ap (λ us. rows_behind section told index us so_far.now) (drop_all index told.units past)) so_far.is
 
-pub TablesSoFar-stop : (file : List ℕ) (section : Option Cursor) (told : Units) (place before : ℕ) (tables : List (Option (List Sequence))) (known : BTreeMap ℕ Known) (program : Option Named) (why : Stop)
-    {T : Type 0} (P : T → Type 0) (r : Result T Stop) → TablesSoFar file section told place before tables → place < length told.units
-    → rows_of_unit section told place before ≡ rows_named before section program → GivesUnitRows section known before program (Err why)
+pub TablesSoFar-stop : (file : List ℕ) (section : Option Cursor) (told : Units) (index before : ℕ) (tables : List (Option (List Sequence))) (known : BTreeMap ℕ Known) (program : Option Named) (why : Stop)
+    {T : Type 0} (P : T → Type 0) (r : Result T Stop) → TablesSoFar file section told index before tables → index < length told.units
+    → rows_of_unit section told index before ≡ rows_named before section program → GivesUnitRows section known before program (Err why)
     → IsErrAnd r (λ s. s ≡ why) → JudgesUnlessNoMemory (result_err (rows_of_units section told)) r P
-TablesSoFar-stop file section told place before tables known program why {T} P (Ok x) so_far within is gives stops = absurd stops
-TablesSoFar-stop file section told place before tables known program why {T} P (Err NoMemory) so_far within is gives stops = tt
-TablesSoFar-stop file section told place before tables known None why {T} P (Err (Refused bad)) so_far within is gives stops = absurd cc
-TablesSoFar-stop file section told place before tables known (Some program) why {T} P (Err (Refused bad)) so_far within is gives stops =
+TablesSoFar-stop file section told index before tables known program why {T} P (Ok x) so_far within is gives stops = absurd stops
+TablesSoFar-stop file section told index before tables known program why {T} P (Err NoMemory) so_far within is gives stops = tt
+TablesSoFar-stop file section told index before tables known None why {T} P (Err (Refused bad)) so_far within is gives stops = absurd cc
+TablesSoFar-stop file section told index before tables known (Some program) why {T} P (Err (Refused bad)) so_far within is gives stops =
     let refused = subst (λ w. GivesUnitRows section known before (Some program) (Err w)) (sym stops) gives in
-    ap result_err (reach file section told place before tables so_far (Err bad) within
+    ap result_err (reach file section told index before tables so_far (Err bad) within
     (is ∙ ap (λ (r : Judged (List Row)). r >>= λ rows. Ok (Some rows)) refused))

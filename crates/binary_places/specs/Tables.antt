@@ -22,10 +22,10 @@ rows_named before section None = Ok None
 rows_named before section (Some program) =
     rows_from before section program.at program.offset >>= λ rows. Ok (Some rows)
 
--- The unit at a place among the units names this program, or none.
+-- The unit of an index among the units names this program, or none.
 abbrev pub IsNamed : Units → ℕ → Option Named → Type 0
-IsNamed told place named =
-    (section : Option Cursor) (before : ℕ) → rows_of_unit section told place before ≡ rows_named before section named
+IsNamed told index named =
+    (section : Option Cursor) (before : ℕ) → rows_of_unit section told index before ≡ rows_named before section named
 
 -- Tables of the live sequences of some units' rows.
 abbrev pub AreTablesOf : List ℕ → List (Option (List Row)) → List (Option (List Sequence)) → Type 0

@@ -23,14 +23,14 @@ pub(crate) struct Named {
     pub offset: u64,
 }
 
-/// The line program that the unit at a place among the units names by its root, if it names one.
+/// The line program that the unit of an index among the units names by its root, if it names one.
 ///
 /// Source: DWARF 5, section 3.1.1.
 #[tactic(auto, unfolding(binary_model::specs::LinePrograms::rows_of_unit))]
-pub(crate) fn program_of(units: &Units<'_>, place: u32) -> Option<Named>
-    ensures { IsNamed units.now place result }
+pub(crate) fn program_of(units: &Units<'_>, index: u32) -> Option<Named>
+    ensures { IsNamed units.now index result }
 {
-    let found = root_attribute(units, place, DW_AT_STMT_LIST)?;
+    let found = root_attribute(units, index, DW_AT_STMT_LIST)?;
     let offset = section_place(found.value)?;
     Some(Named {
         at: found.at,

@@ -20,7 +20,7 @@ const MAX_ROWS_OF_ALL: u64 = 1 << 26;
 /// A line program that was read for a unit before.
 #[derive(Clone, Copy, Debug)]
 pub(crate) struct Known {
-    /// The place of that unit among the units.
+    /// The index of that unit among the units.
     pub unit: usize,
     /// How many rows the program has.
     pub rows: u64,
@@ -100,7 +100,7 @@ pub(crate) fn rows_of_unit(
     }
 }
 
-/// Keeps that the program of these rows was read, for the unit at this place.
+/// Keeps that the program of these rows was read, for the unit of this index.
 pub(crate) fn keep(
     known: &mut BTreeMap<u64, Known>,
     unit: usize,

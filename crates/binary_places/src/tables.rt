@@ -19,7 +19,7 @@ use row_table::RowTable;
 use std::alloc::Global;
 use std::collections::BTreeMap;
 
-/// The table of the unit at a place among those before, once more.
+/// The table of the unit of an index among those before, once more.
 fn table_again(tables: &[Option<RowTable>], unit: usize) -> Result<Option<RowTable>, NoMemory>
     requires { unit < length tables.now }
     ensures { IfOk result (λ table. slice_get tables.now unit ≡ Some table) }
@@ -74,11 +74,11 @@ pub(crate) fn read_tables(
     let mut tables = Vec::new(alloc);
     let mut known = BTreeMap::new(alloc);
     let mut before = 0;
-    for place in 0..units.units().len() {
-        let program = program_of(units, place as u32);
+    for index in 0..units.units().len() {
+        let program = program_of(units, index as u32);
         let rows = rows_of_unit(alloc, line, program, &known, before)?;
         let table = table_of(alloc, elf, &rows, &tables)?;
-        keep(&mut known, place, &rows)?;
+        keep(&mut known, index, &rows)?;
         push(&mut tables, table)?;
         before += count(&rows);
     }

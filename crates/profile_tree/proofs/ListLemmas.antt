@@ -1,5 +1,5 @@
 -- Lists: what stands in them, sums over them, and their orders.
-use Rattle.std.proofs.Common.{◌≡◌, ◌⊎◌, ◌≤◌, ◌<◌, ℕ, zero, suc, ◌+◌, ◌==◌, Bool, true, false, cond, ◌&&◌, ◌||◌, List, [], ◌∷◌, ◌++◌, map, filter, length, get_or, sum_by, refl, sym, ap, subst, ◌∙◌, inl, inr, arith, add-zero, zero-add, IsPermutation, Contains}
+use Rattle.std.proofs.Common.{◌≡◌, ◌⊎◌, ◌≤◌, ◌<◌, ℕ, zero, suc, ◌+◌, ◌==◌, Bool, true, false, cond, ◌||◌, List, [], ◌∷◌, ◌++◌, map, filter, length, get_or, sum_by, refl, sym, ap, subst, ◌∙◌, inl, inr, arith, add-zero, zero-add, IsPermutation, Contains}
 use Rattle.std.proofs.lemmas.Bool.{true≢false}
 use Rattle.std.proofs.lemmas.Bool.Decides.{nat_tests}
 use Rattle.std.proofs.lemmas.Cmp.{tied_itself}
@@ -14,21 +14,10 @@ use Rattle.std.specs.Ordering.{is_eq, eq_by_cmp}
 use Rattle.profile_model.specs.Laws.{TellsApart, has}
 use Rattle.profile_model.specs.Orders.{ordered, placed, with_item}
 use Rattle.profile_model.specs.Ways.{beginnings}
+pub use Rattle.profile_model.proofs.StepLemmas.{and_first, and_second, and_both, bool_same, nat_same, nat_refl}
 use Rattle.profile_model.proofs.OrderedLemmas.{ordered_is_in_order, only_ordered_is_in_order}
 
 -- tests
-pub and_first : (a b : Bool) → (a && b) ≡ true → a ≡ true
-and_first true b e = refl
-and_first false b e = e
-
-pub and_second : (a b : Bool) → (a && b) ≡ true → b ≡ true
-and_second true b e = e
-and_second false b e = absurd (true≢false (sym e))
-
-pub and_both : (a b : Bool) → a ≡ true → b ≡ true → (a && b) ≡ true
-and_both true b e f = f
-and_both false b e f = e
-
 pub or_left : (a b : Bool) → a ≡ true → (a || b) ≡ true
 or_left true b e = refl
 or_left false b e = absurd (true≢false (sym e))
@@ -47,21 +36,9 @@ pub or_other : (a b : Bool) → (a || b) ≡ true → a ≡ false → b ≡ true
 or_other true b e f = absurd (true≢false f)
 or_other false b e f = e
 
-pub bool_same : (a b : Bool) → (a ≡ true → b ≡ true) → (b ≡ true → a ≡ true) → a ≡ b
-bool_same true true f g = refl
-bool_same true false f g = sym (f refl)
-bool_same false true f g = g refl
-bool_same false false f g = refl
-
 pub bool_cases : (b : Bool) {P : Type 0} → (b ≡ true → P) → (b ≡ false → P) → P
 bool_cases true f g = f refl
 bool_cases false f g = g refl
-
-pub nat_same : (x y : ℕ) → (x == y) ≡ true → x ≡ y
-nat_same x y e = grind (arith, nat_tests)
-
-pub nat_refl : (x : ℕ) → (x == x) ≡ true
-nat_refl x = grind (arith, nat_tests)
 
 -- what stands in a list
 abbrev pub Among : {T : Type 0} → T → List T → Type 0

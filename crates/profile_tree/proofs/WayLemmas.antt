@@ -1,11 +1,10 @@
 -- Ways by ranks compare as ways by names do.
 use Rattle.std.proofs.Common.{◌≡◌, ◌≤◌, ◌<◌, ℕ, ◌-◌, ◌^◌, true, ◌&&◌, List, [], ◌∷◌, ◌++◌, map, length, get_or, replicate, Some, refl, sym, ap, subst, ◌∙◌, arith}
-use Rattle.std.proofs.lemmas.Bool.{true≢false}
 use Rattle.std.proofs.lemmas.Bool.Decides.{nat_tests}
 use Rattle.std.proofs.lemmas.Cmp.{nat_cmp_total, tied_itself}
 use Rattle.std.proofs.lemmas.List.{get_or-map, get_or-replicate, length-replicate, length-map}
 use Rattle.std.proofs.lemmas.Option.{slice_get-get_or}
-use Rattle.std.specs.Cmp.Lexicographic.{slice_cmp, bytes_decides}
+use Rattle.std.specs.Cmp.Lexicographic.{slice_cmp}
 use Rattle.std.specs.List.{AllByRecursion, slice_get}
 use Rattle.std.specs.Option.{unwrap_or}
 use Rattle.std.specs.declared.cmp.Ordering.TheVariants.{Less, Equal, Greater}
@@ -16,9 +15,10 @@ use Rattle.key_types.specs.declared.key.Frame.{Frame}
 use Rattle.key_types.specs.declared.key.Key.{Key}
 use Rattle.name_ranks.specs.Ranks.{AreRanks}
 use Rattle.profile_model.proofs.OrderLemmas.{names_apart, step_total, steps_apart}
+pub use Rattle.profile_model.proofs.StepLemmas.{same_steps, step_itself, same_ways, way_itself}
 use Rattle.profile_model.specs.Orders.{step_cmp, name_cmp}
-use Rattle.profile_model.specs.Ways.{Kind, Step, Way, kind_rank, function, body, call, same_step, same_way, is_front, leads_to}
-use Rattle.profile_tree.proofs.ListLemmas.{and_first, and_second, and_both, bool_same, nat_same, nat_refl}
+use Rattle.profile_model.specs.Ways.{Step, kind_rank, function, body, call, same_step, is_front, leads_to}
+use Rattle.profile_tree.proofs.ListLemmas.{bool_same}
 use Rattle.profile_tree.specs.Items.{ranked}
 use Rattle.profile_tree.specs.Known.{HasNames}
 use Rattle.profile_tree.specs.Steps.{NumberedStep, at_function, at_line, at_call, frame_step, steps_of, name_at, named}
@@ -27,44 +27,6 @@ use Rattle.way_rows.specs.Rows.{same_step as same_rank}
 use Rattle.way_rows.specs.Ways.{step_cmp as rank_cmp}
 
 -- steps of named ways
-kinds_same : (k l : Kind) → kind_rank k ≡ kind_rank l → k ≡ l
-kinds_same function function e = refl
-kinds_same function body e = absurd (omega arith)
-kinds_same function call e = absurd (omega arith)
-kinds_same body function e = absurd (omega arith)
-kinds_same body body e = refl
-kinds_same body call e = absurd (omega arith)
-kinds_same call function e = absurd (omega arith)
-kinds_same call body e = absurd (omega arith)
-kinds_same call call e = refl
-
-pub same_steps : (s t : Step) → same_step s t ≡ true → s ≡ t
-same_steps s t e =
-    let kind : s.kind ≡ t.kind = kinds_same s.kind t.kind (nat_same _ _ (and_first _ _ e)) in
-    let behind_kind = and_second _ _ e in
-    let offset : s.offset ≡ t.offset = nat_same _ _ (and_first _ _ behind_kind) in
-    let behind_offset = and_second _ _ behind_kind in
-    let disc : s.disc ≡ t.disc = nat_same _ _ (and_first _ _ behind_offset) in
-    let name : s.name ≡ t.name = (bytes_decides s.name t.name).0 (and_second _ _ behind_offset) in
-    λ i. record { kind = kind i; offset = offset i; disc = disc i; name = name i }
-
-pub step_itself : (s : Step) → same_step s s ≡ true
-step_itself s =
-    and_both _ _ (nat_refl (kind_rank s.kind)) (and_both _ _ (nat_refl s.offset) (and_both _ _ (nat_refl s.disc) ((bytes_decides s.name s.name).1 refl)))
-
-pub same_ways : (x y : Way) → same_way x y ≡ true → x ≡ y
-same_ways [] [] e = refl
-same_ways [] (t ∷ y) e = absurd (true≢false (sym e))
-same_ways (s ∷ x) [] e = absurd (true≢false (sym e))
-same_ways (s ∷ x) (t ∷ y) e =
-    let first : s ≡ t = same_steps s t (and_first (same_step s t) (same_way x y) e) in
-    let rest : x ≡ y = same_ways x y (and_second (same_step s t) (same_way x y) e) in
-    λ i. first i ∷ rest i
-
-pub way_itself : (x : Way) → same_way x x ≡ true
-way_itself [] = refl
-way_itself (s ∷ x) = and_both (same_step s s) (same_way x x) (step_itself s) (way_itself x)
-
 tied_or_same : (total : List ℕ → ℕ) (s t : Step) → is_eq (step_cmp total s t) ≡ same_step s t
 tied_or_same total s t =
     bool_same (is_eq (step_cmp total s t)) (same_step s t)

@@ -1,3 +1,3 @@
 pub mod TraceLemmas
 pub mod PathLemmas
-mod RoomLemmas
+pub mod RoomLemmas

@@ -1,7 +1,7 @@
 -- What a push along a way leaves of bounds, prices, excess and counts.
-use Rattle.std.proofs.Common.{◌≡◌, ◌≢◌, ℕ, zero, suc, ◌+◌, ◌-◌, ◌<◌, ◌≤◌, ◌==◌, Bool, true, false, List, [], ◌∷◌, length, get_or, drop, if◌then◌else◌, inl, inr, refl, arith, ap, sym, ◌∙◌, subst}
+use Rattle.std.proofs.Common.{◌≡◌, ◌≢◌, ℕ, zero, suc, ◌+◌, ◌-◌, ◌<◌, ◌≤◌, ◌==◌, Bool, true, false, List, [], ◌∷◌, length, get_or, drop, if◌then◌else◌, ◌⊎◌, inl, inr, refl, arith, ap, sym, ◌∙◌, subst}
 use Rattle.std.specs.Prelude.{slice_set, ℤ, pos, ◌+ℤ◌, ◌-ℤ◌}
-use Rattle.std.specs.List.{All}
+use Rattle.std.specs.List.{All, Contains}
 use Rattle.std.proofs.lemmas.Bool.{cases_eq}
 use Rattle.std.proofs.lemmas.Int.{ints}
 use Rattle.std.proofs.lemmas.List.{drop_more, drop_all, get_or-set_same, get_or-set_other, length-set}
@@ -153,6 +153,32 @@ pushed_other amount (step ∷ steps) counts place apart =
     let here = All-head Other step steps apart in
     pushed_other amount steps (push_once amount step counts) place (All-tail Other step steps apart)
     ∙ get_or-set_other counts step.arc place (count_after step.way (count_at counts step.arc) amount) 0 (λ e. here (sym e))
+
+-- a push changes a count as one of its steps does, or leaves it
+pub pushed_at : (amount : ℕ) (steps : List Step) (counts : List ℕ) (place : ℕ) → AreApart steps → place < length counts
+    → ((step : Step) × Contains steps step × (step.arc ≡ place) × (count_at (pushed amount steps counts) place ≡ count_after step.way (count_at counts place) amount))
+    ⊎ (count_at (pushed amount steps counts) place ≡ count_at counts place)
+pushed_at amount [] counts place apart inside = inr refl
+pushed_at amount (step ∷ steps) counts place apart inside =
+    elim (cases_eq step.arc place) [
+      | inl e ↦
+          let others = subst (λ (p : ℕ). All (λ (other : Step). other.arc ≢ p) steps) e apart.0 in
+          let later = pushed_other amount steps (push_once amount step counts) place others in
+          let n = count_after step.way (count_at counts step.arc) amount in
+          let here = get_or-set_same counts step.arc n 0 (omega (arith, e, inside)) in
+          let at : count_at (push_once amount step counts) place ≡ count_after step.way (count_at counts place) amount =
+          subst (λ (p : ℕ). count_at (push_once amount step counts) p ≡ count_after step.way (count_at counts p) amount) e here in
+          inl (step, (0, omega arith, refl), e, later ∙ at)
+      | inr other ↦
+          let before = get_or-set_other counts step.arc place (count_after step.way (count_at counts step.arc) amount) 0 (λ e. other (sym e)) in
+          let long = once-length amount step counts in
+          elim (pushed_at amount steps (push_once amount step counts) place apart.1 (omega (arith, long, inside))) [
+            | inl found ↦
+                let k = found.1.0 in
+                inl (found.0, (suc k, let within = found.1.1 in omega (arith, within), found.1.2), found.2, found.3 ∙ ap (λ (n : ℕ). count_after found.0.way n amount) before)
+            | inr same ↦ inr (same ∙ before)
+          ]
+    ]
 
 after_at_most : (way : Way) (n amount : ℕ) → count_after way n amount ≤ n + amount
 after_at_most Along n amount = omega arith

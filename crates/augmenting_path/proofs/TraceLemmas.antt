@@ -17,7 +17,7 @@ use Rattle.path_search.specs.Search.{mark_at, distance_of, distance_at, is_open,
 use Rattle.path_search.specs.Ways.{start_of, end_of, IsOpen, cost_of_step, rank_of, HasWays}
 use Rattle.augmenting_path.specs.declared.step.Step.{Step}
 use Rattle.augmenting_path.specs.Path.{step_start, step_end, LeadBack, AreApart, IsOpenStep, IsTight}
-use Rattle.augmenting_path.specs.Trace.{IsTraced}
+use Rattle.augmenting_path.specs.Trace.{IsTold, IsTraced}
 
 -- a side's rank, and for a side that is not settled more than all ranks
 abbrev pub level_of : ℕ → Option Mark → ℕ
@@ -25,15 +25,6 @@ level_of count at = if is_settled at then rank_of at else count
 
 abbrev pub level_at : List (Option Mark) → ℕ → ℕ
 level_at marks side = level_of (settled_count marks) (mark_at marks side)
-
--- the mark of a step's end tells it
-pub record IsTold (arcs : List Arc) (marks : List (Option Mark)) (source side : ℕ) (step : Step) : Type 0 where
-  pub mark : Mark
-  pub at : mark_at marks (step_end arcs step) ≡ Some mark
-  pub same_arc : step.arc ≡ mark.arc
-  pub same_way : step.way ≡ mark.way
-  pub apart : step_end arcs step ≢ source
-  pub known : (step_end arcs step ≡ side) ⊎ (is_settled (mark_at marks (step_end arcs step)) ≡ true)
 
 -- a step starts no lower than a side, and leads to a higher one
 abbrev pub IsLater : List Arc → List (Option Mark) → ℕ → Step → Type 0
@@ -215,14 +206,17 @@ open_and_tight net counts prices source side marks step has told =
 
 pub traced_all : (net : Network) (source side current : ℕ) (marks : List (Option Mark)) (steps : List Step) → current ≡ source
     → IsTracing (arcs_of net) marks source side current steps → IsTraced net source marks side steps
-traced_all net source side current marks steps ends so_far counts prices has =
-    let arcs = arcs_of net in
-    let price = moved (price_at prices) (distance_at marks) (distance_at marks side) in
-    record {
-      leads = subst (λ (s : ℕ). LeadBack arcs s side steps) ends so_far.leads;
-      apart = so_far.apart;
-      leave = All-weaker (IsTold arcs marks source side) (IsOpenStep arcs counts)
-          (λ step told. (open_and_tight net counts prices source side marks step has told).0) steps so_far.told;
-      tight = All-weaker (IsTold arcs marks source side) (IsTight arcs counts price)
-          (λ step told. (open_and_tight net counts prices source side marks step has told).1) steps so_far.told;
-    }
+traced_all net source side current marks steps ends so_far = record {
+  told = so_far.told;
+  path = λ counts prices has.
+      let arcs = arcs_of net in
+      let price = moved (price_at prices) (distance_at marks) (distance_at marks side) in
+      record {
+        leads = subst (λ (s : ℕ). LeadBack arcs s side steps) ends so_far.leads;
+        apart = so_far.apart;
+        leave = All-weaker (IsTold arcs marks source side) (IsOpenStep arcs counts)
+            (λ step told. (open_and_tight net counts prices source side marks step has told).0) steps so_far.told;
+        tight = All-weaker (IsTold arcs marks source side) (IsTight arcs counts price)
+            (λ step told. (open_and_tight net counts prices source side marks step has told).1) steps so_far.told;
+      };
+}

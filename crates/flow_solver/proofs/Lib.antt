@@ -3,3 +3,4 @@ pub mod StartLemmas
 pub mod StateLemmas
 pub mod AnswerLemmas
 pub mod PriceLemmas
+pub mod GoOnLemmas

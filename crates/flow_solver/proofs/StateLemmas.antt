@@ -1,6 +1,6 @@
 -- What an augmentation leaves true.
-use Rattle.std.proofs.Common.{◌≡◌, ℕ, ◌+◌, ◌^◌, ◌<◌, ◌≤◌, List, length, replicate, Option, inl, inr, refl, arith, ap, sym, ◌∙◌, subst}
-use Rattle.std.specs.Prelude.{ℤ, pos, ◌-ℤ◌, ◌≤ℤ◌, ◌<ℤ◌}
+use Rattle.std.proofs.Common.{◌≡◌, ℕ, ◌+◌, ◌^◌, ◌<◌, ◌≤◌, Bool, List, length, replicate, Option, None, Some, inl, inr, refl, arith, ap, sym, ◌∙◌, subst}
+use Rattle.std.specs.Prelude.{ℤ, pos, ◌-ℤ◌, ◌≤ℤ◌, ◌<ℤ◌, IfSome, MatchOption}
 use Rattle.std.specs.List.{All}
 use Rattle.std.proofs.lemmas.Bool.{cases_lt}
 use Rattle.std.proofs.lemmas.Int.{ints}
@@ -17,8 +17,8 @@ use Rattle.residual_model.proofs.PushLemmas.{starting_counts_fit}
 use Rattle.residual_model.proofs.StepLemmas.{moved_prices_fit}
 use Rattle.reached_sides.specs.declared.mark.Mark.{Mark}
 use Rattle.path_search.specs.Ground.{IsSmallPrice, AreSmall, arc_at, count_at, price_at, sides_of}
-use Rattle.path_search.specs.Search.{distance_of, distance_at, settled_count, HasReached}
-use Rattle.path_search.specs.Ways.{HasWays}
+use Rattle.path_search.specs.Search.{distance_of, distance_at, settled_count, HasClosed, HasReached}
+use Rattle.path_search.specs.Ways.{HasComeTo, HasWays}
 use Rattle.path_search.proofs.EndLemmas.{few_sides}
 use Rattle.path_search.proofs.RowLemmas.{each_by_place}
 use Rattle.path_search.proofs.SearchLemmas.{few_settled}
@@ -26,7 +26,7 @@ use Rattle.augmenting_path.specs.declared.step.Step.{Step}
 use Rattle.augmenting_path.specs.Path.{IsPath, pushed}
 use Rattle.augmenting_path.proofs.PathLemmas.{HasRoom, pushed-length, pushed_fit, pushed_excess, pushed_raised}
 use Rattle.augmenting_path.proofs.TraceLemmas.{marked}
-use Rattle.flow_solver.specs.Excess.{transferred}
+use Rattle.flow_solver.specs.Excess.{surplus, transferred}
 use Rattle.flow_solver.specs.State.{IsStart, IsState, IsAugmented, IsDone, HasMoved}
 use Rattle.flow_solver.proofs.ExcessLemmas.{IsFair, transferred_at, transferred-length, fair_sums, fair_kept, fair_lacks, none_lacks}
 use Rattle.flow_solver.proofs.StartLemmas.{starting_small}
@@ -186,12 +186,12 @@ small_moved net counts prices excess source side marks new found are k d within 
 -- ---- moved counts
 
 pub augmented : (net : Network) (counts : List ℕ) (prices excess : List ℤ) (source side : ℕ) (marks : List (Option Mark)) (steps : List Step)
-    (new_counts : List ℕ) (new_prices new_excess : List ℤ) → IsFound net counts prices excess source side marks → source < length excess
+    (new_counts : List ℕ) (new_prices new_excess : List ℤ) (more : Bool) → IsFound net counts prices excess source side marks → source < length excess
     → AreMoved prices marks side new_prices
     → IsPath (arcs_of net) counts (moved (price_at prices) (distance_at marks) (distance_at marks side)) source side steps
-    → HasMoved (arcs_of net) counts excess source side steps new_counts new_excess
+    → HasMoved (arcs_of net) counts excess source side steps new_counts new_excess more
     → IsAugmented net excess new_counts new_prices new_excess
-augmented net counts prices excess source side marks steps new_counts new_prices new_excess found source_inside are path has =
+augmented net counts prices excess source side marks steps new_counts new_prices new_excess more found source_inside are path has =
     let arcs = arcs_of net in
     let state = found.state in
     let amount = has.amount in
@@ -277,4 +277,36 @@ pub all_passed : (net : Network) (counts : List ℕ) (prices excess : List ℤ) 
 all_passed net counts prices excess marks source so_far past = record {
   state = so_far.state;
   balanced = none_lacks excess so_far.state.even (λ side within. so_far.passed side (omega (arith, within, past)));
+}
+
+-- ---- one search
+
+-- augmentations so far have left no more excess, the source has some, and the search has come to a side, or closed
+pub record IsTaking (net : Network) (old_excess : List ℤ) (counts : List ℕ) (prices excess : List ℤ) (source : ℕ) (marks : List (Option Mark))
+    (frontier : List (ℕ × ℕ)) (order : List ℕ) (found : Option ℕ) : Type 0 where
+  pub state : IsState net counts prices excess
+  pub each : length excess ≡ length old_excess
+  pub no_more : surplus excess ≤ surplus old_excess
+  pub kept : (side : ℕ) → price_at old_excess side ≤ℤ pos 0 → price_at excess side ≤ℤ pos 0
+  pub gathers : pos 0 <ℤ price_at excess source
+  pub come_or_closed : MatchOption found (HasClosed net counts prices excess source marks) (λ side. HasReached net counts prices excess source marks side)
+  pub ways : IfSome found (λ side. HasWays net counts prices source marks side)
+  pub come : IfSome found (λ side. HasComeTo net counts prices excess source marks frontier order side (distance_at marks side))
+
+pub taking_marked : (net : Network) (old_excess : List ℤ) (counts : List ℕ) (prices excess : List ℤ) (source : ℕ) (marks : List (Option Mark))
+    (frontier : List (ℕ × ℕ)) (order : List ℕ) (found : Option ℕ) → IsTaking net old_excess counts prices excess source marks frontier order found
+    → length marks ≡ length prices
+taking_marked net old_excess counts prices excess source marks frontier order None so_far = so_far.come_or_closed.settled.each
+taking_marked net old_excess counts prices excess source marks frontier order (Some side) so_far = so_far.come_or_closed.settled.each
+
+-- one augmentation behind others
+pub augmented_more : (net : Network) (old_excess excess : List ℤ) (counts : List ℕ) (prices new_excess : List ℤ)
+    → length excess ≡ length old_excess → surplus excess ≤ surplus old_excess
+    → ((side : ℕ) → price_at old_excess side ≤ℤ pos 0 → price_at excess side ≤ℤ pos 0)
+    → IsAugmented net excess counts prices new_excess → IsAugmented net old_excess counts prices new_excess
+augmented_more net old_excess excess counts prices new_excess each no_more kept now = record {
+  state = now.state;
+  each = now.each ∙ each;
+  less = let less = now.less in omega (arith, less, no_more);
+  kept = λ side least. now.kept side (kept side least);
 }

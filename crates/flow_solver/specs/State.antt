@@ -1,5 +1,5 @@
 -- What holds of counts, prices and excess between two augmentations.
-use Rattle.std.specs.Prelude.{◌≡◌, ℕ, ◌+◌, ◌^◌, ◌<◌, ◌≤◌, List, length, Option, ℤ, pos, ◌≤ℤ◌, ◌<ℤ◌}
+use Rattle.std.specs.Prelude.{◌≡◌, ℕ, ◌+◌, ◌^◌, ◌<◌, ◌≤◌, Bool, true, List, length, Option, ℤ, pos, ◌≤ℤ◌, ◌<ℤ◌}
 use Rattle.std.specs.List.{All}
 use Rattle.flow_model.specs.declared.arc.Arc.{Arc}
 use Rattle.flow_model.specs.Circulation.{EachArc, IsWithin}
@@ -9,6 +9,7 @@ use Rattle.residual_model.specs.Residual.{starting}
 use Rattle.reached_sides.specs.declared.mark.Mark.{Mark}
 use Rattle.path_search.specs.Ground.{IsGround, arc_at, count_at, price_at, sides_of}
 use Rattle.path_search.specs.Search.{HasClosed}
+use Rattle.path_search.specs.Ways.{HasComeTo}
 use Rattle.augmenting_path.specs.declared.step.Step.{Step}
 use Rattle.augmenting_path.specs.Path.{StepTakes, pushed}
 use Rattle.flow_solver.specs.Excess.{AreExcess, surplus_of, lack_of, surplus, lack, transferred}
@@ -55,13 +56,23 @@ pub record IsClosedFrom (net : Network) (counts : List ℕ) (prices excess : Lis
   pub gathers : pos 0 <ℤ price_at excess source
   pub closed : HasClosed net counts prices excess source marks
 
--- An amount went along the steps, from the excess of a source to a side that lacked it.
+-- An amount went along the steps, from the excess of a source to a side that lacked it. It is told whether the steps
+-- take more.
 pub record HasMoved (arcs : List Arc) (counts : List ℕ) (excess : List ℤ) (source side : ℕ) (steps : List Step)
-    (new_counts : List ℕ) (new_excess : List ℤ) : Type 0 where
+    (new_counts : List ℕ) (new_excess : List ℤ) (more : Bool) : Type 0 where
   pub amount : ℕ
   pub some : 0 < amount
   pub has : amount ≤ surplus_of (price_at excess source)
   pub lacks : amount ≤ lack_of (price_at excess side)
   pub takes : All (StepTakes arcs counts amount) steps
+  pub take_more : more ≡ true → All (StepTakes arcs counts (amount + 1)) steps
   pub counts_are : new_counts ≡ pushed amount steps counts
   pub excess_is : new_excess ≡ transferred excess source side amount
+
+-- A search has come to a side, and can go on from there: the side is at the distance 0 and lacks nothing, and the
+-- source has excess.
+pub record CanGoOn (net : Network) (counts : List ℕ) (prices excess : List ℤ) (source : ℕ) (marks : List (Option Mark))
+    (frontier : List (ℕ × ℕ)) (order : List ℕ) (side : ℕ) : Type 0 where
+  pub come : HasComeTo net counts prices excess source marks frontier order side 0
+  pub enough : pos 0 ≤ℤ price_at excess side
+  pub gathers : pos 0 <ℤ price_at excess source

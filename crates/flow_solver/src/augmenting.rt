@@ -1,19 +1,21 @@
 // One augmentation: a search, the prices that it moves, and a push along the way that it finds.
-ghost use Rattle.std.specs.Prelude.{◌≡◌, ◌+◌, ◌^◌, ◌<◌, ◌≤◌, ℕ, length, min, true, false, pos, ◌<ℤ◌};
+ghost use Rattle.std.specs.Prelude.{◌≡◌, ◌+◌, ◌^◌, ◌<◌, ◌≤◌, ℕ, length, min, true, false, pos, ◌<ℤ◌, ◌≤ℤ◌};
 ghost use Rattle.std.specs.Prelude.{IfOk, OnOk};
 ghost use Rattle.std.specs.List.{All};
 ghost use Rattle.flow_model.specs.Network.{arcs_of};
 ghost use Rattle.path_search.specs.Ground.{count_at, price_at};
-ghost use Rattle.path_search.specs.Search.{distance_at};
+ghost use Rattle.path_search.specs.Search.{HasReached, distance_at};
+ghost use Rattle.path_search.specs.Ways.{HasComeTo, HasWays};
 ghost use Rattle.augmenting_path.specs.Path.{AreApart, IsOpenStep};
 ghost use Rattle.flow_solver.specs.Excess.{lack_of, surplus_of};
-ghost use Rattle.flow_solver.specs.State.{HasMoved, IsAugmented, IsClosedFrom, IsState};
+ghost use Rattle.flow_solver.specs.State.{CanGoOn, HasMoved, IsAugmented};
+ghost use Rattle.flow_solver.specs.State.{IsClosedFrom, IsState};
 
 use crate::excess::transfer;
 use crate::prices::move_prices;
 use augmenting_path::{Step, least_room, push, trace};
 use flow_network::Net;
-use path_search::search;
+use path_search::{search, search_on};
 use reached_sides::{Frontier, Marks};
 use refusal::NoMemory;
 use std::alloc::Global;
@@ -42,8 +44,8 @@ impl Workspace {
     }
 }
 
-/// Takes excess from a source to the nearest side that lacks counts; false exactly where no such
-/// side can be reached.
+/// Takes excess from a source to sides that lack counts, the nearest first, for as long as one
+/// search serves; false exactly where no such side can be reached.
 pub(crate) fn augment(
     net: &Net,
     counts: &mut [u64],
@@ -62,7 +64,7 @@ pub(crate) fn augment(
     ensures closed { IfOk result (λ found. found ≡ false
         → IsClosedFrom net.now counts.new prices.new excess.new work.new.marks) }
 {
-    let found = search(
+    let mut found = search(
         net,
         counts,
         prices,
@@ -72,16 +74,67 @@ pub(crate) fn augment(
         &mut work.frontier,
         &mut work.order,
     )?;
-    match found {
-        None => Ok(false),
-        Some(side) => {
-            let limit = distance_to(&work.marks, side);
-            move_prices(prices, &work.marks, &work.order, limit);
-            trace(net, &work.marks, source, side, &mut work.path)?;
-            move_counts(net, counts, excess, source, side, &work.path);
-            Ok(true)
+    while let Some(side) = found {
+        if !augment_to(net, counts, prices, excess, source, side, work)? {
+            return Ok(true);
         }
+        found = search_on(
+            net,
+            counts,
+            prices,
+            excess,
+            source,
+            side,
+            &mut work.marks,
+            &mut work.frontier,
+            &mut work.order,
+        )?;
     }
+    Ok(false)
+}
+
+/// Takes excess from a source to a side that a search has come to. Whether the search can go on
+/// from there: it has moved no price, each step of the way takes more, the source has more, and
+/// the side lacks nothing any more.
+fn augment_to(
+    net: &Net,
+    counts: &mut [u64],
+    prices: &mut [i64],
+    excess: &mut [i64],
+    source: u32,
+    side: u32,
+    work: &mut Workspace,
+) -> Result<bool, NoMemory>
+    requires state { IsState net.now counts.old prices.old excess.old }
+    requires reached { HasReached net.now counts.old prices.old excess.old source
+        work.old.marks side }
+    requires ways { HasWays net.now counts.old prices.old source work.old.marks side }
+    requires come { HasComeTo net.now counts.old prices.old excess.old source work.old.marks
+        work.old.frontier work.old.order.items side (distance_at work.old.marks side) }
+    requires source { source < length excess.old }
+    requires gathers { pos 0 <ℤ price_at excess.old source }
+    ensures kept { OnOk result (work.new.marks ≡ work.old.marks) }
+    ensures augmented { OnOk result
+        (IsAugmented net.now excess.old counts.new prices.new excess.new) }
+    ensures goes_on { IfOk result (λ goes_on. goes_on ≡ true
+        → CanGoOn net.now counts.new prices.new excess.new source work.new.marks
+        work.new.frontier work.new.order.items side) }
+{
+    let limit = distance_to(&work.marks, side);
+    move_prices(prices, &work.marks, &work.order, limit);
+    trace(net, &work.marks, source, side, &mut work.path)?;
+    let more = move_counts(net, counts, excess, source, side, &work.path);
+    Ok(can_go_on(limit, more, excess, source, side))
+}
+
+/// Whether a search can go on from a side at a distance, where the way there takes more or not.
+fn can_go_on(distance: u64, more: bool, excess: &[i64], source: u32, side: u32) -> bool
+    requires source { source < length excess.now }
+    requires side { side < length excess.now }
+    ensures { result ≡ true → (distance ≡ 0) × (more ≡ true)
+        × (pos 0 <ℤ price_at excess.now source) × (pos 0 ≤ℤ price_at excess.now side) }
+{
+    distance == 0 && more && excess[source as usize] > 0 && excess[side as usize] >= 0
 }
 
 /// How far a side is; what has no mark is beyond all others.
@@ -96,6 +149,7 @@ fn distance_to(marks: &Marks, side: u32) -> u64
 }
 
 /// Moves as much along a way as the source has, the side at its end lacks and the way takes.
+/// Whether the way takes more.
 fn move_counts(
     net: &Net,
     counts: &mut [u64],
@@ -103,7 +157,7 @@ fn move_counts(
     source: u32,
     side: u32,
     path: &[Step],
-)
+) -> bool
     requires counted { length counts.old ≡ length (arcs_of net.now) }
     requires leave { All (IsOpenStep (arcs_of net.now) counts.old) path.now }
     requires apart { AreApart path.now }
@@ -114,12 +168,14 @@ fn move_counts(
     requires bounded { (place : ℕ)
         → count_at counts.old place + surplus_of (price_at excess.old source) < 2 ^ 64 }
     ensures { HasMoved (arcs_of net.now) counts.old excess.old source side path.now
-        counts.new excess.new }
+        counts.new excess.new result }
 {
     let most = most_between(excess[source as usize], excess[side as usize]);
-    let amount = least_room(net.arcs(), counts, path, most);
+    let room = least_room(net.arcs(), counts, path, most + 1);
+    let amount = room.min(most);
     push(counts, path, amount);
     transfer(excess, source, side, amount);
+    room > most
 }
 
 /// What one side has too much and another one lacks.

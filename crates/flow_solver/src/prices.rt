@@ -19,6 +19,7 @@ pub(crate) fn move_prices(prices: &mut [i64], marks: &Marks, order: &[u32], limi
     ensures each { length prices.new ≡ length prices.old }
     ensures moved { (side : ℕ) → price_at prices.new side
         ≡ moved (price_at prices.old) (distance_at marks.now) limit side }
+    ensures kept { limit ≡ 0 → prices.new ≡ prices.old }
 {
     if limit == 0 {
         return;

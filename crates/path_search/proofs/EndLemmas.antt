@@ -15,10 +15,10 @@ use Rattle.residual_model.specs.Residual.{StepsOn, cost_of_more, cost_of_less, r
 use Rattle.residual_model.proofs.PushLemmas.{more_above, more_below, less_above, less_below}
 use Rattle.reached_sides.specs.declared.mark.Mark.{Mark}
 use Rattle.path_search.specs.Ground.{AreSmall, IsSmallCost, arc_at, count_at, price_at, sides_of, IsGround}
-use Rattle.path_search.specs.Search.{far, mark_at, distance_of, distance_at, is_settled, is_open, is_reached, IsNext, HasReached, HasClosed, AreNear}
+use Rattle.path_search.specs.Search.{far, mark_at, distance_of, distance_at, is_settled, is_open, is_reached, IsNext, HasReached, HasClosed, AreNear, IsWalking}
 use Rattle.path_search.proofs.RowLemmas.{each_at, each_by_place, placed}
 use Rattle.path_search.proofs.SearchLemmas.{few_settled}
-use Rattle.path_search.proofs.WalkLemmas.{IsWalking, open_mark}
+use Rattle.path_search.proofs.WalkLemmas.{open_mark}
 
 pub few_sides : (net : Network) → IsNet net → sides_of net < 2 ^ 18
 few_sides net is =

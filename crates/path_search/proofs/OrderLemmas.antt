@@ -5,14 +5,9 @@ use Rattle.std.proofs.lemmas.Bool.{cases_eq, cases_lt}
 use Rattle.std.proofs.lemmas.List.{get_or_push, get_or_append_left, length_push}
 use Rattle.reached_sides.specs.declared.mark.Mark.{Mark}
 use Rattle.path_search.specs.Search.{mark_at, is_settled, is_open, settled_as, settled_count, ComeNearer}
-use Rattle.path_search.specs.Ways.{rank_of, AreInOrder}
+use Rattle.path_search.specs.Ways.{rank_of, AreSettled}
 use Rattle.path_search.proofs.SearchLemmas.{IsSet, set_is}
 use Rattle.path_search.proofs.WalkLemmas.{first, begun, open_mark, not_both, never, IsSettledNow}
-
--- so many sides are settled, in this order
-pub record AreSettled (marks : List (Option Mark)) (order : List ℕ) : Type 0 where
-  pub in_order : AreInOrder marks order
-  pub count : length order ≡ settled_count marks
 
 pub order_begins : (source n : ℕ) (marks : List (Option Mark)) (order : List ℕ) → source < n
     → marks ≡ slice_set (replicate n None) source (Some first) → order ≡ [] → AreSettled marks order

@@ -14,17 +14,9 @@ use Rattle.residual_model.specs.Residual.{StepsOn, reduced}
 use Rattle.reached_sides.specs.declared.mark.Mark.{Mark}
 use Rattle.reached_sides.specs.declared.mark.Way.TheVariants.{Along}
 use Rattle.path_search.specs.Ground.{AreSmall, arc_at, count_at, price_at, IsGround}
-use Rattle.path_search.specs.Search.{mark_at, distance_of, distance_at, is_settled, is_open, settled_one, settled_count, settled_as, ComeNearer, IsLooking, LedOut, LedBack, IsWaiting, IsNext, HasSettled, AreNear}
+use Rattle.path_search.specs.Search.{mark_at, distance_of, distance_at, is_settled, is_open, settled_one, settled_count, settled_as, ComeNearer, IsLooking, LedOut, LedBack, IsNext, HasSettled, AreNear, IsWalking}
 use Rattle.path_search.proofs.RowLemmas.{each_at, each_by_place}
 use Rattle.path_search.proofs.SearchLemmas.{IsSet, set_is}
-
--- what holds before each side is settled
-pub record IsWalking (net : Network) (counts : List ℕ) (prices excess : List ℤ) (source : ℕ) (marks : List (Option Mark))
-    (frontier : List (ℕ × ℕ)) (rank : ℕ) : Type 0 where
-  pub settled : HasSettled net counts prices excess source marks
-  pub waiting : IsWaiting marks frontier
-  pub near : AreNear marks
-  pub rank_is : rank ≡ settled_count marks
 
 -- ---- the start
 

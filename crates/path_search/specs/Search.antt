@@ -168,3 +168,11 @@ pub record HasClosed (net : Network) (counts : List ℕ) (prices excess : List �
   pub begins : is_reached marks source ≡ true
   pub closed : IsClosed (is_reached marks) (arcs_of net) counts
   pub none_lacks : (side : ℕ) → is_reached marks side ≡ true → pos 0 ≤ℤ price_at excess side
+
+-- What holds before each side is settled, as the next one behind so many.
+pub record IsWalking (net : Network) (counts : List ℕ) (prices excess : List ℤ) (source : ℕ)
+    (marks : List (Option Mark)) (frontier : List (ℕ × ℕ)) (rank : ℕ) : Type 0 where
+  pub settled : HasSettled net counts prices excess source marks
+  pub waiting : IsWaiting marks frontier
+  pub near : AreNear marks
+  pub rank_is : rank ≡ settled_count marks

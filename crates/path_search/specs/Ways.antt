@@ -8,7 +8,7 @@ use Rattle.reached_sides.specs.declared.mark.Mark.{Mark}
 use Rattle.reached_sides.specs.declared.mark.Way.{Way}
 use Rattle.reached_sides.specs.declared.mark.Way.TheVariants.{Along, Against}
 use Rattle.path_search.specs.Ground.{arc_at, count_at, price_at}
-use Rattle.path_search.specs.Search.{mark_at, distance_at, is_open, is_settled, settled_count}
+use Rattle.path_search.specs.Search.{mark_at, distance_at, is_open, is_settled, settled_count, AreNear, HasSettled, IsNext, IsWalking}
 
 -- Where a step over an arc starts.
 abbrev pub start_of : Way → Arc → ℕ
@@ -109,3 +109,24 @@ pub record AreInOrder (marks : List (Option Mark)) (order : List ℕ) : Type 0 w
       × (rank_of (mark_at marks (slice_index order k)) ≡ k)
   pub listed : (side : ℕ) → is_settled (mark_at marks side) ≡ true → (rank_of (mark_at marks side) < length order)
       × (slice_index order (rank_of (mark_at marks side)) ≡ side)
+
+-- So many sides are settled, in this order.
+pub record AreSettled (marks : List (Option Mark)) (order : List ℕ) : Type 0 where
+  pub in_order : AreInOrder marks order
+  pub count : length order ≡ settled_count marks
+
+-- A search is under way: it may settle the next side.
+pub record IsUnderWay (net : Network) (counts : List ℕ) (prices excess : List ℤ) (source : ℕ)
+    (marks : List (Option Mark)) (frontier : List (ℕ × ℕ)) (order : List ℕ) : Type 0 where
+  pub walking : IsWalking net counts prices excess source marks frontier (length order)
+  pub ways : AreWays net counts prices source marks
+  pub settled : AreSettled marks order
+
+-- A search has come to a side at a distance, and has not settled it.
+pub record HasComeTo (net : Network) (counts : List ℕ) (prices excess : List ℤ) (source : ℕ)
+    (marks : List (Option Mark)) (frontier : List (ℕ × ℕ)) (order : List ℕ) (side distance : ℕ) : Type 0 where
+  pub done : HasSettled net counts prices excess source marks
+  pub near : AreNear marks
+  pub next : IsNext marks frontier side distance
+  pub ways : AreWays net counts prices source marks
+  pub settled : AreSettled marks order

@@ -16,4 +16,4 @@ mod settle;
 mod steps;
 mod walk;
 
-pub use walk::search;
+pub use walk::{search, search_on};

@@ -1,0 +1,10 @@
+use Rattle.flow_solver.specs.Excess.{surplus}
+use Rattle.flow_solver.proofs.StateLemmas.{IsTaking}
+use Rattle.flow_solver.proofs.augmenting.augment.Given as goal
+
+abbrev pub invariant-loop-found : goal.invariant-loop-found
+invariant-loop-found l =
+    IsTaking l.net l.fn.excess l.counts l.prices l.excess l.source l.work.marks l.work.frontier l.work.order.items l.found
+
+abbrev pub decreases-loop-found : goal.decreases-loop-found
+decreases-loop-found l = surplus l.excess

@@ -1,5 +1,5 @@
 -- What an augmentation leaves true.
-use Rattle.std.proofs.Common.{◌≡◌, ℕ, ◌+◌, ◌^◌, ◌<◌, ◌≤◌, Bool, List, length, replicate, Option, None, Some, inl, inr, refl, arith, ap, sym, ◌∙◌, subst}
+use Rattle.std.proofs.Common.{◌≡◌, ℕ, ◌+◌, ◌^◌, ◌<◌, ◌≤◌, Bool, false, List, length, replicate, Option, None, Some, inl, inr, refl, arith, ap, sym, ◌∙◌, subst}
 use Rattle.std.specs.Prelude.{ℤ, pos, ◌-ℤ◌, ◌≤ℤ◌, ◌<ℤ◌, IfSome, MatchOption}
 use Rattle.std.specs.List.{All}
 use Rattle.std.proofs.lemmas.Bool.{cases_lt}
@@ -243,40 +243,41 @@ augmented net counts prices excess source side marks steps new_counts new_prices
 
 -- ---- the rounds
 
--- the sides before this one have no excess
-pub record IsBalancing (net : Network) (counts : List ℕ) (prices excess : List ℤ) (marks : List (Option Mark)) (source : ℕ) : Type 0 where
+-- the sides before this one have no excess, unless some sides are left out
+pub record IsBalancing (net : Network) (counts : List ℕ) (prices excess : List ℤ) (marks : List (Option Mark)) (some : Bool) (source : ℕ) : Type 0 where
   pub state : IsState net counts prices excess
   pub marked_each : length marks ≡ length prices
-  pub passed : (side : ℕ) → side < source → price_at excess side ≤ℤ pos 0
+  pub passed : some ≡ false → (side : ℕ) → side < source → price_at excess side ≤ℤ pos 0
 
-pub round_more : (net : Network) (counts new_counts : List ℕ) (prices excess new_prices new_excess : List ℤ) (marks new_marks : List (Option Mark)) (source : ℕ)
-    → IsBalancing net counts prices excess marks source → IsAugmented net excess new_counts new_prices new_excess → length new_marks ≡ length new_prices
-    → IsBalancing net new_counts new_prices new_excess new_marks source
-round_more net counts new_counts prices excess new_prices new_excess marks new_marks source so_far now same = record {
+pub round_more : (net : Network) (counts new_counts : List ℕ) (prices excess new_prices new_excess : List ℤ) (marks new_marks : List (Option Mark))
+    (some : Bool) (source : ℕ) → IsBalancing net counts prices excess marks some source → IsAugmented net excess new_counts new_prices new_excess
+    → length new_marks ≡ length new_prices → IsBalancing net new_counts new_prices new_excess new_marks some source
+round_more net counts new_counts prices excess new_prices new_excess marks new_marks some source so_far now same = record {
   state = now.state;
   marked_each = same;
-  passed = λ side before. now.kept side (so_far.passed side before);
+  passed = λ all side before. now.kept side (so_far.passed all side before);
 }
 
-pub side_passed : (net : Network) (counts : List ℕ) (prices excess : List ℤ) (marks : List (Option Mark)) (source : ℕ)
-    → IsBalancing net counts prices excess marks source → price_at excess source ≤ℤ pos 0 → IsBalancing net counts prices excess marks (source + 1)
-side_passed net counts prices excess marks source so_far least = record {
+pub side_passed : (net : Network) (counts : List ℕ) (prices excess : List ℤ) (marks : List (Option Mark)) (some : Bool) (source : ℕ)
+    → IsBalancing net counts prices excess marks some source → (some ≡ false → price_at excess source ≤ℤ pos 0)
+    → IsBalancing net counts prices excess marks some (source + 1)
+side_passed net counts prices excess marks some source so_far least = record {
   state = so_far.state;
   marked_each = so_far.marked_each;
-  passed = λ side before.
+  passed = λ all side before.
       elim (cases_lt side source) [
-        | inl earlier ↦ so_far.passed side earlier
+        | inl earlier ↦ so_far.passed all side earlier
         | inr last ↦
             let e : source ≡ side = omega (arith, before, last) in
-            subst (λ (s : ℕ). price_at excess s ≤ℤ pos 0) e least
+            subst (λ (s : ℕ). price_at excess s ≤ℤ pos 0) e (least all)
       ];
 }
 
-pub all_passed : (net : Network) (counts : List ℕ) (prices excess : List ℤ) (marks : List (Option Mark)) (source : ℕ)
-    → IsBalancing net counts prices excess marks source → length excess ≤ source → IsDone net counts prices excess
-all_passed net counts prices excess marks source so_far past = record {
+pub all_passed : (net : Network) (counts : List ℕ) (prices excess : List ℤ) (marks : List (Option Mark)) (some : Bool) (source : ℕ)
+    → IsBalancing net counts prices excess marks some source → length excess ≤ source → some ≡ false → IsDone net counts prices excess
+all_passed net counts prices excess marks some source so_far past all = record {
   state = so_far.state;
-  balanced = none_lacks excess so_far.state.even (λ side within. so_far.passed side (omega (arith, within, past)));
+  balanced = none_lacks excess so_far.state.even (λ side within. so_far.passed all side (omega (arith, within, past)));
 }
 
 -- ---- one search

@@ -1,7 +1,7 @@
 use Rattle.std.proofs.Common.{arith}
 use Rattle.path_search.proofs.EndLemmas.{few_sides}
 use Rattle.flow_solver.proofs.StateLemmas.{all_passed}
-use Rattle.flow_solver.proofs.balancing.balance.Goals as goal
+use Rattle.flow_solver.proofs.balancing.balance_sides.Goals as goal
 
 pub overflow_add-source : goal.overflow_add-source
 overflow_add-source c =
@@ -12,4 +12,4 @@ overflow_add-source c =
     search (arith, few, priced, told, test)
 
 pub returns-clause-done : goal.returns-clause-done
-returns-clause-done c = λ yes. all_passed _ _ _ _ _ _ c.loop-source.invariant c.loop-source-test.false
+returns-clause-done c = λ yes all. all_passed _ _ _ _ _ _ _ c.loop-source.invariant c.loop-source-test.false all

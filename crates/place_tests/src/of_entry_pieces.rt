@@ -32,6 +32,10 @@ const INDEXED: (u64, u64, Value<'static>) = (0x11, 8, Value::AddrIndex(0));
 
 const INDEXED_END: (u64, u64, Value<'static>) = (0x12, 9, Value::AddrIndex(0));
 
+fn code(alloc: Global) -> Result<Elf<'static>, Stop> {
+    read(alloc, FILE)
+}
+
 fn of_unit() -> InUnit<'static> {
     let len = RANGES.len();
     InUnit {
@@ -89,7 +93,7 @@ fn pieces_by(
 
 #[test]
 fn code_is_kept(rt: HostRuntime) -> Result<(), Fail> {
-    let elf = read(rt.alloc(), FILE)?;
+    let elf = code(rt.alloc())?;
     let cases: [(&[(u64, u64, Value<'static>)], &[(u64, u64)]); 10] = [
         (&[], &[]),
         (&[LOW], &[]),
@@ -113,7 +117,7 @@ fn code_is_kept(rt: HostRuntime) -> Result<(), Fail> {
 
 #[test]
 fn the_first_bad_place_is_told(rt: HostRuntime) -> Result<(), Fail> {
-    let elf = read(rt.alloc(), FILE)?;
+    let elf = code(rt.alloc())?;
     let cases: [(&[(u64, u64, Value<'static>)], u64, Kind); 4] = [
         (&[INDEXED_END, INDEXED], 8, Kind::NoBase),
         (&[INDEXED_END, LOW], 9, Kind::NoBase),

@@ -1,9 +1,9 @@
 use byte_view::Part;
 use chain_model::Member;
-use dwarf_info::read_units;
+use dwarf_info::{Units, read_units};
 use dwarf_ranges::RangeParts;
 use dwarf_strings::Texts;
-use elf_sections::read;
+use elf_sections::{Elf, read};
 use inline_tree::{Source, make};
 use key_types::NameId;
 use refusal::{Kind, Place, Stop};
@@ -49,8 +49,12 @@ const NO_PARTS: RangeParts<'static> = RangeParts {
     },
 };
 
-// The members of a file's units, which stand behind its abbreviations from an offset on.
-fn members(alloc: Global, file: &[u8], at: usize) -> Option<Result<Vec<Member>, Stop>> {
+fn code(alloc: Global) -> Result<Elf<'static>, Stop> {
+    read(alloc, FILE)
+}
+
+// The units of a file, which stand behind its abbreviations from an offset on.
+fn units(alloc: Global, file: &[u8], at: usize) -> Option<Units<'_>> {
     if file.len() < at || file.len() > 1000 {
         return None;
     }
@@ -64,10 +68,16 @@ fn members(alloc: Global, file: &[u8], at: usize) -> Option<Result<Vec<Member>, 
         at,
         len: file.len() - at,
     };
-    let Ok(units) = read_units(alloc, Some(info), Some(abbrev)) else {
-        return None;
-    };
-    let Ok(elf) = read(alloc, FILE) else {
+    match read_units(alloc, Some(info), Some(abbrev)) {
+        Ok(units) => Some(units),
+        Err(_) => None,
+    }
+}
+
+// The members of such units.
+fn members(alloc: Global, file: &[u8], at: usize) -> Option<Result<Vec<Member>, Stop>> {
+    let units = units(alloc, file, at)?;
+    let Ok(elf) = code(alloc) else {
         return None;
     };
     let source = Source {
@@ -76,7 +86,10 @@ fn members(alloc: Global, file: &[u8], at: usize) -> Option<Result<Vec<Member>, 
         units: &units,
         parts: &NO_PARTS,
     };
-    Some(make(alloc, &source).map(|made| made.members))
+    match make(alloc, &source) {
+        Ok(made) => Some(Ok(made.members)),
+        Err(stop) => Some(Err(stop)),
+    }
 }
 
 #[test]

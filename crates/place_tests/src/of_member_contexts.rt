@@ -28,50 +28,54 @@ fn members(alloc: Global) -> Result<Vec<Member>, NoMemory> {
     Ok(members)
 }
 
-fn frames(context: &Context) -> &[Frame] {
+const OUTER: Frame = Frame {
+    name: NameId(2),
+    offset: 2,
+    disc: 2,
+};
+
+const INNER: Frame = Frame {
+    name: NameId(3),
+    offset: 1,
+    disc: 17,
+};
+
+// The context of the member of a number, if there is one.
+fn context(alloc: Global, number: usize) -> Result<Option<Context>, NoMemory> {
+    let members = members(alloc)?;
+    let parents = parents(alloc, &members)?;
+    if number >= members.len() {
+        return Ok(None);
+    }
+    let made = context_of(alloc, &members, &parents, number, false)?;
+    Ok(Some(made))
+}
+
+// The line that lines are counted from, and the frames.
+fn told(context: &Context) -> Option<(u64, &[Frame])> {
     match &context.named {
-        Some(named) => named.calls.as_slice(),
-        None => &[],
+        Some(named) => Some((named.start, named.calls.as_slice())),
+        None => None,
     }
 }
 
 #[test]
 fn calls_have_frames(rt: HostRuntime) -> Result<(), test::Fail> {
-    let alloc = rt.alloc();
-    let members = members(alloc)?;
-    let parents = parents(alloc, &members)?;
-    let outer = Frame {
-        name: NameId(2),
-        offset: 2,
-        disc: 2,
-    };
-    let inner = Frame {
-        name: NameId(3),
-        offset: 1,
-        disc: 17,
-    };
-    let both = [outer, inner];
-    // A member's number, that of its function, the line that lines are counted from, and how many
-    // frames there are.
-    let cases = [
-        (0, 0, Some(10), 0),
-        (1, 0, Some(70_000), 1),
-        (2, 0, Some(5), 2),
-        (3, 0, None, 0),
-        (4, 4, Some(8), 0),
+    // A member's number, that of its function, the line that lines are counted from, its frames.
+    let cases: [(usize, usize, Option<(u64, &[Frame])>); 5] = [
+        (0, 0, Some((10, &[]))),
+        (1, 0, Some((70_000, &[OUTER]))),
+        (2, 0, Some((5, &[OUTER, INNER]))),
+        (3, 0, None),
+        (4, 4, Some((8, &[]))),
     ];
-    assert_eq!(rt; members.len(), cases.len());
-    for (number, function, start, count) in cases {
-        if number < members.len() {
-            let made = context_of(alloc, &members, &parents, number, false)?;
-            assert_eq!(rt; made.function, function);
-            assert_eq!(rt; made.named.as_ref().map(|named| named.start), start);
-            let calls = frames(&made);
-            assert_eq!(rt; calls.len(), count);
-            for (call, wanted) in calls.iter().zip(both) {
-                assert_eq!(rt; *call, wanted);
-            }
-        }
+    for (number, function, wanted) in cases {
+        let Some(made) = context(rt.alloc(), number)? else {
+            panic!(rt; "no member");
+        };
+        assert_eq!(rt; made.function, function);
+        assert_eq!(rt; told(&made), wanted);
     }
+    assert!(rt; context(rt.alloc(), cases.len())?.is_none());
     Ok(())
 }

@@ -41,6 +41,7 @@ pub fn search(
     ensures come { IfOk result (λ found. IfSome found (λ side.
         HasComeTo net.now counts.now prices.now excess.now source marks.new frontier.new
         order.new.items side (distance_at marks.new side))) }
+    ensures order { OnOk result (AreInOrder marks.new order.new.items) }
 {
     begin(marks, frontier, source)?;
     order.clear();
@@ -73,6 +74,7 @@ pub fn search_on(
     ensures come { IfOk result (λ found. IfSome found (λ side.
         HasComeTo net.now counts.now prices.now excess.now source marks.new frontier.new
         order.new.items side (distance_at marks.new side))) }
+    ensures order { OnOk result (AreInOrder marks.new order.new.items) }
 {
     pass(
         net, counts, prices, excess, source, marks, frontier, order, side, 0,
@@ -103,6 +105,7 @@ fn walk(
     ensures come { IfOk result (λ found. IfSome found (λ side.
         HasComeTo net.now counts.now prices.now excess.now source marks.new frontier.new
         order.new.items side (distance_at marks.new side))) }
+    ensures order { OnOk result (AreInOrder marks.new order.new.items) }
 {
     while let Some((side, distance)) = next_open(marks, frontier) {
         if excess[side as usize] < 0 {

@@ -1,6 +1,6 @@
 -- What an augmentation leaves true.
 use Rattle.std.proofs.Common.{◌≡◌, ℕ, ◌+◌, ◌^◌, ◌<◌, ◌≤◌, Bool, false, List, length, replicate, Option, None, Some, inl, inr, refl, arith, ap, sym, ◌∙◌, subst}
-use Rattle.std.specs.Prelude.{ℤ, pos, ◌-ℤ◌, ◌≤ℤ◌, ◌<ℤ◌, IfSome, MatchOption}
+use Rattle.std.specs.Prelude.{ℤ, pos, ◌-ℤ◌, ◌≤ℤ◌, ◌<ℤ◌, IfSome, MatchOption, slice_index_or}
 use Rattle.std.specs.List.{All}
 use Rattle.std.proofs.lemmas.Bool.{cases_lt}
 use Rattle.std.proofs.lemmas.Int.{ints}
@@ -23,7 +23,7 @@ use Rattle.path_search.proofs.EndLemmas.{few_sides}
 use Rattle.path_search.proofs.RowLemmas.{each_by_place}
 use Rattle.path_search.proofs.SearchLemmas.{few_settled}
 use Rattle.augmenting_path.specs.declared.step.Step.{Step}
-use Rattle.augmenting_path.specs.Path.{IsPath, pushed}
+use Rattle.augmenting_path.specs.Path.{IsPath, pushed, step_start, step_end}
 use Rattle.augmenting_path.proofs.PathLemmas.{HasRoom, pushed-length, pushed_fit, pushed_excess, pushed_raised}
 use Rattle.augmenting_path.proofs.TraceLemmas.{marked}
 use Rattle.flow_solver.specs.Excess.{surplus, transferred}
@@ -183,39 +183,77 @@ small_moved net counts prices excess source side marks new found are k d within 
     let small = moved_small net counts prices excess source side marks found k in
     subst (λ (z : ℤ). IsSmallPrice z) (sym (get_or_default new k d (pos 0) within ∙ are.moved_all k)) small
 
+-- moved prices fit as well
+prices_moved : (net : Network) (counts : List ℕ) (prices excess : List ℤ) (source side : ℕ) (marks : List (Option Mark)) (new_prices : List ℤ)
+    → IsFound net counts prices excess source side marks → AreMoved prices marks side new_prices → IsState net counts new_prices excess
+prices_moved net counts prices excess source side marks new_prices found are =
+    let state = found.state in
+    let price = moved (price_at prices) (distance_at marks) (distance_at marks side) in
+    record {
+      ground = record {
+        of_a_function = state.ground.of_a_function;
+        counted = state.ground.counted;
+        priced = are.each ∙ state.ground.priced;
+        small = small_moved net counts prices excess source side marks new_prices found are;
+        fit = fit_same price (price_at new_prices) (arcs_of net) counts are.moved_all
+            (moved_prices_fit (price_at prices) (distance_at marks) (distance_at marks side) (arcs_of net) counts state.ground.fit found.reached.hold);
+      };
+      within = state.within;
+      told = state.told ∙ sym are.each;
+      are_excess = state.are_excess;
+      even = state.even;
+      bounded = state.bounded;
+      free = λ other lacks.
+          let zero = state.free other lacks in
+          let beyond = lacking_far net counts prices excess source side marks found other lacks in
+          let is = are.moved_all other in
+          omega (arith, ints, zero, beyond, is);
+    }
+
 -- ---- moved counts
 
-pub augmented : (net : Network) (counts : List ℕ) (prices excess : List ℤ) (source side : ℕ) (marks : List (Option Mark)) (steps : List Step)
-    (new_counts : List ℕ) (new_prices new_excess : List ℤ) (more : Bool) → IsFound net counts prices excess source side marks → source < length excess
-    → AreMoved prices marks side new_prices
-    → IsPath (arcs_of net) counts (moved (price_at prices) (distance_at marks) (distance_at marks side)) source side steps
+-- a path by prices is one by equal prices
+path_same : (arcs : List Arc) (counts : List ℕ) (price other : ℕ → ℤ) (source side : ℕ) (steps : List Step) → ((node : ℕ) → other node ≡ price node)
+    → IsPath arcs counts price source side steps → IsPath arcs counts other source side steps
+path_same arcs counts price other source side steps same path = record {
+  leads = path.leads;
+  apart = path.apart;
+  leave = path.leave;
+  tight = λ k d within.
+      let step = slice_index_or steps k d in
+      let tight = path.tight k d within in
+      let start = same (step_start arcs step) in
+      let end = same (step_end arcs step) in
+      omega (arith, ints, tight, start, end);
+}
+
+-- what goes along a tight path leaves the prices fitting
+pub moved_along : (net : Network) (counts : List ℕ) (prices excess : List ℤ) (source side : ℕ) (steps : List Step) (new_counts : List ℕ)
+    (new_excess : List ℤ) (more : Bool) → IsState net counts prices excess → source < length excess → side < length excess
+    → IsPath (arcs_of net) counts (price_at prices) source side steps
     → HasMoved (arcs_of net) counts excess source side steps new_counts new_excess more
-    → IsAugmented net excess new_counts new_prices new_excess
-augmented net counts prices excess source side marks steps new_counts new_prices new_excess more found source_inside are path has =
+    → IsAugmented net excess new_counts prices new_excess
+moved_along net counts prices excess source side steps new_counts new_excess more state source_inside side_inside path has =
     let arcs = arcs_of net in
-    let state = found.state in
     let amount = has.amount in
-    let price = moved (price_at prices) (distance_at marks) (distance_at marks side) in
-    let side_inside : side < length excess = let inside = found.reached.inside in let told = state.told in omega (arith, inside, told) in
     let fair : IsFair excess source side amount =
     record { starts = source_inside; leads = side_inside; some = has.some; has = has.has; lacks = has.lacks } in
     let rooms : All (HasRoom arcs counts amount) steps = λ k d within.
     let open_step = path.leave k d within in record { inside = open_step.inside; takes = has.takes k d within } in
-    let fit_moved = moved_prices_fit (price_at prices) (distance_at marks) (distance_at marks side) arcs counts state.ground.fit found.reached.hold in
-    let after = pushed_fit arcs counts price amount steps has.some state.within fit_moved path.apart rooms path.tight in
+    let after = pushed_fit arcs counts (price_at prices) amount steps has.some state.within state.ground.fit path.apart rooms path.tight in
     let sums = fair_sums excess source side amount fair in
     let told = transferred-length excess source side amount in
-    let now : IsAugmented net excess (pushed amount steps counts) new_prices (transferred excess source side amount) = record {
+    let now : IsAugmented net excess (pushed amount steps counts) prices (transferred excess source side amount) = record {
       state = record {
         ground = record {
           of_a_function = state.ground.of_a_function;
           counted = pushed-length amount steps counts ∙ state.ground.counted;
-          priced = are.each ∙ state.ground.priced;
-          small = small_moved net counts prices excess source side marks new_prices found are;
-          fit = fit_same price (price_at new_prices) arcs (pushed amount steps counts) are.moved_all after.1;
+          priced = state.ground.priced;
+          small = state.ground.small;
+          fit = after.1;
         };
         within = after.0;
-        told = told ∙ state.told ∙ sym are.each;
+        told = told ∙ state.told;
         are_excess = λ node.
             let list = transferred_at excess source side amount node source_inside side_inside in
             let model = pushed_excess arcs counts amount source side steps node state.ground.counted path.leads path.apart rooms in
@@ -227,19 +265,26 @@ augmented net counts prices excess source side marks steps new_counts new_prices
             let before = state.bounded place in
             let a = sums.0 in
             omega (arith, raised, before, a);
-        free = λ other lacks.
-            let lacked = fair_lacks excess source side amount fair other lacks in
-            let zero = state.free other lacked in
-            let beyond = lacking_far net counts prices excess source side marks found other lacked in
-            let is = are.moved_all other in
-            omega (arith, ints, zero, beyond, is);
+        free = λ other lacks. state.free other (fair_lacks excess source side amount fair other lacks);
       };
       each = told;
       less = let a = sums.0 in let some = has.some in omega (arith, a, some);
       kept = fair_kept excess source side amount fair;
     } in
-    subst (λ (list : List ℕ). IsAugmented net excess list new_prices new_excess) (sym has.counts_are)
-    (subst (λ (list : List ℤ). IsAugmented net excess (pushed amount steps counts) new_prices list) (sym has.excess_is) now)
+    subst (λ (list : List ℕ). IsAugmented net excess list prices new_excess) (sym has.counts_are)
+    (subst (λ (list : List ℤ). IsAugmented net excess (pushed amount steps counts) prices list) (sym has.excess_is) now)
+
+pub augmented : (net : Network) (counts : List ℕ) (prices excess : List ℤ) (source side : ℕ) (marks : List (Option Mark)) (steps : List Step)
+    (new_counts : List ℕ) (new_prices new_excess : List ℤ) (more : Bool) → IsFound net counts prices excess source side marks → source < length excess
+    → AreMoved prices marks side new_prices
+    → IsPath (arcs_of net) counts (moved (price_at prices) (distance_at marks) (distance_at marks side)) source side steps
+    → HasMoved (arcs_of net) counts excess source side steps new_counts new_excess more
+    → IsAugmented net excess new_counts new_prices new_excess
+augmented net counts prices excess source side marks steps new_counts new_prices new_excess more found source_inside are path has =
+    let side_inside : side < length excess = let inside = found.reached.inside in let told = found.state.told in omega (arith, inside, told) in
+    moved_along net counts new_prices excess source side steps new_counts new_excess more
+    (prices_moved net counts prices excess source side marks new_prices found are) source_inside side_inside
+    (path_same (arcs_of net) counts (moved (price_at prices) (distance_at marks) (distance_at marks side)) (price_at new_prices) source side steps are.moved_all path) has
 
 -- ---- the rounds
 

@@ -4,3 +4,4 @@ pub mod StateLemmas
 pub mod AnswerLemmas
 pub mod PriceLemmas
 pub mod GoOnLemmas
+pub mod GiveLemmas

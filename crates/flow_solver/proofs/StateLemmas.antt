@@ -27,7 +27,9 @@ use Rattle.augmenting_path.specs.Path.{IsPath, pushed, step_start, step_end}
 use Rattle.augmenting_path.proofs.PathLemmas.{HasRoom, pushed-length, pushed_fit, pushed_excess, pushed_raised}
 use Rattle.augmenting_path.proofs.TraceLemmas.{marked}
 use Rattle.flow_solver.specs.Excess.{surplus, transferred}
-use Rattle.flow_solver.specs.State.{IsStart, IsState, IsAugmented, IsDone, HasMoved}
+use Rattle.flow_solver.specs.declared.balancing.Sides.{Sides}
+use Rattle.flow_solver.specs.declared.balancing.Sides.TheVariants.{All as Every}
+use Rattle.flow_solver.specs.State.{IsStart, IsState, IsAugmented, IsDone, IsGiven, HasMoved}
 use Rattle.flow_solver.proofs.ExcessLemmas.{IsFair, transferred_at, transferred-length, fair_sums, fair_kept, fair_lacks, none_lacks}
 use Rattle.flow_solver.proofs.StartLemmas.{starting_small}
 
@@ -289,40 +291,62 @@ augmented net counts prices excess source side marks steps new_counts new_prices
 -- ---- the rounds
 
 -- the sides before this one have no excess, unless some sides are left out
-pub record IsBalancing (net : Network) (counts : List ℕ) (prices excess : List ℤ) (marks : List (Option Mark)) (some : Bool) (source : ℕ) : Type 0 where
+pub record IsBalancing (net : Network) (counts : List ℕ) (prices excess : List ℤ) (marks : List (Option Mark)) (sides : Sides) (side : ℕ) : Type 0 where
   pub state : IsState net counts prices excess
   pub marked_each : length marks ≡ length prices
-  pub passed : some ≡ false → (side : ℕ) → side < source → price_at excess side ≤ℤ pos 0
+  pub passed : sides ≡ Every → (other : ℕ) → other < side → price_at excess other ≤ℤ pos 0
 
-pub round_more : (net : Network) (counts new_counts : List ℕ) (prices excess new_prices new_excess : List ℤ) (marks new_marks : List (Option Mark))
-    (some : Bool) (source : ℕ) → IsBalancing net counts prices excess marks some source → IsAugmented net excess new_counts new_prices new_excess
-    → length new_marks ≡ length new_prices → IsBalancing net new_counts new_prices new_excess new_marks some source
-round_more net counts new_counts prices excess new_prices new_excess marks new_marks some source so_far now same = record {
-  state = now.state;
-  marked_each = same;
-  passed = λ all side before. now.kept side (so_far.passed all side before);
+-- nothing was given yet
+pub given_none : (net : Network) (counts : List ℕ) (prices excess : List ℤ) → IsState net counts prices excess → IsGiven net excess counts prices excess
+given_none net counts prices excess state = record {
+  state = state;
+  each = refl;
+  no_more = omega arith;
+  kept = λ side least. least;
 }
 
-pub side_passed : (net : Network) (counts : List ℕ) (prices excess : List ℤ) (marks : List (Option Mark)) (some : Bool) (source : ℕ)
-    → IsBalancing net counts prices excess marks some source → (some ≡ false → price_at excess source ≤ℤ pos 0)
-    → IsBalancing net counts prices excess marks some (source + 1)
-side_passed net counts prices excess marks some source so_far least = record {
-  state = so_far.state;
-  marked_each = so_far.marked_each;
-  passed = λ all side before.
-      elim (cases_lt side source) [
-        | inl earlier ↦ so_far.passed all side earlier
+-- what is given behind what was given
+pub given_more : (net : Network) (counts : List ℕ) (old_excess excess : List ℤ) (prices new_prices : List ℤ) (new_counts : List ℕ) (new_excess : List ℤ)
+    → IsGiven net old_excess counts prices excess → IsGiven net excess new_counts new_prices new_excess
+    → IsGiven net old_excess new_counts new_prices new_excess
+given_more net counts old_excess excess prices new_prices new_counts new_excess before now = record {
+  state = now.state;
+  each = now.each ∙ before.each;
+  no_more = let a = before.no_more in let b = now.no_more in omega (arith, a, b);
+  kept = λ side least. now.kept side (before.kept side least);
+}
+
+-- an augmentation gives
+pub given_by : (net : Network) (old_excess : List ℤ) (counts : List ℕ) (prices excess : List ℤ) → IsAugmented net old_excess counts prices excess
+    → IsGiven net old_excess counts prices excess
+given_by net old_excess counts prices excess now = record {
+  state = now.state;
+  each = now.each;
+  no_more = let less = now.less in omega (arith, less);
+  kept = now.kept;
+}
+
+pub side_passed : (net : Network) (counts new_counts : List ℕ) (prices excess new_prices new_excess : List ℤ) (marks new_marks : List (Option Mark))
+    (sides : Sides) (side : ℕ) → IsBalancing net counts prices excess marks sides side → IsGiven net excess new_counts new_prices new_excess
+    → length new_marks ≡ length new_prices → (sides ≡ Every → price_at new_excess side ≤ℤ pos 0)
+    → IsBalancing net new_counts new_prices new_excess new_marks sides (side + 1)
+side_passed net counts new_counts prices excess new_prices new_excess marks new_marks sides side so_far now same least = record {
+  state = now.state;
+  marked_each = same;
+  passed = λ all other before.
+      elim (cases_lt other side) [
+        | inl earlier ↦ now.kept other (so_far.passed all other earlier)
         | inr last ↦
-            let e : source ≡ side = omega (arith, before, last) in
-            subst (λ (s : ℕ). price_at excess s ≤ℤ pos 0) e (least all)
+            let e : side ≡ other = omega (arith, before, last) in
+            subst (λ (s : ℕ). price_at new_excess s ≤ℤ pos 0) e (least all)
       ];
 }
 
-pub all_passed : (net : Network) (counts : List ℕ) (prices excess : List ℤ) (marks : List (Option Mark)) (some : Bool) (source : ℕ)
-    → IsBalancing net counts prices excess marks some source → length excess ≤ source → some ≡ false → IsDone net counts prices excess
-all_passed net counts prices excess marks some source so_far past all = record {
+pub all_passed : (net : Network) (counts : List ℕ) (prices excess : List ℤ) (marks : List (Option Mark)) (sides : Sides) (side : ℕ)
+    → IsBalancing net counts prices excess marks sides side → length excess ≤ side → sides ≡ Every → IsDone net counts prices excess
+all_passed net counts prices excess marks sides side so_far past all = record {
   state = so_far.state;
-  balanced = none_lacks excess so_far.state.even (λ side within. so_far.passed all side (omega (arith, within, past)));
+  balanced = none_lacks excess so_far.state.even (λ other within. so_far.passed all other (omega (arith, within, past)));
 }
 
 -- ---- one search

@@ -36,6 +36,13 @@ pub record IsState (net : Network) (counts : List ℕ) (prices excess : List ℤ
   pub bounded : (place : ℕ) → count_at counts place + surplus excess < 2 ^ 63 + 2 ^ 44
   pub free : (side : ℕ) → price_at excess side <ℤ pos 0 → price_at prices side ≡ pos 0
 
+-- Excess went to sides that lacked counts: there is no more of it, and none where there was none.
+pub record IsGiven (net : Network) (old_excess : List ℤ) (counts : List ℕ) (prices excess : List ℤ) : Type 0 where
+  pub state : IsState net counts prices excess
+  pub each : length excess ≡ length old_excess
+  pub no_more : surplus excess ≤ surplus old_excess
+  pub kept : (side : ℕ) → price_at old_excess side ≤ℤ pos 0 → price_at excess side ≤ℤ pos 0
+
 -- An augmentation leaves less excess, and none where there was none.
 pub record IsAugmented (net : Network) (old_excess : List ℤ) (counts : List ℕ) (prices excess : List ℤ) : Type 0 where
   pub state : IsState net counts prices excess

@@ -150,7 +150,7 @@ fn distance_to(marks: &Marks, side: u32) -> u64
 
 /// Moves as much along a way as the source has, the side at its end lacks and the way takes.
 /// Whether the way takes more.
-fn move_counts(
+pub(crate) fn move_counts(
     net: &Net,
     counts: &mut [u64],
     excess: &mut [i64],

@@ -1,3 +1,4 @@
 pub mod Ground
 pub mod Search
 pub mod Ways
+pub mod Tight

@@ -16,4 +16,5 @@ mod settle;
 mod steps;
 mod walk;
 
+pub use steps::is_tight_along;
 pub use walk::{search, search_on};

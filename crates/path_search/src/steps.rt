@@ -1,8 +1,9 @@
 // What a step costs.
 ghost use Rattle.std.specs.Prelude.{◌≡◌, ◌<◌, ◌↔◌, ◌^◌, ◌+ℤ◌, ◌≤ℤ◌, pos, IsTrue, length};
-ghost use Rattle.flow_model.specs.Prices.{IsBelow};
+ghost use Rattle.flow_model.specs.Prices.{FitsOn, IsBelow};
 ghost use Rattle.flow_network.specs.Cost.{IsCheap};
 ghost use Rattle.path_search.specs.Ground.{AreSmall, IsSmallCost, price_at};
+ghost use Rattle.path_search.specs.Tight.{IsTightAlong};
 ghost use Rattle.residual_model.specs.Residual as model;
 
 use flow_model::Arc;
@@ -56,4 +57,19 @@ pub(crate) fn reduced(prices: &[i64], from: u32, to: u32, cost: i64) -> u64
 {
     let rise = prices[to as usize] - prices[from as usize];
     (cost - rise) as u64
+}
+
+/// Whether one unit more may pass on an arc and costs just what the price rises there.
+pub fn is_tight_along(arc: &Arc, count: u64, prices: &[i64]) -> bool
+    requires cheap { IsCheap arc.now }
+    requires starts { arc.now.tail < length prices.now }
+    requires leads { arc.now.head < length prices.now }
+    requires small { AreSmall prices.now }
+    requires fits { FitsOn (price_at prices.now) arc.now count }
+    ensures { IsTrue result ↔ IsTightAlong prices.now arc.now count }
+{
+    if !is_below(arc.upper, count) {
+        return false;
+    }
+    reduced(prices, arc.tail, arc.head, cost_of_more(arc, count)) == 0
 }

@@ -3,13 +3,15 @@ use Rattle.path_search.proofs.EndLemmas.{few_sides}
 use Rattle.flow_solver.proofs.StateLemmas.{all_passed}
 use Rattle.flow_solver.proofs.balancing.balance_sides.Goals as goal
 
-pub overflow_add-source : goal.overflow_add-source
-overflow_add-source c =
-    let few = few_sides c.args.net.now c.loop-source.invariant.state.ground.of_a_function in
-    let priced = c.loop-source.invariant.state.ground.priced in
-    let told = c.loop-source.invariant.state.told in
-    let test = c.loop-source-test.true in
-    search (arith, few, priced, told, test)
+pub overflow_cast-side-end : goal.overflow_cast-side-end
+overflow_cast-side-end c =
+    let few = few_sides c.args.net.now c.requires.state.ground.of_a_function in
+    search (arith, few, c.requires.state.ground.priced, c.requires.state.told)
 
 pub returns-clause-done : goal.returns-clause-done
-returns-clause-done c = λ yes all. all_passed _ _ _ _ _ _ _ c.loop-source.invariant c.loop-source-test.false all
+returns-clause-done c = λ yes all.
+    let past = c.loop-side-test.false in
+    let now = c.loop-side.invariant.state in
+    let was = c.requires.state in
+    all_passed _ _ _ _ _ _ _ c.loop-side.invariant
+    (omega (arith, past, now.told, now.ground.priced, was.told, was.ground.priced)) all

@@ -15,30 +15,26 @@ use crate::excess::transfer;
 use crate::prices::move_prices;
 use augmenting_path::{Step, least_room, push, trace};
 use flow_network::Net;
-use path_search::{search, search_on};
-use reached_sides::{Frontier, Marks};
+use path_search::{Ground, Search};
+use reached_sides::Marks;
 use refusal::NoMemory;
 use std::alloc::Global;
 
 /// What augmentations work with, kept from one to the next.
 #[derive(Debug, Drop)]
 pub(crate) struct Workspace {
-    pub(crate) marks: Marks,
-    pub(crate) frontier: Frontier,
-    pub(crate) order: Vec<u32>,
+    pub(crate) search: Search,
     pub(crate) path: Vec<Step>,
 }
 
 impl Workspace {
     /// For a network of so many sides.
     pub(crate) fn new(alloc: Global, sides: usize) -> Result<Workspace, NoMemory>
-        ensures { IfOk result (λ work. length work.marks ≡ sides) }
+        ensures { IfOk result (λ work. length work.search.marks ≡ sides) }
     {
-        let marks = Marks::new(alloc, sides)?;
+        let search = Search::new(alloc, sides)?;
         Ok(Workspace {
-            marks,
-            frontier: Frontier::new(alloc),
-            order: Vec::new(alloc),
+            search,
             path: Vec::new(alloc),
         })
     }
@@ -55,40 +51,33 @@ pub(crate) fn augment(
     work: &mut Workspace,
 ) -> Result<bool, NoMemory>
     requires state { IsState net.now counts.old prices.old excess.old }
-    requires marked { length work.old.marks ≡ length prices.old }
+    requires marked { length work.old.search.marks ≡ length prices.old }
     requires source { source < length excess.old }
     requires gathers { pos 0 <ℤ price_at excess.old source }
-    ensures marked { OnOk result (length work.new.marks ≡ length prices.new) }
+    ensures marked { OnOk result (length work.new.search.marks ≡ length prices.new) }
     ensures augmented { IfOk result (λ found. found ≡ true
         → IsAugmented net.now excess.old counts.new prices.new excess.new) }
     ensures closed { IfOk result (λ found. found ≡ false
-        → IsClosedFrom net.now counts.new prices.new excess.new work.new.marks) }
+        → IsClosedFrom net.now counts.new prices.new excess.new work.new.search.marks) }
 {
-    let mut found = search(
+    let ground = Ground {
         net,
         counts,
         prices,
         excess,
-        source,
-        &mut work.marks,
-        &mut work.frontier,
-        &mut work.order,
-    )?;
+    };
+    let mut found = work.search.find(ground, source)?;
     while let Some(side) = found {
         if !augment_to(net, counts, prices, excess, source, side, work)? {
             return Ok(true);
         }
-        found = search_on(
+        let ground = Ground {
             net,
             counts,
             prices,
             excess,
-            source,
-            side,
-            &mut work.marks,
-            &mut work.frontier,
-            &mut work.order,
-        )?;
+        };
+        found = work.search.go_on(ground, source, side)?;
     }
     Ok(false)
 }
@@ -107,22 +96,23 @@ fn augment_to(
 ) -> Result<bool, NoMemory>
     requires state { IsState net.now counts.old prices.old excess.old }
     requires reached { HasReached net.now counts.old prices.old excess.old source
-        work.old.marks side }
-    requires ways { HasWays net.now counts.old prices.old source work.old.marks side }
-    requires come { HasComeTo net.now counts.old prices.old excess.old source work.old.marks
-        work.old.frontier work.old.order.items side (distance_at work.old.marks side) }
+        work.old.search.marks side }
+    requires ways { HasWays net.now counts.old prices.old source work.old.search.marks side }
+    requires come { HasComeTo net.now counts.old prices.old excess.old source
+        work.old.search.marks work.old.search.frontier work.old.search.order.items side
+        (distance_at work.old.search.marks side) }
     requires source { source < length excess.old }
     requires gathers { pos 0 <ℤ price_at excess.old source }
-    ensures kept { OnOk result (work.new.marks ≡ work.old.marks) }
+    ensures kept { OnOk result (work.new.search.marks ≡ work.old.search.marks) }
     ensures augmented { OnOk result
         (IsAugmented net.now excess.old counts.new prices.new excess.new) }
     ensures goes_on { IfOk result (λ goes_on. goes_on ≡ true
-        → CanGoOn net.now counts.new prices.new excess.new source work.new.marks
-        work.new.frontier work.new.order.items side) }
+        → CanGoOn net.now counts.new prices.new excess.new source work.new.search.marks
+        work.new.search.frontier work.new.search.order.items side) }
 {
-    let limit = distance_to(&work.marks, side);
-    move_prices(prices, &work.marks, &work.order, limit);
-    trace(net, &work.marks, source, side, &mut work.path)?;
+    let limit = distance_to(&work.search.marks, side);
+    move_prices(prices, &work.search.marks, &work.search.order, limit);
+    trace(net, &work.search.marks, source, side, &mut work.path)?;
     let more = move_counts(net, counts, excess, source, side, &work.path);
     Ok(can_go_on(limit, more, excess, source, side))
 }

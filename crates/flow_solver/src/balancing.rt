@@ -23,11 +23,11 @@ pub(crate) fn balance(
     work: &mut Workspace,
 ) -> Result<bool, NoMemory>
     requires state { IsState net.now counts.old prices.old excess.old }
-    requires marked { length work.old.marks ≡ length prices.old }
+    requires marked { length work.old.search.marks ≡ length prices.old }
     ensures done { IfOk result (λ done. done ≡ true
         → IsDone net.now counts.new prices.new excess.new) }
     ensures closed { IfOk result (λ done. done ≡ false
-        → IsClosedFrom net.now counts.new prices.new excess.new work.new.marks) }
+        → IsClosedFrom net.now counts.new prices.new excess.new work.new.search.marks) }
 {
     if !balance_sides(net, counts, prices, excess, work, Sides::OfOneArc)? {
         return Ok(false);
@@ -53,14 +53,14 @@ fn balance_sides(
     sides: Sides,
 ) -> Result<bool, NoMemory>
     requires state { IsState net.now counts.old prices.old excess.old }
-    requires marked { length work.old.marks ≡ length prices.old }
+    requires marked { length work.old.search.marks ≡ length prices.old }
     ensures state { IfOk result (λ done. done ≡ true
         → IsState net.now counts.new prices.new excess.new) }
-    ensures marked { OnOk result (length work.new.marks ≡ length prices.new) }
+    ensures marked { OnOk result (length work.new.search.marks ≡ length prices.new) }
     ensures done { IfOk result (λ done. done ≡ true → sides ≡ All
         → IsDone net.now counts.new prices.new excess.new) }
     ensures closed { IfOk result (λ done. done ≡ false
-        → IsClosedFrom net.now counts.new prices.new excess.new work.new.marks) }
+        → IsClosedFrom net.now counts.new prices.new excess.new work.new.search.marks) }
 {
     for side in 0..excess.len() as u32 {
         if !is_due(net, excess, side, sides) {
@@ -99,14 +99,14 @@ fn balance_side(
     side: u32,
 ) -> Result<bool, NoMemory>
     requires state { IsState net.now counts.old prices.old excess.old }
-    requires marked { length work.old.marks ≡ length prices.old }
+    requires marked { length work.old.search.marks ≡ length prices.old }
     requires side { side < length excess.old }
-    ensures marked { OnOk result (length work.new.marks ≡ length prices.new) }
+    ensures marked { OnOk result (length work.new.search.marks ≡ length prices.new) }
     ensures given { IfOk result (λ done. done ≡ true
         → IsGiven net.now excess.old counts.new prices.new excess.new) }
     ensures done { IfOk result (λ done. done ≡ true → price_at excess.new side ≤ℤ pos 0) }
     ensures closed { IfOk result (λ done. done ≡ false
-        → IsClosedFrom net.now counts.new prices.new excess.new work.new.marks) }
+        → IsClosedFrom net.now counts.new prices.new excess.new work.new.search.marks) }
 {
     give_around(net, counts, prices, excess, side);
     while excess[side as usize] > 0 {

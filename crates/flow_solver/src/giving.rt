@@ -10,7 +10,8 @@ use path_search::is_tight_along;
 use reached_sides::Way;
 
 /// Takes excess from a side straight to those that its arcs enter, as far as these lack counts and
-/// a unit costs nothing there. Most excess is one arc away from where it lacks, and wants no search.
+/// a unit costs nothing there. Most excess is one arc away from what lacks it, and so needs no
+/// search.
 pub(crate) fn give_around(
     net: &Net,
     counts: &mut [u64],

@@ -43,7 +43,7 @@ fn solve_in(
     requires counts { counts.old ≡ replicate (length (arcs_of net.now)) 0 }
     requires prices { prices.old ≡ replicate (sides_of net.now) (pos 0) }
     requires excess { excess.old ≡ replicate (sides_of net.now) (pos 0) }
-    requires marked { length work.old.marks ≡ sides_of net.now }
+    requires marked { length work.old.search.marks ≡ sides_of net.now }
     ensures { IfOk result (Solves net.now) }
 {
     start(net, counts, excess);
@@ -52,6 +52,6 @@ fn solve_in(
         let told = prices_of(alloc, net, prices)?;
         return Ok(Solved::Flow(flow, told));
     }
-    let nodes = reached(alloc, net, &work.marks)?;
+    let nodes = reached(alloc, net, &work.search.marks)?;
     Ok(Solved::Cut(nodes))
 }

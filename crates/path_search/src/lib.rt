@@ -9,6 +9,7 @@
 #![tactic(auto)]
 
 mod around;
+mod ground;
 mod look;
 mod next;
 mod offer;
@@ -16,5 +17,6 @@ mod settle;
 mod steps;
 mod walk;
 
+pub use ground::Ground;
 pub use steps::is_tight_along;
-pub use walk::{search, search_on};
+pub use walk::Search;

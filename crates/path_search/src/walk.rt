@@ -1,5 +1,5 @@
 // The search from one side.
-ghost use Rattle.std.specs.Prelude.{◌≡◌, ◌*◌, ◌≤◌, ◌<ℤ◌, ◌≤ℤ◌, ◌+◌, pos, length};
+ghost use Rattle.std.specs.Prelude.{◌≡◌, ◌*◌, ◌≤◌, ◌<ℤ◌, ◌≤ℤ◌, ◌+◌, pos, length, replicate, None};
 ghost use Rattle.std.specs.Prelude.{IfOk, IfSome, MatchOption, OnOk};
 ghost use Rattle.flow_model.specs.Network.{arcs_of};
 ghost use Rattle.residual_model.specs.Laws.{HoldBelow, IsClosed};
@@ -8,139 +8,155 @@ ghost use Rattle.path_search.specs.Search.{HasClosed, HasReached, distance_at, s
 ghost use Rattle.path_search.specs.Ways.{AreInOrder, HasComeTo, HasWays, IsUnderWay};
 
 use crate::around::look_around;
+use crate::ground::Ground;
 use crate::next::next_open;
 use crate::settle::{begin, settle};
-use flow_network::Net;
 use reached_sides::{Frontier, Marks};
 use refusal::NoMemory;
+use std::alloc::Global;
 
-/// The nearest side that lacks something, from a source, over the steps that counts leave; `None`
-/// exactly where no such side can be reached.
-///
-/// Afterwards the marks tell the distances of the sides that the search has reached, and ways back
-/// from them to the source; the settled ones are listed in their order.
-pub fn search(
-    net: &Net,
-    counts: &[u64],
-    prices: &[i64],
-    excess: &[i64],
-    source: u32,
-    marks: &mut Marks,
-    frontier: &mut Frontier,
-    order: &mut Vec<u32>,
-) -> Result<Option<u32>, NoMemory>
-    requires ground { IsGround net.now counts.now prices.now }
-    requires told { length excess.now ≡ length prices.now }
-    requires marked { length marks.old ≡ length prices.now }
-    requires source { source ≤ 2 * length net.now.blocks }
-    ensures found { IfOk result (λ found. MatchOption found
-        (HasClosed net.now counts.now prices.now excess.now source marks.new)
-        (λ side. HasReached net.now counts.now prices.now excess.now source marks.new side)) }
-    ensures ways { IfOk result (λ found. IfSome found (λ side.
-        HasWays net.now counts.now prices.now source marks.new side)) }
-    ensures come { IfOk result (λ found. IfSome found (λ side.
-        HasComeTo net.now counts.now prices.now excess.now source marks.new frontier.new
-        order.new.items side (distance_at marks.new side))) }
-    ensures order { OnOk result (AreInOrder marks.new order.new.items) }
-{
-    begin(marks, frontier, source)?;
-    order.clear();
-    walk(net, counts, prices, excess, source, marks, frontier, order)
+/// A search: what it knows of the sides, those that are still open, and the settled ones in their
+/// order. It is kept from one start to the next.
+#[derive(Debug, Drop)]
+pub struct Search {
+    pub marks: Marks,
+    pub frontier: Frontier,
+    pub order: Vec<u32>,
 }
 
-/// Goes on with a search from a side that it has come to at the distance 0, and that lacks nothing
-/// any more: it finds the next nearest side that does.
-pub fn search_on(
-    net: &Net,
-    counts: &[u64],
-    prices: &[i64],
-    excess: &[i64],
-    source: u32,
-    side: u32,
-    marks: &mut Marks,
-    frontier: &mut Frontier,
-    order: &mut Vec<u32>,
-) -> Result<Option<u32>, NoMemory>
-    requires ground { IsGround net.now counts.now prices.now }
-    requires told { length excess.now ≡ length prices.now }
-    requires come { HasComeTo net.now counts.now prices.now excess.now source marks.old
-        frontier.old order.old.items side 0 }
-    requires enough { pos 0 ≤ℤ price_at excess.now side }
-    ensures found { IfOk result (λ found. MatchOption found
-        (HasClosed net.now counts.now prices.now excess.now source marks.new)
-        (λ side. HasReached net.now counts.now prices.now excess.now source marks.new side)) }
-    ensures ways { IfOk result (λ found. IfSome found (λ side.
-        HasWays net.now counts.now prices.now source marks.new side)) }
-    ensures come { IfOk result (λ found. IfSome found (λ side.
-        HasComeTo net.now counts.now prices.now excess.now source marks.new frontier.new
-        order.new.items side (distance_at marks.new side))) }
-    ensures order { OnOk result (AreInOrder marks.new order.new.items) }
-{
-    pass(
-        net, counts, prices, excess, source, marks, frontier, order, side, 0,
-    )?;
-    walk(net, counts, prices, excess, source, marks, frontier, order)
-}
-
-/// Settles the nearest open side until one lacks something.
-fn walk(
-    net: &Net,
-    counts: &[u64],
-    prices: &[i64],
-    excess: &[i64],
-    source: u32,
-    marks: &mut Marks,
-    frontier: &mut Frontier,
-    order: &mut Vec<u32>,
-) -> Result<Option<u32>, NoMemory>
-    requires ground { IsGround net.now counts.now prices.now }
-    requires told { length excess.now ≡ length prices.now }
-    requires under_way { IsUnderWay net.now counts.now prices.now excess.now source marks.old
-        frontier.old order.old.items }
-    ensures found { IfOk result (λ found. MatchOption found
-        (HasClosed net.now counts.now prices.now excess.now source marks.new)
-        (λ side. HasReached net.now counts.now prices.now excess.now source marks.new side)) }
-    ensures ways { IfOk result (λ found. IfSome found (λ side.
-        HasWays net.now counts.now prices.now source marks.new side)) }
-    ensures come { IfOk result (λ found. IfSome found (λ side.
-        HasComeTo net.now counts.now prices.now excess.now source marks.new frontier.new
-        order.new.items side (distance_at marks.new side))) }
-    ensures order { OnOk result (AreInOrder marks.new order.new.items) }
-{
-    while let Some((side, distance)) = next_open(marks, frontier) {
-        if excess[side as usize] < 0 {
-            return Ok(Some(side));
-        }
-        pass(
-            net, counts, prices, excess, source, marks, frontier, order, side, distance,
-        )?;
+impl Search {
+    /// A search of so many sides, which has reached none.
+    pub fn new(alloc: Global, sides: usize) -> Result<Search, NoMemory>
+        ensures { IfOk result (λ search. search.marks ≡ replicate sides None) }
+    {
+        let marks = Marks::new(alloc, sides)?;
+        Ok(Search {
+            marks,
+            frontier: Frontier::new(alloc),
+            order: Vec::new(alloc),
+        })
     }
-    Ok(None)
-}
 
-/// Settles the nearest open side, and looks over the arcs that meet it.
-fn pass(
-    net: &Net,
-    counts: &[u64],
-    prices: &[i64],
-    excess: &[i64],
-    source: u32,
-    marks: &mut Marks,
-    frontier: &mut Frontier,
-    order: &mut Vec<u32>,
-    side: u32,
-    distance: u64,
-) -> Result<(), NoMemory>
-    requires ground { IsGround net.now counts.now prices.now }
-    requires come { HasComeTo net.now counts.now prices.now excess.now source marks.old
-        frontier.old order.old.items side distance }
-    requires enough { pos 0 ≤ℤ price_at excess.now side }
-    ensures under_way { OnOk result (IsUnderWay net.now counts.now prices.now excess.now source
-        marks.new frontier.new order.new.items) }
-    ensures more { OnOk result (settled_count marks.new ≡ settled_count marks.old + 1) }
-{
-    settle(marks, side, order.len() as u32);
-    order.push(side)?;
-    look_around(marks, frontier, net, counts, prices, side, distance)?;
-    Ok(())
+    /// The nearest side that lacks something, from a source, over the steps that counts leave;
+    /// `None` exactly where no such side can be reached.
+    ///
+    /// Afterwards the marks tell the distances of the sides that the search has reached, and ways
+    /// back from them to the source; the settled ones are listed in their order.
+    pub fn find(&mut self, ground: Ground<'_>, source: u32) -> Result<Option<u32>, NoMemory>
+        requires ground { IsGround ground.net.now ground.counts.now ground.prices.now }
+        requires told { length ground.excess.now ≡ length ground.prices.now }
+        requires marked { length self.old.marks ≡ length ground.prices.now }
+        requires source { source ≤ 2 * length ground.net.now.blocks }
+        ensures found { IfOk result (λ found. MatchOption found
+            (HasClosed ground.entry.net.now ground.entry.counts.now ground.entry.prices.now
+            ground.entry.excess.now source self.new.marks)
+            (λ side. HasReached ground.entry.net.now ground.entry.counts.now
+            ground.entry.prices.now ground.entry.excess.now source self.new.marks side)) }
+        ensures ways { IfOk result (λ found. IfSome found (λ side.
+            HasWays ground.entry.net.now ground.entry.counts.now ground.entry.prices.now source
+            self.new.marks side)) }
+        ensures come { IfOk result (λ found. IfSome found (λ side.
+            HasComeTo ground.entry.net.now ground.entry.counts.now ground.entry.prices.now
+            ground.entry.excess.now source self.new.marks self.new.frontier self.new.order.items
+            side (distance_at self.new.marks side))) }
+        ensures order { OnOk result (AreInOrder self.new.marks self.new.order.items) }
+    {
+        begin(&mut self.marks, &mut self.frontier, source)?;
+        self.order.clear();
+        self.walk(ground, source)
+    }
+
+    /// Goes on from a side that the search has come to at the distance 0, and that lacks nothing
+    /// any more, to the next nearest side that does.
+    pub fn go_on(
+        &mut self,
+        ground: Ground<'_>,
+        source: u32,
+        side: u32,
+    ) -> Result<Option<u32>, NoMemory>
+        requires ground { IsGround ground.net.now ground.counts.now ground.prices.now }
+        requires told { length ground.excess.now ≡ length ground.prices.now }
+        requires come { HasComeTo ground.net.now ground.counts.now ground.prices.now
+            ground.excess.now source self.old.marks self.old.frontier self.old.order.items side 0 }
+        requires enough { pos 0 ≤ℤ price_at ground.excess.now side }
+        ensures found { IfOk result (λ found. MatchOption found
+            (HasClosed ground.entry.net.now ground.entry.counts.now ground.entry.prices.now
+            ground.entry.excess.now source self.new.marks)
+            (λ side. HasReached ground.entry.net.now ground.entry.counts.now
+            ground.entry.prices.now ground.entry.excess.now source self.new.marks side)) }
+        ensures ways { IfOk result (λ found. IfSome found (λ side.
+            HasWays ground.entry.net.now ground.entry.counts.now ground.entry.prices.now source
+            self.new.marks side)) }
+        ensures come { IfOk result (λ found. IfSome found (λ side.
+            HasComeTo ground.entry.net.now ground.entry.counts.now ground.entry.prices.now
+            ground.entry.excess.now source self.new.marks self.new.frontier self.new.order.items
+            side (distance_at self.new.marks side))) }
+        ensures order { OnOk result (AreInOrder self.new.marks self.new.order.items) }
+    {
+        self.pass(ground, source, side, 0)?;
+        self.walk(ground, source)
+    }
+
+    /// Settles the nearest open side until one lacks something.
+    fn walk(&mut self, ground: Ground<'_>, source: u32) -> Result<Option<u32>, NoMemory>
+        requires ground { IsGround ground.net.now ground.counts.now ground.prices.now }
+        requires told { length ground.excess.now ≡ length ground.prices.now }
+        requires under_way { IsUnderWay ground.net.now ground.counts.now ground.prices.now
+            ground.excess.now source self.old.marks self.old.frontier self.old.order.items }
+        ensures found { IfOk result (λ found. MatchOption found
+            (HasClosed ground.entry.net.now ground.entry.counts.now ground.entry.prices.now
+            ground.entry.excess.now source self.new.marks)
+            (λ side. HasReached ground.entry.net.now ground.entry.counts.now
+            ground.entry.prices.now ground.entry.excess.now source self.new.marks side)) }
+        ensures ways { IfOk result (λ found. IfSome found (λ side.
+            HasWays ground.entry.net.now ground.entry.counts.now ground.entry.prices.now source
+            self.new.marks side)) }
+        ensures come { IfOk result (λ found. IfSome found (λ side.
+            HasComeTo ground.entry.net.now ground.entry.counts.now ground.entry.prices.now
+            ground.entry.excess.now source self.new.marks self.new.frontier self.new.order.items
+            side (distance_at self.new.marks side))) }
+        ensures order { OnOk result (AreInOrder self.new.marks self.new.order.items) }
+    {
+        while let Some((side, distance)) = next_open(&self.marks, &mut self.frontier) {
+            if ground.excess[side as usize] < 0 {
+                return Ok(Some(side));
+            }
+            self.pass(ground, source, side, distance)?;
+        }
+        Ok(None)
+    }
+
+    /// Settles the nearest open side, and looks over the arcs that meet it. The source is where the
+    /// search has begun.
+    fn pass(
+        &mut self,
+        ground: Ground<'_>,
+        source: u32,
+        side: u32,
+        distance: u64,
+    ) -> Result<(), NoMemory>
+        requires ground { IsGround ground.net.now ground.counts.now ground.prices.now }
+        requires come { HasComeTo ground.net.now ground.counts.now ground.prices.now
+            ground.excess.now source self.old.marks self.old.frontier self.old.order.items side
+            distance }
+        requires enough { pos 0 ≤ℤ price_at ground.excess.now side }
+        ensures under_way { OnOk result (IsUnderWay ground.entry.net.now ground.entry.counts.now
+            ground.entry.prices.now ground.entry.excess.now source self.new.marks
+            self.new.frontier self.new.order.items) }
+        ensures more { OnOk result
+            (settled_count self.new.marks ≡ settled_count self.old.marks + 1) }
+    {
+        settle(&mut self.marks, side, self.order.len() as u32);
+        self.order.push(side)?;
+        look_around(
+            &mut self.marks,
+            &mut self.frontier,
+            ground.net,
+            ground.counts,
+            ground.prices,
+            side,
+            distance,
+        )?;
+        Ok(())
+    }
 }

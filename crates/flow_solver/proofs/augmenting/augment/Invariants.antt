@@ -4,7 +4,7 @@ use Rattle.flow_solver.proofs.augmenting.augment.Given as goal
 
 abbrev pub invariant-loop-found : goal.invariant-loop-found
 invariant-loop-found l =
-    IsTaking l.net l.fn.excess l.counts l.prices l.excess l.source l.work.marks l.work.frontier l.work.order.items l.found
+    IsTaking l.net l.fn.excess l.counts l.prices l.excess l.source l.work.search.marks l.work.search.frontier l.work.search.order.items l.found
 
 abbrev pub decreases-loop-found : goal.decreases-loop-found
 decreases-loop-found l = surplus l.excess

@@ -18,7 +18,7 @@ move_prices-requires-clause-near c =
 
 pub returns-clause-augmented : goal.returns-clause-augmented
 returns-clause-augmented c =
-    let marks = c.args.work.now.marks in
+    let marks = c.args.work.now.search.marks in
     let side = c.args.side in
     let are : AreMoved c.args.prices.now marks side c.move_prices.new.prices = record {
       each = c.move_prices.ensures.each;
@@ -32,7 +32,7 @@ returns-clause-augmented c =
 
 pub returns-clause-goes_on : goal.returns-clause-goes_on
 returns-clause-goes_on c = λ yes.
-    let marks = c.args.work.now.marks in
+    let marks = c.args.work.now.search.marks in
     let net = c.args.net.now in
     let can = c.can_go_on.ensures yes in
     let zero = sym c.distance_to-limit.ensures ∙ can.0 in
@@ -43,9 +43,9 @@ returns-clause-goes_on c = λ yes.
     let has_more = subst (λ (more : Bool). HasMoved (arcs_of net) c.args.counts.now c.args.excess.now c.args.source c.args.side c.trace.new.path.items
     c.move_counts-more.new.counts c.move_counts-more.new.excess more) can.1 has in
     subst (λ (list : List ℤ). CanGoOn net c.move_counts-more.new.counts list c.move_counts-more.new.excess c.args.source marks
-    c.args.work.now.frontier c.args.work.now.order.items c.args.side) (sym kept)
+    c.args.work.now.search.frontier c.args.work.now.search.order.items c.args.side) (sym kept)
     (record {
-      come = goes_on net c.args.counts.now c.args.prices.now c.args.excess.now c.args.source c.args.side marks c.args.work.now.frontier c.args.work.now.order.items
+      come = goes_on net c.args.counts.now c.args.prices.now c.args.excess.now c.args.source c.args.side marks c.args.work.now.search.frontier c.args.work.now.search.order.items
           c.trace.new.path.items c.move_counts-more.new.counts c.move_counts-more.new.excess
           (record { state = c.requires.state; reached = c.requires.reached; ways = c.requires.ways }) c.requires.source c.requires.come zero
           c.in_ok-trace.ensures has_more now;

@@ -1,6 +1,5 @@
 use Rattle.std.proofs.Common.{arith}
 use Rattle.path_search.proofs.RowLemmas.{placed}
-use Rattle.flow_solver.proofs.StateLemmas.{given_none}
 use Rattle.flow_solver.proofs.GiveLemmas.{given_over}
 use Rattle.flow_solver.proofs.giving.give_over.Goals as goal
 

@@ -5,13 +5,13 @@ use Rattle.path_search.proofs.WalkLemmas.{settled_now, looks_from, walked}
 use Rattle.path_search.proofs.EndLemmas.{few_sides}
 use Rattle.path_search.proofs.WayLemmas.{ways_from}
 use Rattle.path_search.proofs.OrderLemmas.{order_more}
-use Rattle.path_search.proofs.walk.pass.Goals as goal
+use Rattle.path_search.proofs.walk.Search.pass.Goals as goal
 
 pub overflow_cast-len : goal.overflow_cast-len
 overflow_cast-len c =
     let few = few_sides _ c.requires.ground.of_a_function in
-    let count = few_settled c.args.marks.now in
-    let rank : c.len.result ≡ length c.args.order.now.items = search rules in
+    let count = few_settled c.args.self.now.marks in
+    let rank : c.len.result ≡ length c.args.self.now.order.items = search rules in
     search (arith, few, count, rank, c.requires.come.settled.count, c.requires.come.done.each, c.requires.ground.priced)
 
 pub look_around-requires-clause-looking : goal.look_around-requires-clause-looking
@@ -19,7 +19,7 @@ look_around-requires-clause-looking c =
     let few = few_sides _ c.requires.ground.of_a_function in
     let come = c.requires.come in
     let now = settled_now _ _ _ _ come.next.inside come.next.current.waits c.settle.ensures in
-    looks_from c.args.net.now c.args.counts.now c.args.prices.now c.args.excess.now c.args.source _ _ _ _ _ c.requires.ground.small (omega (arith, few, c.requires.ground.priced))
+    looks_from c.args.ground.net.now c.args.ground.counts.now c.args.ground.prices.now c.args.ground.excess.now c.args.source _ _ _ _ _ c.requires.ground.small (omega (arith, few, c.requires.ground.priced))
     (record { settled = come.done; near = come.near; next = come.next; now = now })
 
 pub returns-clause-more : goal.returns-clause-more
@@ -32,12 +32,12 @@ pub returns-clause-under_way : goal.returns-clause-under_way
 returns-clause-under_way c =
     let come = c.requires.come in
     let next = come.next in
-    let rank : c.len.result ≡ length c.args.order.now.items = search rules in
+    let rank : c.len.result ≡ length c.args.self.now.order.items = search rules in
     let now = settled_now _ _ _ _ next.inside next.current.waits c.settle.ensures in
     let count = come.settled.count in
-    let long : length c.push.new.self.items ≡ length c.args.order.now.items + 1 =
-    ap length c.in_ok-push.ensures.items ∙ length_push c.args.order.now.items c.args.side in
-    let from = ways_from c.args.net.now c.args.counts.now c.args.prices.now c.args.source _ _ _ _ _ next.inside next.current.waits next.current.at (omega (arith, rank, count))
+    let long : length c.push.new.self.items ≡ length c.args.self.now.order.items + 1 =
+    ap length c.in_ok-push.ensures.items ∙ length_push c.args.self.now.order.items c.args.side in
+    let from = ways_from c.args.ground.net.now c.args.ground.counts.now c.args.ground.prices.now c.args.source _ _ _ _ _ next.inside next.current.waits next.current.at (omega (arith, rank, count))
     c.settle.ensures now come.ways in
     record {
       walking = rw long (walked _ _ _ _ _ _ _ _ _ _ _ _ _ c.requires.ground (record { settled = come.done; near = come.near; next = next; now = now })

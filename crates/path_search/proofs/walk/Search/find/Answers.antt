@@ -2,7 +2,7 @@ use Rattle.std.proofs.Common.{arith}
 use Rattle.path_search.proofs.WalkLemmas.{walk_begins}
 use Rattle.path_search.proofs.WayLemmas.{ways_begin}
 use Rattle.path_search.proofs.OrderLemmas.{order_begins}
-use Rattle.path_search.proofs.walk.search.Goals as goal
+use Rattle.path_search.proofs.walk.Search.find.Goals as goal
 
 pub walk-requires-clause-under_way : goal.walk-requires-clause-under_way
 walk-requires-clause-under_way c =

@@ -2,14 +2,14 @@ use Rattle.std.proofs.Common.{rules, arith}
 use Rattle.std.proofs.lemmas.Int.{ints}
 use Rattle.path_search.proofs.SearchLemmas.{few_settled}
 use Rattle.path_search.proofs.EndLemmas.{few_sides, nearer_is_settled, reached, closed}
-use Rattle.path_search.proofs.walk.walk.Goals as goal
+use Rattle.path_search.proofs.walk.Search.walk.Goals as goal
 
-pub returns-then-excess-side-lt0-clause-found : goal.returns-then-excess-side-lt0-clause-found
-returns-then-excess-side-lt0-clause-found c =
-    reached _ _ _ _ _ _ _ _ _ _ _ c.requires.ground c.loop-side.invariant.walking c.in-Some.ensures.next (search (rules, ints, c.if-excess-side-lt0.true))
+pub returns-then-ground-side-lt0-clause-found : goal.returns-then-ground-side-lt0-clause-found
+returns-then-ground-side-lt0-clause-found c =
+    reached _ _ _ _ _ _ _ _ _ _ _ c.requires.ground c.loop-side.invariant.walking c.in-Some.ensures.next (search (rules, ints, c.if-ground-side-lt0.true))
 
-pub returns-then-excess-side-lt0-clause-ways : goal.returns-then-excess-side-lt0-clause-ways
-returns-then-excess-side-lt0-clause-ways c =
+pub returns-then-ground-side-lt0-clause-ways : goal.returns-then-ground-side-lt0-clause-ways
+returns-then-ground-side-lt0-clause-ways c =
     let next = c.in-Some.ensures.next in
     let at = next.current.at in
     let few = few_sides _ c.requires.ground.of_a_function in
@@ -20,11 +20,11 @@ returns-then-excess-side-lt0-clause-ways c =
       waits = next.current.waits;
       behind = λ other settled. let before = next.behind other settled in omega (arith, before, at);
       nearest = λ other less.
-          nearer_is_settled c.args.prices.now c.loop-side.marks _ _ _ other (omega (arith, few, priced)) walking.settled.each walking.near next less;
+          nearer_is_settled c.args.ground.prices.now c.loop-side.self.marks _ _ _ other (omega (arith, few, priced)) walking.settled.each walking.near next less;
     }
 
-pub returns-then-excess-side-lt0-clause-come : goal.returns-then-excess-side-lt0-clause-come
-returns-then-excess-side-lt0-clause-come c =
+pub returns-then-ground-side-lt0-clause-come : goal.returns-then-ground-side-lt0-clause-come
+returns-then-ground-side-lt0-clause-come c =
     let next = c.in-Some.ensures.next in
     let now = c.loop-side.invariant in
     rw next.current.at (record {
@@ -46,7 +46,7 @@ pass-requires-clause-come c = record {
 
 pub loop-side-smaller : goal.loop-side-smaller
 loop-side-smaller c =
-    let count = few_settled c.pass.new.marks in
+    let count = few_settled c.pass.new.self.marks in
     omega (arith, count, c.in_ok-pass.ensures.more, c.in_ok-pass.ensures.under_way.walking.settled.each)
 
 pub returns-clause-found : goal.returns-clause-found

@@ -1,0 +1,11 @@
+use flow_network::Net;
+
+/// What a search goes by: a network with a count on each arc, and with a price and an excess for
+/// each side. A side whose excess is below 0 lacks counts.
+#[derive(Clone, Copy, Debug)]
+pub struct Ground<'n> {
+    pub net: &'n Net,
+    pub counts: &'n [u64],
+    pub prices: &'n [i64],
+    pub excess: &'n [i64],
+}

@@ -31,12 +31,15 @@ pub(crate) fn names_of(alloc: Global, text: &[u8], names: u32) -> Result<Names<'
     let mut made = Names::new(alloc)?;
     made.add(b"main")?;
     for name in 1..names {
-        let at = name as usize * NAME;
-        if let Some(bytes) = text.get(at..at + NAME) {
-            made.add(bytes)?;
-        }
+        made.add(name_in(text, name))?;
     }
     Ok(made)
+}
+
+/// The bytes of a name in a text, none where they pass its end.
+fn name_in(text: &[u8], name: u32) -> &[u8] {
+    let at = name as usize * NAME;
+    text.get(at..at + NAME).unwrap_or(b"")
 }
 
 /// Keys, with a segment each.

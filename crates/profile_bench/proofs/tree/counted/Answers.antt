@@ -1,0 +1,10 @@
+use Rattle.std.proofs.Common.{length, subst, sym}
+use Rattle.key_counts.specs.Segments.{AllFit}
+use Rattle.key_segments.specs.Segments.{AreSegments}
+use Rattle.profile_bench.proofs.tree.counted.Goals as goal
+
+pub build-requires-clause-segments : goal.build-requires-clause-segments
+build-requires-clause-segments c = subst AreSegments (sym c.deref.ensures.value) c.requires.segments
+
+pub build-requires-clause-fit : goal.build-requires-clause-fit
+build-requires-clause-fit c = subst (AllFit (length c.args.laid.now.keys)) (sym c.deref.ensures.value) c.requires.fit

@@ -162,7 +162,7 @@ closed net counts prices excess source marks frontier rank ground walking none_o
     let settled = λ (side : ℕ) (is : is_reached marks side ≡ true). reached_is_settled marks side (none_open side) is in
     record {
       settled = walking.settled;
-      begins = near_is_reached marks source (omega (arith, walking.settled.begins));
+      begins = near_is_reached marks source walking.settled.begins;
       closed = each_by_place (StepsOn Closed) (arcs_of net) counts ground.counted
           (λ place inside.
           let here = placed net counts prices ground.of_a_function ground place inside in

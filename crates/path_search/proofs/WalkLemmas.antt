@@ -73,7 +73,7 @@ walk_begins net counts prices excess source n marks frontier ground within same 
     record {
       settled = record {
         each = long;
-        begins = ap distance_of begun_now.here;
+        begins = let d = ap distance_of begun_now.here in omega (arith, d);
         led = each_by_place (StepsOn Led) (arcs_of net) counts ground.counted
             (λ place inside. record {
               along = λ below settled. absurd (never _ (begun_now.none_settled _) settled);

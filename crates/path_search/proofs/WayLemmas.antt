@@ -14,7 +14,7 @@ use Rattle.reached_sides.specs.declared.mark.Mark.{Mark}
 use Rattle.reached_sides.specs.declared.mark.Way.{Way}
 use Rattle.reached_sides.specs.declared.mark.Way.TheVariants.{Along, Against}
 use Rattle.flow_network.specs.Cost.{IsCheap}
-use Rattle.path_search.specs.Ground.{IsSmallCost, IsGround, arc_at, count_at, price_at}
+use Rattle.path_search.specs.Ground.{AreSmall, IsSmallCost, IsGround, arc_at, count_at, price_at}
 use Rattle.path_search.specs.Search.{mark_at, distance_of, distance_at, is_settled, is_open, settled_count, settled_as, Offers, ComeNearer, IsLooking}
 use Rattle.path_search.specs.Ways.{start_of, end_of, IsOpen, cost_of_step, rank_of, IsStepTo, AreWays, AreWaysFrom, KeepWays, MarksAtMost}
 use Rattle.path_search.proofs.RowLemmas.{placed, row_only}
@@ -25,10 +25,12 @@ use Rattle.path_search.proofs.WalkLemmas.{IsBegun, first, begun, open_mark, not_
 -- ---- the start
 
 pub ways_begin : (net : Network) (counts : List ℕ) (prices : List ℤ) (source n : ℕ) (marks : List (Option Mark)) → source < n
-    → marks ≡ slice_set (replicate n None) source (Some first) → AreWays net counts prices source marks
-ways_begin net counts prices source n marks within is =
+    → AreSmall prices → source < length prices → marks ≡ slice_set (replicate n None) source (Some first) → AreWays net counts prices source marks
+ways_begin net counts prices source n marks within small priced is =
     let begun_now = subst (λ (after : List (Option Mark)). IsBegun source after) (sym is) (begun n source within) in
     record {
+      level = price_at prices source;
+      small = small source (pos 0) priced;
       steps = λ side mark at apart. let clash : None ≡ Some mark = sym (begun_now.others side apart) ∙ at in absurd (cc);
       ranked = λ side settled. absurd (never _ (begun_now.none_settled side) settled);
       cheap = λ side mark at.
@@ -148,6 +150,8 @@ look_keeps net counts prices way place side distance old new look nearer (inr by
     let starts : price_at prices (start_of way arc) ≡ price_at prices side = ap (price_at prices) look.starts in
     record {
       ways = record {
+        level = from.ways.level;
+        small = from.ways.small;
         steps = λ other mark at apart.
             elim (cases_eq other end) [
               | inl e ↦
@@ -246,6 +250,8 @@ ways_from net counts prices source marks new_marks side rank distance within wai
     let d : mark.distance ≡ distance = sym (ap distance_of found.1) ∙ at in
     record {
       ways = record {
+        level = ways.level;
+        small = ways.small;
         steps = λ other known here apart.
             elim (cases_eq other side) [
               | inl e ↦

@@ -133,12 +133,12 @@ abbrev pub settled_as : ℕ → Option Mark → Option Mark
 settled_as rank None = None
 settled_as rank (Some mark) = Some (record mark { rank = Some rank })
 
--- What a search has done: each step from a settled side leads no further than it costs, and no settled side lacks
--- anything.
+-- What a search has done: it has reached its source, each step from a settled side leads no further than it costs, and
+-- no settled side lacks anything.
 pub record HasSettled (net : Network) (counts : List ℕ) (prices excess : List ℤ) (source : ℕ)
     (marks : List (Option Mark)) : Type 0 where
   pub each : length marks ≡ length prices
-  pub begins : distance_at marks source ≡ 0
+  pub begins : distance_at marks source < far
   pub led : EachStep (λ from to cost. is_settled (mark_at marks from) ≡ true
       → pos (distance_at marks to) ≤ℤ (pos (distance_at marks from) +ℤ reduced (price_at prices) from to cost))
       (arcs_of net) counts

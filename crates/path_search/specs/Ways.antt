@@ -7,7 +7,7 @@ use Rattle.residual_model.specs.Residual.{cost_of_more, cost_of_less, reduced}
 use Rattle.reached_sides.specs.declared.mark.Mark.{Mark}
 use Rattle.reached_sides.specs.declared.mark.Way.{Way}
 use Rattle.reached_sides.specs.declared.mark.Way.TheVariants.{Along, Against}
-use Rattle.path_search.specs.Ground.{arc_at, count_at, price_at}
+use Rattle.path_search.specs.Ground.{IsSmallPrice, arc_at, count_at, price_at}
 use Rattle.path_search.specs.Search.{mark_at, distance_at, is_open, is_settled, settled_count, AreNear, HasSettled, IsNext, IsWalking}
 
 -- Where a step over an arc starts.
@@ -49,19 +49,22 @@ pub record IsStepTo (net : Network) (counts : List ℕ) (prices : List ℤ) (mar
       +ℤ reduced (price_at prices) (start_of mark.way (arc_at (arcs_of net) mark.arc)) side
       (cost_of_step mark.way (arc_at (arcs_of net) mark.arc) (count_at counts mark.arc))
 
--- The distance of a side differs from the rise of the prices by at most this much: by what a way there costs.
-pub record IsWayCost (prices : List ℤ) (source side distance most : ℕ) : Type 0 where
-  pub above : (pos distance +ℤ price_at prices side) ≤ℤ (price_at prices source +ℤ pos most)
-  pub below : price_at prices source ≤ℤ (pos distance +ℤ price_at prices side +ℤ pos most)
+-- The distance of a side and its price differ together from a level by at most this much: by what a way there costs.
+pub record IsWayCost (level : ℤ) (prices : List ℤ) (side distance most : ℕ) : Type 0 where
+  pub above : (pos distance +ℤ price_at prices side) ≤ℤ (level +ℤ pos most)
+  pub below : level ≤ℤ (pos distance +ℤ price_at prices side +ℤ pos most)
 
--- Marks tell ways back to the source, each of at most as many steps as sides are settled.
+-- Marks tell ways back to the source, each of at most as many steps as sides are settled. The level is the price that
+-- the source had at the distance 0.
 pub record AreWays (net : Network) (counts : List ℕ) (prices : List ℤ) (source : ℕ) (marks : List (Option Mark))
     : Type 0 where
+  pub level : ℤ
+  pub small : IsSmallPrice level
   pub steps : (side : ℕ) (mark : Mark) → mark_at marks side ≡ Some mark → side ≢ source
       → IsStepTo net counts prices marks side mark
   pub ranked : (side : ℕ) → is_settled (mark_at marks side) ≡ true → rank_of (mark_at marks side) < settled_count marks
   pub cheap : (side : ℕ) (mark : Mark) → mark_at marks side ≡ Some mark
-      → IsWayCost prices source side mark.distance (40 * settled_count marks)
+      → IsWayCost level prices side mark.distance (40 * settled_count marks)
 
 -- And a side was settled last, with room for one more step.
 pub record AreWaysFrom (net : Network) (counts : List ℕ) (prices : List ℤ) (source side distance : ℕ)
@@ -69,7 +72,7 @@ pub record AreWaysFrom (net : Network) (counts : List ℕ) (prices : List ℤ) (
   pub ways : AreWays net counts prices source marks
   pub settled : is_settled (mark_at marks side) ≡ true
   pub at : distance_at marks side ≡ distance
-  pub room : (most : ℕ) × (most + 40 ≡ 40 * settled_count marks) × IsWayCost prices source side distance most
+  pub room : (most : ℕ) × (most + 40 ≡ 40 * settled_count marks) × IsWayCost ways.level prices side distance most
 
 -- What looks from a side keeps all ways, whatever the source.
 abbrev pub KeepWays : Network → List ℕ → List ℤ → ℕ → ℕ → List (Option Mark) → List (Option Mark) → Type 0
@@ -110,10 +113,12 @@ pub record AreInOrder (marks : List (Option Mark)) (order : List ℕ) : Type 0 w
   pub listed : (side : ℕ) → is_settled (mark_at marks side) ≡ true → (rank_of (mark_at marks side) < length order)
       × (slice_index order (rank_of (mark_at marks side)) ≡ side)
 
--- So many sides are settled, in this order.
+-- So many sides are settled, in this order, and none is nearer than the first.
 pub record AreSettled (marks : List (Option Mark)) (order : List ℕ) : Type 0 where
   pub in_order : AreInOrder marks order
   pub count : length order ≡ settled_count marks
+  pub first : (k : ℕ) → k < length order
+      → distance_at marks (slice_index order 0) ≤ distance_at marks (slice_index order k)
 
 -- A search is under way: it may settle the next side.
 pub record IsUnderWay (net : Network) (counts : List ℕ) (prices excess : List ℤ) (source : ℕ)

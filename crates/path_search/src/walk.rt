@@ -1,5 +1,5 @@
 // The search from one side.
-ghost use Rattle.std.specs.Prelude.{◌≡◌, ◌*◌, ◌≤◌, ◌<ℤ◌, ◌≤ℤ◌, ◌+◌, pos, length, replicate, None};
+ghost use Rattle.std.specs.Prelude.{◌≡◌, ◌*◌, ◌<◌, ◌≤◌, ◌<ℤ◌, ◌≤ℤ◌, ◌+◌, pos, length, replicate, None};
 ghost use Rattle.std.specs.Prelude.{IfOk, IfSome, MatchOption, OnOk};
 ghost use Rattle.flow_model.specs.Network.{arcs_of};
 ghost use Rattle.residual_model.specs.Laws.{HoldBelow, IsClosed};
@@ -66,8 +66,8 @@ impl Search {
         self.walk(ground, source)
     }
 
-    /// Goes on from a side that the search has come to at the distance 0, and that lacks nothing
-    /// any more, to the next nearest side that does.
+    /// Goes on from a side that the search has come to, and that lacks nothing any more, to the next
+    /// nearest side that does.
     pub fn go_on(
         &mut self,
         ground: Ground<'_>,
@@ -77,7 +77,8 @@ impl Search {
         requires ground { IsGround ground.net.now ground.counts.now ground.prices.now }
         requires told { length ground.excess.now ≡ length ground.prices.now }
         requires come { HasComeTo ground.net.now ground.counts.now ground.prices.now
-            ground.excess.now source self.old.marks self.old.frontier self.old.order.items side 0 }
+            ground.excess.now source self.old.marks self.old.frontier self.old.order.items side
+            (distance_at self.old.marks side) }
         requires enough { pos 0 ≤ℤ price_at ground.excess.now side }
         ensures found { IfOk result (λ found. MatchOption found
             (HasClosed ground.entry.net.now ground.entry.counts.now ground.entry.prices.now
@@ -93,8 +94,20 @@ impl Search {
             side (distance_at self.new.marks side))) }
         ensures order { OnOk result (AreInOrder self.new.marks self.new.order.items) }
     {
-        self.pass(ground, source, side, 0)?;
+        let distance = self.distance_to(side);
+        self.pass(ground, source, side, distance)?;
         self.walk(ground, source)
+    }
+
+    /// How far a side is; what has no mark is beyond all others.
+    pub fn distance_to(&self, side: u32) -> u64
+        requires { side < length self.now.marks }
+        ensures { result ≡ distance_at self.now.marks side }
+    {
+        match self.marks.get(side) {
+            Some(mark) => mark.distance,
+            None => u64::MAX,
+        }
     }
 
     /// Settles the nearest open side until one lacks something.

@@ -12,6 +12,6 @@ walk-requires-clause-under_way c =
     record {
       walking = rw c.clear.ensures.items
           (walk_begins _ _ _ _ _ _ _ _ c.requires.ground (omega (arith, inside, priced)) marked c.in_ok-begin.ensures.marks c.in_ok-begin.ensures.frontier);
-      ways = ways_begin _ _ _ _ _ _ (omega (arith, inside, priced, marked)) c.in_ok-begin.ensures.marks;
+      ways = ways_begin _ _ _ _ _ _ (omega (arith, inside, priced, marked)) c.requires.ground.small (omega (arith, inside, priced)) c.in_ok-begin.ensures.marks;
       settled = order_begins _ _ _ _ (omega (arith, inside, priced, marked)) c.in_ok-begin.ensures.marks c.clear.ensures.items;
     }

@@ -45,5 +45,7 @@ returns-clause-under_way c =
           c.in_ok-look_around.ensures.out c.in_ok-look_around.ensures.back);
       ways = (c.in_ok-look_around.ensures.ways c.args.source from).ways;
       settled = rw c.in_ok-push.ensures.items
-          (order_more _ _ _ _ _ _ next.inside next.current.waits rank c.settle.ensures now c.in_ok-look_around.ensures.nearer come.settled);
+          (order_more _ _ _ _ _ _ next.inside next.current.waits rank c.settle.ensures now
+          (λ other settled. let before = next.behind other settled in let at = next.current.at in omega (arith, before, at))
+          c.in_ok-look_around.ensures.nearer come.settled);
     }

@@ -1,5 +1,5 @@
--- A search that goes on behind a push over steps that take more, at the distance 0.
-use Rattle.std.proofs.Common.{◌≡◌, ◌≢◌, ℕ, ◌+◌, ◌<◌, ◌≤◌, true, List, length, Option, Some, ◌⊎◌, inl, inr, refl, arith, ap, sym, ◌∙◌, subst}
+-- A search that goes on behind a push over steps that take more, where all settled sides are at one distance.
+use Rattle.std.proofs.Common.{◌≡◌, ◌≢◌, ℕ, ◌+◌, ◌<◌, true, List, length, Option, Some, ◌⊎◌, inl, inr, refl, arith, ap, sym, ◌∙◌, subst}
 use Rattle.std.specs.Prelude.{ℤ, pos, negsuc, ◌+ℤ◌, ◌≤ℤ◌, ◌<ℤ◌}
 use Rattle.std.specs.List.{All}
 use Rattle.std.proofs.lemmas.Int.{ints}
@@ -12,7 +12,7 @@ use Rattle.reached_sides.specs.declared.mark.Mark.{Mark}
 use Rattle.reached_sides.specs.declared.mark.Way.{Way}
 use Rattle.reached_sides.specs.declared.mark.Way.TheVariants.{Along, Against}
 use Rattle.path_search.specs.Ground.{arc_at, count_at, price_at}
-use Rattle.path_search.specs.Search.{mark_at, distance_at, is_settled, IsNext}
+use Rattle.path_search.specs.Search.{mark_at, distance_at, is_settled}
 use Rattle.path_search.specs.Ways.{AreWays, HasComeTo, IsOpen, cost_of_step, end_of, rank_of, start_of}
 use Rattle.path_search.proofs.RowLemmas.{each_at, each_by_place}
 use Rattle.augmenting_path.specs.declared.step.Step.{Step}
@@ -110,6 +110,8 @@ ways_kept : (net : Network) (counts : List ℕ) (prices : List ℤ) (source side
     → AreApart steps → All (StepTakes (arcs_of net) counts (amount + 1)) steps
     → AreWays net (pushed amount steps counts) prices source marks
 ways_kept net counts prices source side amount marks steps counted ways traced apart_steps takes = record {
+  level = ways.level;
+  small = ways.small;
   steps = λ v mark at apart.
       let arcs = arcs_of net in
       let st = ways.steps v mark at apart in
@@ -141,34 +143,35 @@ ways_kept net counts prices source side amount marks steps counted ways traced a
   cheap = ways.cheap;
 }
 
-by_way : (way : Way) (arc : Arc) (distance : ℕ → ℕ) → distance (start_of way arc) ≡ 0 → distance (end_of way arc) ≡ 0
-    → (distance arc.tail ≡ 0) × (distance arc.head ≡ 0)
-by_way Along arc distance start end = (start, end)
-by_way Against arc distance start end = (end, start)
+by_way : (way : Way) (arc : Arc) (distance : ℕ → ℕ) (here : ℕ) → distance (start_of way arc) ≡ here → distance (end_of way arc) ≡ here
+    → (distance arc.tail ≡ here) × (distance arc.head ≡ here)
+by_way Along arc distance here start end = (start, end)
+by_way Against arc distance here start end = (end, start)
 
--- both ends of a step of the way are at the distance 0, as all that is settled
-ends_near : (net : Network) (counts : List ℕ) (prices : List ℤ) (source side : ℕ) (marks : List (Option Mark)) (step : Step)
-    → AreWays net counts prices source marks → IsTold (arcs_of net) marks source side step → distance_at marks side ≡ 0
-    → ((other : ℕ) → is_settled (mark_at marks other) ≡ true → distance_at marks other ≤ distance_at marks side)
-    → (distance_at marks (arc_at (arcs_of net) step.arc).tail ≡ 0) × (distance_at marks (arc_at (arcs_of net) step.arc).head ≡ 0)
-ends_near net counts prices source side marks step ways told here behind =
+-- both ends of a step of the way are as far as the side, as all that is settled
+ends_level : (net : Network) (counts : List ℕ) (prices : List ℤ) (source side : ℕ) (marks : List (Option Mark)) (step : Step)
+    → AreWays net counts prices source marks → IsTold (arcs_of net) marks source side step
+    → ((other : ℕ) → is_settled (mark_at marks other) ≡ true → distance_at marks other ≡ distance_at marks side)
+    → (distance_at marks (arc_at (arcs_of net) step.arc).tail ≡ distance_at marks side)
+    × (distance_at marks (arc_at (arcs_of net) step.arc).head ≡ distance_at marks side)
+ends_level net counts prices source side marks step ways told level =
     let arcs = arcs_of net in
     let way = told_start net counts prices source side marks step ways told in
-    let start = behind (step_start arcs step) way.0 in
-    let end : distance_at marks (step_end arcs step) ≤ distance_at marks side = elim told.known [
-      | inl e ↦ let same = ap (distance_at marks) e in omega (arith, same)
-      | inr settled ↦ behind (step_end arcs step) settled
+    let end : distance_at marks (step_end arcs step) ≡ distance_at marks side = elim told.known [
+      | inl e ↦ ap (distance_at marks) e
+      | inr settled ↦ level (step_end arcs step) settled
     ] in
-    by_way step.way (arc_at arcs step.arc) (distance_at marks) (omega (arith, start, here)) (omega (arith, end, here))
+    by_way step.way (arc_at arcs step.arc) (distance_at marks) (distance_at marks side) (level (step_start arcs step) way.0) end
 
 pub goes_on : (net : Network) (counts : List ℕ) (prices excess : List ℤ) (source side : ℕ) (marks : List (Option Mark)) (frontier : List (ℕ × ℕ))
     (order : List ℕ) (steps : List Step) (new_counts : List ℕ) (new_excess : List ℤ)
     → IsFound net counts prices excess source side marks → source < length excess
-    → HasComeTo net counts prices excess source marks frontier order side (distance_at marks side) → distance_at marks side ≡ 0
+    → HasComeTo net counts prices excess source marks frontier order side (distance_at marks side)
+    → ((other : ℕ) → is_settled (mark_at marks other) ≡ true → distance_at marks other ≡ distance_at marks side)
     → IsTraced net source marks side steps → HasMoved (arcs_of net) counts excess source side steps new_counts new_excess true
     → IsAugmented net excess new_counts prices new_excess
-    → HasComeTo net new_counts prices new_excess source marks frontier order side 0
-goes_on net counts prices excess source side marks frontier order steps new_counts new_excess found source_inside come here traced has now =
+    → HasComeTo net new_counts prices new_excess source marks frontier order side (distance_at marks side)
+goes_on net counts prices excess source side marks frontier order steps new_counts new_excess found source_inside come level traced has now =
     let arcs = arcs_of net in
     let amount = has.amount in
     let path = traced.path counts prices found.ways in
@@ -184,8 +187,8 @@ goes_on net counts prices excess source side marks frontier order steps new_coun
       | inl there ↦
           let step = there.0 in
           let told = All-contains (IsTold arcs marks source side) steps step traced.told there.1 in
-          let at_step = ends_near net counts prices source side marks step come.ways told here come.next.behind in
-          let ends = subst (λ (p : ℕ). (distance_at marks (arc_at arcs p).tail ≡ 0) × (distance_at marks (arc_at arcs p).head ≡ 0)) there.2 at_step in
+          let at_step = ends_level net counts prices source side marks step come.ways told level in
+          let ends = subst (λ (p : ℕ). (distance_at marks (arc_at arcs p).tail ≡ distance_at marks side) × (distance_at marks (arc_at arcs p).head ≡ distance_at marks side)) there.2 at_step in
           let fits = each_at (FitsOn (price_at prices)) arcs new_counts now.state.ground.fit place inside in
           record {
             along = λ below settled. let fit = fits.more below in omega (arith, ints, fit, ends.0, ends.1);
@@ -207,7 +210,7 @@ goes_on net counts prices excess source side marks frontier order steps new_coun
             omega (arith, ints, enough, lacked));
       };
       near = come.near;
-      next = subst (λ (d : ℕ). IsNext marks frontier side d) here come.next;
+      next = come.next;
       ways = subst (λ (list : List ℕ). AreWays net list prices source marks) (sym has.counts_are)
           (ways_kept net counts prices source side amount marks steps counted come.ways traced path.apart takes);
       settled = come.settled;

@@ -4,4 +4,5 @@ pub mod StateLemmas
 pub mod AnswerLemmas
 pub mod PriceLemmas
 pub mod GoOnLemmas
+pub mod LevelLemmas
 pub mod GiveLemmas

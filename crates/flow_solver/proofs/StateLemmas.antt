@@ -136,8 +136,7 @@ limit_near net counts prices excess source side marks found =
     let cost = found.ways.ways.cheap side mark.0 mark.1 in
     let d = ap distance_of mark.1 in
     let here = small_at prices found.state.ground.small side in
-    let there = small_at prices found.state.ground.small source in
-    omega (arith, ints, few, cost.above, d, here.least, there.most)
+    omega (arith, ints, few, cost.above, d, here.least, found.ways.ways.small.most)
 
 -- a side that lacks something is no nearer than the one that was found
 lacking_far : (net : Network) (counts : List ℕ) (prices excess : List ℤ) (source side : ℕ) (marks : List (Option Mark))
@@ -186,7 +185,7 @@ small_moved net counts prices excess source side marks new found are k d within 
     subst (λ (z : ℤ). IsSmallPrice z) (sym (get_or_default new k d (pos 0) within ∙ are.moved_all k)) small
 
 -- moved prices fit as well
-prices_moved : (net : Network) (counts : List ℕ) (prices excess : List ℤ) (source side : ℕ) (marks : List (Option Mark)) (new_prices : List ℤ)
+pub prices_moved : (net : Network) (counts : List ℕ) (prices excess : List ℤ) (source side : ℕ) (marks : List (Option Mark)) (new_prices : List ℤ)
     → IsFound net counts prices excess source side marks → AreMoved prices marks side new_prices → IsState net counts new_prices excess
 prices_moved net counts prices excess source side marks new_prices found are =
     let state = found.state in

@@ -8,7 +8,7 @@ use Rattle.balance_model.specs.Sound.{IsNet}
 use Rattle.residual_model.specs.Residual.{starting}
 use Rattle.reached_sides.specs.declared.mark.Mark.{Mark}
 use Rattle.path_search.specs.Ground.{IsGround, arc_at, count_at, price_at, sides_of}
-use Rattle.path_search.specs.Search.{HasClosed}
+use Rattle.path_search.specs.Search.{HasClosed, distance_at}
 use Rattle.path_search.specs.Ways.{HasComeTo}
 use Rattle.augmenting_path.specs.declared.step.Step.{Step}
 use Rattle.augmenting_path.specs.Path.{StepTakes, pushed}
@@ -76,10 +76,9 @@ pub record HasMoved (arcs : List Arc) (counts : List ℕ) (excess : List ℤ) (s
   pub counts_are : new_counts ≡ pushed amount steps counts
   pub excess_is : new_excess ≡ transferred excess source side amount
 
--- A search has come to a side, and can go on from there: the side is at the distance 0 and lacks nothing, and the
--- source has excess.
+-- A search has come to a side, and can go on from there: the side lacks nothing, and the source has excess.
 pub record CanGoOn (net : Network) (counts : List ℕ) (prices excess : List ℤ) (source : ℕ) (marks : List (Option Mark))
     (frontier : List (ℕ × ℕ)) (order : List ℕ) (side : ℕ) : Type 0 where
-  pub come : HasComeTo net counts prices excess source marks frontier order side 0
+  pub come : HasComeTo net counts prices excess source marks frontier order side (distance_at marks side)
   pub enough : pos 0 ≤ℤ price_at excess side
   pub gathers : pos 0 <ℤ price_at excess source

@@ -12,11 +12,10 @@ ghost use Rattle.flow_solver.specs.State.{CanGoOn, HasMoved, IsAugmented};
 ghost use Rattle.flow_solver.specs.State.{IsClosedFrom, IsState};
 
 use crate::excess::transfer;
-use crate::prices::move_prices;
+use crate::prices::level;
 use augmenting_path::{Step, least_room, push, trace};
 use flow_network::Net;
 use path_search::{Ground, Search};
-use reached_sides::Marks;
 use refusal::NoMemory;
 use std::alloc::Global;
 
@@ -83,8 +82,8 @@ pub(crate) fn augment(
 }
 
 /// Takes excess from a source to a side that a search has come to. Whether the search can go on
-/// from there: it has moved no price, each step of the way takes more, the source has more, and
-/// the side lacks nothing any more.
+/// from there: each step of the way takes more, the source has more, and the side lacks nothing
+/// any more.
 fn augment_to(
     net: &Net,
     counts: &mut [u64],
@@ -103,39 +102,29 @@ fn augment_to(
         (distance_at work.old.search.marks side) }
     requires source { source < length excess.old }
     requires gathers { pos 0 <ℤ price_at excess.old source }
-    ensures kept { OnOk result (work.new.search.marks ≡ work.old.search.marks) }
+    ensures kept { OnOk result
+        (length work.new.search.marks ≡ length work.old.search.marks) }
     ensures augmented { OnOk result
         (IsAugmented net.now excess.old counts.new prices.new excess.new) }
     ensures goes_on { IfOk result (λ goes_on. goes_on ≡ true
         → CanGoOn net.now counts.new prices.new excess.new source work.new.search.marks
         work.new.search.frontier work.new.search.order.items side) }
 {
-    let limit = distance_to(&work.search.marks, side);
-    move_prices(prices, &work.search.marks, &work.search.order, limit);
+    let limit = work.search.distance_to(side);
+    level(prices, &mut work.search.marks, &work.search.order, limit);
     trace(net, &work.search.marks, source, side, &mut work.path)?;
     let more = move_counts(net, counts, excess, source, side, &work.path);
-    Ok(can_go_on(limit, more, excess, source, side))
+    Ok(can_go_on(more, excess, source, side))
 }
 
-/// Whether a search can go on from a side at a distance, where the way there takes more or not.
-fn can_go_on(distance: u64, more: bool, excess: &[i64], source: u32, side: u32) -> bool
+/// Whether a search can go on from a side, where the way there takes more or not.
+fn can_go_on(more: bool, excess: &[i64], source: u32, side: u32) -> bool
     requires source { source < length excess.now }
     requires side { side < length excess.now }
-    ensures { result ≡ true → (distance ≡ 0) × (more ≡ true)
+    ensures { result ≡ true → (more ≡ true)
         × (pos 0 <ℤ price_at excess.now source) × (pos 0 ≤ℤ price_at excess.now side) }
 {
-    distance == 0 && more && excess[source as usize] > 0 && excess[side as usize] >= 0
-}
-
-/// How far a side is; what has no mark is beyond all others.
-fn distance_to(marks: &Marks, side: u32) -> u64
-    requires { side < length marks.now }
-    ensures { result ≡ distance_at marks.now side }
-{
-    match marks.get(side) {
-        Some(mark) => mark.distance,
-        None => u64::MAX,
-    }
+    more && excess[source as usize] > 0 && excess[side as usize] >= 0
 }
 
 /// Moves as much along a way as the source has, the side at its end lacks and the way takes.

@@ -1,31 +1,62 @@
 // The prices that the distances of a search move.
-ghost use Rattle.std.specs.Prelude.{◌≡◌, ◌-◌, ℕ, ◌^◌, ◌<◌, length, pos, true};
+ghost use Rattle.std.specs.Prelude.{◌≡◌, ◌-◌, ℕ, ◌^◌, ◌<◌, ◌≤◌, length, pos, slice_set, true};
 ghost use Rattle.path_search.specs.Ground.{AreSmall, price_at};
 ghost use Rattle.path_search.specs.Search.{distance_at, is_settled, mark_at};
-ghost use Rattle.path_search.specs.Ways.{AreInOrder};
+ghost use Rattle.path_search.specs.Ways.{AreSettled};
 ghost use Rattle.residual_model.specs.Residual.{moved};
+ghost use Rattle.flow_solver.specs.Level.{IsLevelled, put_at};
 
-use reached_sides::Marks;
+use reached_sides::{Mark, Marks};
 
-/// Lowers the price of each side by what it is nearer than a limit; only settled sides are, which
-/// the order lists. Most searches end at the distance 0, and move nothing.
-pub(crate) fn move_prices(prices: &mut [i64], marks: &Marks, order: &[u32], limit: u64)
-    requires marked { length marks.now ≡ length prices.old }
-    requires ordered { AreInOrder marks.now order.now }
-    requires nearest { (side : ℕ) → distance_at marks.now side < limit
-        → is_settled (mark_at marks.now side) ≡ true }
+/// Lowers the price of each side by what it is nearer than a limit, and puts it at the limit: by
+/// the new prices all sides that are settled are as far as the one that the search has come to, so
+/// that it can go on from there. Only settled sides are nearer, and the order lists them.
+pub(crate) fn level(prices: &mut [i64], marks: &mut Marks, order: &[u32], limit: u64)
+    requires marked { length marks.old ≡ length prices.old }
+    requires settled { AreSettled marks.old order.now }
+    requires behind { (side : ℕ) → is_settled (mark_at marks.old side) ≡ true
+        → distance_at marks.old side ≤ limit }
+    requires nearest { (side : ℕ) → distance_at marks.old side < limit
+        → is_settled (mark_at marks.old side) ≡ true }
     requires small { AreSmall prices.old }
     requires near { limit < 2 ^ 62 }
     ensures each { length prices.new ≡ length prices.old }
     ensures moved { (side : ℕ) → price_at prices.new side
-        ≡ moved (price_at prices.old) (distance_at marks.now) limit side }
-    ensures kept { limit ≡ 0 → prices.new ≡ prices.old }
+        ≡ moved (price_at prices.old) (distance_at marks.old) limit side }
+    ensures levelled { IsLevelled marks.old limit marks.new }
 {
-    if limit == 0 {
+    if is_level(marks, order, limit) {
         return;
     }
     for side in order {
         prices[*side as usize] -= nearer(marks, *side, limit);
+        put(marks, *side, limit);
+    }
+}
+
+/// Whether the side that was settled first is at a limit, which no settled side is beyond: all of
+/// them are then. Most searches go on so, and move nothing.
+fn is_level(marks: &Marks, order: &[u32], limit: u64) -> bool
+    requires settled { AreSettled marks.now order.now }
+    requires behind { (side : ℕ) → is_settled (mark_at marks.now side) ≡ true
+        → distance_at marks.now side ≤ limit }
+    ensures { result ≡ true → (side : ℕ) → is_settled (mark_at marks.now side) ≡ true
+        → distance_at marks.now side ≡ limit }
+{
+    match order.first() {
+        Some(first) => is_at(marks, *first, limit),
+        None => true,
+    }
+}
+
+/// Whether a side is at a distance.
+fn is_at(marks: &Marks, side: u32, distance: u64) -> bool
+    requires { side < length marks.now }
+    ensures { result ≡ true → distance_at marks.now side ≡ distance }
+{
+    match marks.get(side) {
+        Some(mark) => mark.distance == distance,
+        None => false,
     }
 }
 
@@ -38,5 +69,15 @@ fn nearer(marks: &Marks, side: u32, limit: u64) -> i64
     match marks.get(side) {
         Some(mark) => limit.saturating_sub(mark.distance) as i64,
         None => 0,
+    }
+}
+
+/// Puts a side that is marked at a distance.
+fn put(marks: &mut Marks, side: u32, distance: u64)
+    requires { side < length marks.old }
+    ensures { marks.new ≡ slice_set marks.old side (put_at distance (mark_at marks.old side)) }
+{
+    if let Some(mark) = marks.get(side) {
+        marks.set(side, Mark { distance, ..mark });
     }
 }

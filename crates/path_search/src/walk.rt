@@ -30,9 +30,10 @@ impl Search {
         ensures { IfOk result (λ search. search.marks ≡ replicate sides None) }
     {
         let marks = Marks::new(alloc, sides)?;
+        let frontier = Frontier::new(alloc)?;
         Ok(Search {
             marks,
-            frontier: Frontier::new(alloc),
+            frontier,
             order: Vec::new(alloc),
         })
     }

@@ -1,2 +1,3 @@
 pub mod NearnessLemmas
 pub mod RoundLemmas
+pub mod RowLemmas

@@ -1,14 +1,15 @@
 // Open sides, the nearest first.
-ghost use Rattle.std.specs.Prelude.{◌≡◌, ◌<◌, ◌≤◌, ◌∷◌, [], ℕ, false, true};
-ghost use Rattle.std.specs.Prelude.{OnOk, IfSome, IfNone, slice_index_or};
+ghost use Rattle.std.specs.Prelude.{◌≡◌, ◌<◌, ◌≤◌, ◌-◌, ◌^◌, ◌∷◌, [], ℕ};
+ghost use Rattle.std.specs.Prelude.{IfOk, IfSome, IfNone, OnOk, slice_index_or};
 ghost use Rattle.std.specs.List.{All};
 ghost use Rattle.std.specs.List.Sorted.{IsPermutation};
 ghost use Rattle.std.specs.BinaryHeap.{heap_items, heap_len};
 ghost use Rattle.reached_sides.specs.Nearness.{IsNearestFirst, by_distance};
 
+use crate::rows::Rows;
 use refusal::NoMemory;
 use std::alloc::Global;
-use std::collections::{BinaryHeap, VecDeque};
+use std::collections::BinaryHeap;
 use std::marker::Model;
 
 /// The sides that a search has still to settle, each with a distance; the nearest comes first.
@@ -18,9 +19,8 @@ use std::marker::Model;
 /// few steps. No clause promises that.
 #[derive(Debug, Drop)]
 pub struct Frontier {
-    /// The distance of the sides in `near`: that of the side that was taken out last, as a rule.
-    here: u64,
-    near: VecDeque<u32>,
+    /// The sides that are little farther than the one that was taken out last, as a rule.
+    near: Rows,
     /// The other sides.
     heap: BinaryHeap<(u64, u32)>,
 }
@@ -29,33 +29,31 @@ pub struct Frontier {
 impl Model for Frontier {
     ghost use Rattle.std.specs.Prelude.{◌++◌, ℕ, List, map};
     ghost use Rattle.std.specs.BinaryHeap.{heap_items};
-    ghost use Rattle.reached_sides.specs.Nearness.{IsNearestFirst, at_distance, by_distance};
+    ghost use Rattle.reached_sides.specs.Nearness.{IsNearestFirst, by_distance};
 
     ghost Value = { List (ℕ × ℕ) };
 
-    ghost view = { λ frontier. map (at_distance frontier.here) frontier.near.items
-        ++ map by_distance (heap_items frontier.heap) };
+    ghost view = { λ frontier. frontier.near ++ map by_distance (heap_items frontier.heap) };
 
     ghost invariant = { λ frontier. IsNearestFirst (heap_items frontier.heap) };
 }
 
 impl Frontier {
     /// Without sides.
-    pub fn new(alloc: Global) -> Frontier
-        ensures { result ≡ [] }
+    pub fn new(alloc: Global) -> Result<Frontier, NoMemory>
+        ensures { IfOk result (λ frontier. frontier ≡ []) }
     {
-        Frontier {
-            here: 0,
-            near: VecDeque::new(alloc),
+        let near = Rows::new(alloc)?;
+        Ok(Frontier {
+            near,
             heap: BinaryHeap::new(alloc),
-        }
+        })
     }
 
     /// Forgets all sides.
     pub fn clear(&mut self)
         ensures { self.new ≡ [] }
     {
-        self.here = 0;
         self.near.clear();
         self.heap.clear();
     }
@@ -64,8 +62,7 @@ impl Frontier {
     pub fn push(&mut self, distance: u64, side: u32) -> Result<(), NoMemory>
         ensures { OnOk result (IsPermutation ((distance, side) ∷ self.old) self.new) }
     {
-        if distance == self.here {
-            self.near.push_back(side)?;
+        if self.near.push(distance, side)? {
             return Ok(());
         }
         self.heap.push((u64::MAX - distance, side))?;
@@ -79,32 +76,34 @@ impl Frontier {
         ensures nearest { IfSome result (λ nearest. All (λ other. nearest.0 ≤ other.0) self.new) }
         ensures empty { IfNone result (self.old ≡ []) }
     {
-        if begins_nearer(&self.heap, self.here) {
-            let (nearness, side) = self.heap.pop()?;
-            return Some((u64::MAX - nearness, side));
+        if let Some(nearest) = self.near.pop_up_to(least_distance(&self.heap)) {
+            return Some(nearest);
         }
-        match self.near.pop_front() {
-            Some(side) => Some((self.here, side)),
-            None => {
-                let (nearness, side) = self.heap.pop()?;
-                self.here = u64::MAX - nearness;
-                Some((self.here, side))
-            }
-        }
+        let first = self.heap.pop()?;
+        let distance = distance_of(first);
+        self.near.begin_at(distance);
+        Some((distance, first.1))
     }
 }
 
-/// Whether the first side of a heap is nearer than a distance; if it is not, none is.
-fn begins_nearer(heap: &BinaryHeap<(u64, u32)>, distance: u64) -> bool
+/// The distance of a heap's first side, than which none is nearer; the greatest of all if it has no
+/// side.
+fn least_distance(heap: &BinaryHeap<(u64, u32)>) -> u64
     requires { IsNearestFirst (heap_items heap.now) }
-    ensures some { result ≡ true → 0 < heap_len heap.now }
-    ensures nearer { result ≡ true
-        → (d : ℕ × ℕ) → (by_distance (slice_index_or (heap_items heap.now) 0 d)).0 ≤ distance }
-    ensures none { result ≡ false
-        → All (λ entry. distance ≤ (by_distance entry).0) (heap_items heap.now) }
+    ensures first { 0 < heap_len heap.now
+        → (d : ℕ × ℕ) → result ≡ (by_distance (slice_index_or (heap_items heap.now) 0 d)).0 }
+    ensures least { All (λ entry. result ≤ (by_distance entry).0) (heap_items heap.now) }
+    ensures none { heap_len heap.now ≡ 0 → result ≡ 2 ^ 64 - 1 }
 {
     match heap.peek() {
-        Some(first) => u64::MAX - distance < first.0,
-        None => false,
+        Some(first) => distance_of(*first),
+        None => u64::MAX,
     }
+}
+
+/// The distance of an entry of the heap.
+fn distance_of(entry: (u64, u32)) -> u64
+    ensures { result ≡ (by_distance entry).0 }
+{
+    u64::MAX - entry.0
 }

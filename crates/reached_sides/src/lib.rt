@@ -4,12 +4,14 @@
 //! A search of a large network mostly touches a few sides. So marks carry the round in which they
 //! were made, and `clear` begins a new round: it takes the same time however many sides there are.
 //!
-//! Source: Ahuja, Magnanti and Orlin, "Network Flows", 4.5 to 4.8 (Dijkstra's algorithm, heaps).
+//! Source: Ahuja, Magnanti and Orlin, "Network Flows", 4.5 to 4.8 (Dijkstra's algorithm, Dial's
+//! rows, heaps).
 #![tactic(auto)]
 
 mod frontier;
 mod mark;
 mod marks;
+mod rows;
 
 pub use frontier::Frontier;
 pub use mark::{Mark, Way};

@@ -1,34 +1,32 @@
-use Rattle.std.proofs.Common.{arith, ◌∙◌, []}
-use Rattle.reached_sides.proofs.NearnessLemmas.{popped_far, nearest_near, nearest_far, none_left}
+use Rattle.std.proofs.Common.{◌≡◌, ◌∙◌, map, arith}
+use Rattle.std.proofs.lemmas.List.Sorted.{IsPermutation-append_left}
+use Rattle.std.specs.BinaryHeap.{heap_items}
+use Rattle.reached_sides.specs.Nearness.{by_distance}
+use Rattle.reached_sides.proofs.NearnessLemmas.{popped_far, none_nearer, none_nearer_than_first}
 use Rattle.reached_sides.proofs.frontier.Frontier.pop.Goals as goal
 
-pub returns-then-begins_nearer-clause-taken : goal.returns-then-begins_nearer-clause-taken
-returns-then-begins_nearer-clause-taken c =
-    rw (← c.self.view_is) (popped_far c.self.inside.here c.in_ok-nearness.nearness c.in_ok-nearness.side c.self.inside.near.items _ _
-    c.in_ok-nearness.ensures.permutation)
-
-pub returns-then-begins_nearer-clause-nearest : goal.returns-then-begins_nearer-clause-nearest
-returns-then-begins_nearer-clause-nearest c =
-    let top = c.in_ok-nearness.ensures.top in
-    let nearer = c.begins_nearer.ensures.nearer c.if-begins_nearer.true (c.in_ok-nearness.nearness, c.in_ok-nearness.side) in
-    let first = rw (← top) at nearer in
-    nearest_far c.self.inside.here c.in_ok-nearness.nearness c.in_ok-nearness.side c.self.inside.near.items _
-    (omega (arith, first)) (c.in_ok-nearness.ensures.below_top c.self.invariant)
+pub returns-in-Some-clause-taken : goal.returns-in-Some-clause-taken
+returns-in-Some-clause-taken c =
+    rw (← c.self.view_is)
+    (IsPermutation-append_left (map by_distance (heap_items c.self.inside.heap)) _ _ c.in-Some.ensures.taken)
 
 pub returns-in-Some-clause-nearest : goal.returns-in-Some-clause-nearest
 returns-in-Some-clause-nearest c =
-    nearest_near c.self.inside.here _ _ (c.begins_nearer.ensures.none c.if-begins_nearer.false)
+    none_nearer c.in-Some.nearest.0 c.least_distance.result _ _ c.in-Some.ensures.within c.in-Some.ensures.nearest c.least_distance.ensures.least
 
-pub returns-in_ok-nearness-in-None-clause-taken : goal.returns-in_ok-nearness-in-None-clause-taken
-returns-in_ok-nearness-in-None-clause-taken c =
-    let none = c.in-None.ensures.items in
-    let left = none_left _ (none ∙ c.in-None.ensures.rest) in
-    let nearness = c.in_ok-nearness-in-None.nearness in
-    let side = c.in_ok-nearness-in-None.side in
-    rw (← c.self.view_is, ← none, left) (popped_far c.self.inside.here nearness side [] _ _ c.in_ok-nearness-in-None.ensures.permutation)
+pub returns-clause-taken : goal.returns-clause-taken
+returns-clause-taken c =
+    let near = c.begin_at.ensures ∙ c.in_default.ensures.unchanged in
+    let distance = c.distance_of-distance.ensures in
+    rw (← c.self.view_is, near, distance) (popped_far c.self.inside.near c.in_ok-first.first _ _ c.in_ok-first.ensures.permutation)
 
-pub returns-in_ok-nearness-in-None-clause-nearest :
-    goal.returns-in_ok-nearness-in-None-clause-nearest
-returns-in_ok-nearness-in-None-clause-nearest c =
-    nearest_far _ c.in_ok-nearness-in-None.nearness c.in_ok-nearness-in-None.side _ _
-    (omega arith) (c.in_ok-nearness-in-None.ensures.below_top c.self.invariant)
+pub returns-clause-nearest : goal.returns-clause-nearest
+returns-clause-nearest c =
+    let first = c.in_ok-first.first in
+    let top = c.in_ok-first.ensures.top in
+    let distance = c.distance_of-distance.ensures in
+    let limit = rw (← top) at (c.least_distance.ensures.first (omega (arith, c.in_ok-first.ensures.len)) first) in
+    let same : c.distance_of-distance.result ≡ c.least_distance.result = omega (arith, distance, limit) in
+    let beyond = c.in_default.ensures.beyond in
+    none_nearer_than_first first c.distance_of-distance.result _ _ distance
+    (rw (c.begin_at.ensures, same) (λ k d inside. omega (arith, beyond k d inside))) (c.in_ok-first.ensures.below_top c.self.invariant)

@@ -1,14 +1,17 @@
-use Rattle.std.proofs.Common.{arith}
-use Rattle.reached_sides.proofs.NearnessLemmas.{pushed_near, pushed_far}
+use Rattle.std.proofs.Common.{arith, map}
+use Rattle.std.proofs.lemmas.List.Sorted.{IsPermutation-append_left}
+use Rattle.std.specs.BinaryHeap.{heap_items}
+use Rattle.reached_sides.specs.Nearness.{by_distance}
+use Rattle.reached_sides.proofs.NearnessLemmas.{pushed_far}
 use Rattle.reached_sides.proofs.frontier.Frontier.push.Goals as goal
 
-pub returns-then-distance-self : goal.returns-then-distance-self
-returns-then-distance-self c =
-    let same = c.if-distance-self.true in
-    let items = c.in_ok-push_back.ensures.items in
-    rw (← c.self.view_is, same, items) (pushed_near c.self.inside.here c.args.side c.self.inside.near.items _)
+pub returns-then-branch : goal.returns-then-branch
+returns-then-branch c =
+    rw (← c.self.view_is)
+    (IsPermutation-append_left (map by_distance (heap_items c.self.inside.heap)) _ _ (c.in_ok-push.ensures.added c.if-branch.true))
 
 pub returns : goal.returns
 returns c =
-    rw (← c.self.view_is) (pushed_far c.self.inside.here c.args.distance c.args.side c.self.inside.near.items _ _
-    (omega (arith, c.ranges.distance.fits)) c.in_ok-push.ensures.permutation)
+    let same = c.in_ok-push.ensures.not_added c.if-branch.false in
+    rw (← c.self.view_is, same)
+    (pushed_far c.self.inside.near c.args.distance c.args.side _ _ (omega (arith, c.ranges.distance.fits)) c.in_ok-push-2.ensures.permutation)

@@ -7,7 +7,9 @@ use Rattle.std.proofs.lemmas.Int.{ints}
 use Rattle.std.proofs.lemmas.List.{get_or_default}
 use Rattle.flow_model.specs.declared.arc.Arc.{Arc}
 use Rattle.reached_sides.specs.declared.mark.Mark.{Mark}
-use Rattle.path_search.specs.Search.{ComeNearer, IsLooking, LedAlong, LedAgainst}
+use Rattle.flow_model.specs.Prices.{FitsOn}
+use Rattle.path_search.specs.Ground.{price_at}
+use Rattle.path_search.specs.Search.{distance_at, ComeNearer, IsLooking, LedAlong, LedAgainst}
 use Rattle.path_search.proofs.SearchLemmas.{nearer_itself, nearer_on}
 
 pub led_on_along : (prices : List ℤ) (old new : List (Option Mark)) (distance : ℕ) (arc : Arc) (n : ℕ) → ComeNearer old new
@@ -24,7 +26,20 @@ led_on_against prices old new distance arc n nearer led above =
     let closer = nearer.nearer arc.tail in
     omega (arith, ints, before, closer)
 
--- so many places of a row were looked at, each with this outcome
+-- a step back to a side that is no further away leads no further than it costs
+pub led_back_along : (prices : List ℤ) (marks : List (Option Mark)) (distance : ℕ) (arc : Arc) (n : ℕ) → FitsOn (price_at prices) arc n
+    → distance_at marks arc.head ≤ distance → LedAlong prices marks distance arc n
+led_back_along prices marks distance arc n fits near below =
+    let rise = fits.more below in
+    omega (arith, ints, rise, near)
+
+pub led_back_against : (prices : List ℤ) (marks : List (Option Mark)) (distance : ℕ) (arc : Arc) (n : ℕ) → FitsOn (price_at prices) arc n
+    → distance_at marks arc.tail ≤ distance → LedAgainst prices marks distance arc n
+led_back_against prices marks distance arc n fits near above =
+    let rise = fits.less above in
+    omega (arith, ints, rise, near)
+
+-- so many places of a row were looked at or left out, each with this outcome
 pub record HasLooked (Led : List (Option Mark) → ℕ → Type 0) (prices : List ℤ) (start marks : List (Option Mark)) (frontier : List (ℕ × ℕ))
     (distance : ℕ) (row : List ℕ) (j : ℕ) : Type 0 where
   pub looking : IsLooking prices marks frontier distance
@@ -52,7 +67,14 @@ looked_more Led prices start marks new_marks frontier new_frontier distance row 
       ];
 }
 
--- when all of the row was looked at
+-- a place that is left out
+pub looked_past : (Led : List (Option Mark) → ℕ → Type 0) (prices : List ℤ) (start marks : List (Option Mark)) (frontier : List (ℕ × ℕ))
+    (distance : ℕ) (row : List ℕ) (j : ℕ) → HasLooked Led prices start marks frontier distance row j → Led marks (get_or row j 0)
+    → HasLooked Led prices start marks frontier distance row (j + 1)
+looked_past Led prices start marks frontier distance row j so_far here =
+    looked_more Led prices start marks marks frontier frontier distance row j (λ place nearer led. led) so_far so_far.looking (nearer_itself marks) here
+
+-- when all of the row was passed
 pub looked_all : (Led : List (Option Mark) → ℕ → Type 0) (prices : List ℤ) (start marks : List (Option Mark)) (frontier : List (ℕ × ℕ))
     (distance : ℕ) (row : List ℕ) (j place : ℕ) → HasLooked Led prices start marks frontier distance row j → length row ≤ j
     → Contains row place → Led marks place

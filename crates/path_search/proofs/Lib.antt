@@ -6,3 +6,4 @@ pub mod WalkLemmas
 pub mod EndLemmas
 pub mod WayLemmas
 pub mod OrderLemmas
+pub mod ParentLemmas

@@ -2,3 +2,4 @@ pub mod Ground
 pub mod Search
 pub mod Ways
 pub mod Tight
+pub mod Parent

@@ -1,6 +1,7 @@
 // The start of a search, and the side that is settled next.
 ghost use Rattle.std.specs.Prelude.{◌≡◌, ◌<◌, ◌∷◌, [], OnOk, None, Some, length, replicate, slice_set};
 ghost use Rattle.std.specs.List.Sorted.{IsPermutation};
+ghost use Rattle.path_search.specs.Parent.{arc_of};
 ghost use Rattle.path_search.specs.Search.{mark_at, settled_as};
 
 use reached_sides::{Frontier, Mark, Marks, Way};
@@ -27,13 +28,16 @@ pub(crate) fn begin(marks: &mut Marks, frontier: &mut Frontier, source: u32) -> 
     Ok(())
 }
 
-/// Settles a side that is marked, as one that so many were settled before.
-pub(crate) fn settle(marks: &mut Marks, side: u32, rank: u32)
+/// Settles a side that is marked, as one that so many were settled before, and gives the arc by
+/// which its mark says that it was reached.
+pub(crate) fn settle(marks: &mut Marks, side: u32, rank: u32) -> Option<u32>
     requires { side < length marks.old }
-    ensures { marks.new ≡ slice_set marks.old side (settled_as rank (mark_at marks.old side)) }
+    ensures marks { marks.new ≡ slice_set marks.old side
+        (settled_as rank (mark_at marks.old side)) }
+    ensures arc { result ≡ arc_of (mark_at marks.old side) }
 {
-    if let Some(mark) = marks.get(side) {
-        let rank = Some(rank);
-        marks.set(side, Mark { rank, ..mark });
-    }
+    let mark = marks.get(side)?;
+    let rank = Some(rank);
+    marks.set(side, Mark { rank, ..mark });
+    Some(mark.arc)
 }

@@ -160,7 +160,9 @@ impl Search {
         ensures more { OnOk result
             (settled_count self.new.marks ≡ settled_count self.old.marks + 1) }
     {
-        settle(&mut self.marks, side, self.order.len() as u32);
+        let arc = settle(&mut self.marks, side, self.order.len() as u32);
+        // All ways begin at the source: its mark names an arc over which nothing came.
+        let last = if side == source { None } else { arc };
         self.order.push(side)?;
         look_around(
             &mut self.marks,
@@ -170,6 +172,7 @@ impl Search {
             ground.prices,
             side,
             distance,
+            last,
         )?;
         Ok(())
     }

@@ -3,7 +3,7 @@ use std::test;
 
 #[test]
 fn the_nearest_side_comes_first(rt: HostRuntime) -> Result<(), test::Fail> {
-    let mut frontier = Frontier::new(rt.alloc());
+    let mut frontier = Frontier::new(rt.alloc())?;
     frontier.push(5, 1)?;
     frontier.push(u64::MAX, 2)?;
     frontier.push(3, 4)?;

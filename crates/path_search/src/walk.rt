@@ -67,8 +67,8 @@ impl Search {
         self.walk(ground, source)
     }
 
-    /// Goes on from a side that the search has come to, and that lacks nothing any more, to the next
-    /// nearest side that does.
+    /// Goes on from a side that the search has come to, and that lacks nothing any more, to the
+    /// next nearest side that does.
     pub fn go_on(
         &mut self,
         ground: Ground<'_>,

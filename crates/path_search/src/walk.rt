@@ -1,5 +1,5 @@
 // The search from one side.
-ghost use Rattle.std.specs.Prelude.{◌≡◌, ◌*◌, ◌<◌, ◌≤◌, ◌<ℤ◌, ◌≤ℤ◌, ◌+◌, pos, length, replicate, None};
+ghost use Rattle.std.specs.Prelude.{◌≡◌, ◌*◌, ◌<◌, ◌≤◌, ◌<ℤ◌, ◌≤ℤ◌, ◌+◌, pos, ℕ, length, replicate, None};
 ghost use Rattle.std.specs.Prelude.{IfOk, IfSome, MatchOption, OnOk};
 ghost use Rattle.flow_model.specs.Network.{arcs_of};
 ghost use Rattle.residual_model.specs.Laws.{HoldBelow, IsClosed};
@@ -41,8 +41,8 @@ impl Search {
     /// The nearest side that lacks something, from a source, over the steps that counts leave;
     /// `None` exactly where no such side can be reached.
     ///
-    /// Afterwards the marks tell the distances of the sides that the search has reached, and ways
-    /// back from them to the source; the settled ones are listed in their order.
+    /// Afterwards the marks tell the distances of the sides that the search has reached, from 0 at
+    /// the source on, and ways back from them to it; the settled ones are listed in their order.
     pub fn find(&mut self, ground: Ground<'_>, source: u32) -> Result<Option<u32>, NoMemory>
         requires ground { IsGround ground.net.now ground.counts.now ground.prices.now }
         requires told { length ground.excess.now ≡ length ground.prices.now }
@@ -60,6 +60,7 @@ impl Search {
             HasComeTo ground.entry.net.now ground.entry.counts.now ground.entry.prices.now
             ground.entry.excess.now source self.new.marks self.new.frontier self.new.order.items
             side (distance_at self.new.marks side))) }
+        ensures begins { OnOk result (distance_at self.new.marks source ≡ 0) }
         ensures order { OnOk result (AreInOrder self.new.marks self.new.order.items) }
     {
         begin(&mut self.marks, &mut self.frontier, source)?;
@@ -93,6 +94,8 @@ impl Search {
             HasComeTo ground.entry.net.now ground.entry.counts.now ground.entry.prices.now
             ground.entry.excess.now source self.new.marks self.new.frontier self.new.order.items
             side (distance_at self.new.marks side))) }
+        ensures nearer { OnOk result
+            ((other : ℕ) → distance_at self.new.marks other ≤ distance_at self.old.marks other) }
         ensures order { OnOk result (AreInOrder self.new.marks self.new.order.items) }
     {
         let distance = self.distance_to(side);
@@ -129,6 +132,8 @@ impl Search {
             HasComeTo ground.entry.net.now ground.entry.counts.now ground.entry.prices.now
             ground.entry.excess.now source self.new.marks self.new.frontier self.new.order.items
             side (distance_at self.new.marks side))) }
+        ensures nearer { OnOk result
+            ((other : ℕ) → distance_at self.new.marks other ≤ distance_at self.old.marks other) }
         ensures order { OnOk result (AreInOrder self.new.marks self.new.order.items) }
     {
         while let Some((side, distance)) = next_open(&self.marks, &mut self.frontier) {
@@ -157,6 +162,8 @@ impl Search {
         ensures under_way { OnOk result (IsUnderWay ground.entry.net.now ground.entry.counts.now
             ground.entry.prices.now ground.entry.excess.now source self.new.marks
             self.new.frontier self.new.order.items) }
+        ensures nearer { OnOk result
+            ((other : ℕ) → distance_at self.new.marks other ≤ distance_at self.old.marks other) }
         ensures more { OnOk result
             (settled_count self.new.marks ≡ settled_count self.old.marks + 1) }
     {

@@ -6,7 +6,7 @@ use Rattle.path_search.proofs.walk.Search.walk.Goals as goal
 
 pub returns-then-ground-side-lt0-clause-found : goal.returns-then-ground-side-lt0-clause-found
 returns-then-ground-side-lt0-clause-found c =
-    reached _ _ _ _ _ _ _ _ _ _ _ c.requires.ground c.loop-side.invariant.walking c.in-Some.ensures.next (search (rules, ints, c.if-ground-side-lt0.true))
+    reached _ _ _ _ _ _ _ _ _ _ _ c.requires.ground c.loop-side.invariant.under_way.walking c.in-Some.ensures.next (search (rules, ints, c.if-ground-side-lt0.true))
 
 pub returns-then-ground-side-lt0-clause-ways : goal.returns-then-ground-side-lt0-clause-ways
 returns-then-ground-side-lt0-clause-ways c =
@@ -14,9 +14,9 @@ returns-then-ground-side-lt0-clause-ways c =
     let at = next.current.at in
     let few = few_sides _ c.requires.ground.of_a_function in
     let priced = c.requires.ground.priced in
-    let walking = c.loop-side.invariant.walking in
+    let walking = c.loop-side.invariant.under_way.walking in
     record {
-      ways = c.loop-side.invariant.ways;
+      ways = c.loop-side.invariant.under_way.ways;
       waits = next.current.waits;
       behind = λ other settled. let before = next.behind other settled in omega (arith, before, at);
       nearest = λ other less.
@@ -26,7 +26,7 @@ returns-then-ground-side-lt0-clause-ways c =
 pub returns-then-ground-side-lt0-clause-come : goal.returns-then-ground-side-lt0-clause-come
 returns-then-ground-side-lt0-clause-come c =
     let next = c.in-Some.ensures.next in
-    let now = c.loop-side.invariant in
+    let now = c.loop-side.invariant.under_way in
     rw next.current.at (record {
       done = now.walking.settled;
       near = now.walking.near;
@@ -37,11 +37,11 @@ returns-then-ground-side-lt0-clause-come c =
 
 pub pass-requires-clause-come : goal.pass-requires-clause-come
 pass-requires-clause-come c = record {
-  done = c.loop-side.invariant.walking.settled;
-  near = c.loop-side.invariant.walking.near;
+  done = c.loop-side.invariant.under_way.walking.settled;
+  near = c.loop-side.invariant.under_way.walking.near;
   next = c.in-Some.ensures.next;
-  ways = c.loop-side.invariant.ways;
-  settled = c.loop-side.invariant.settled;
+  ways = c.loop-side.invariant.under_way.ways;
+  settled = c.loop-side.invariant.under_way.settled;
 }
 
 pub loop-side-smaller : goal.loop-side-smaller
@@ -50,4 +50,4 @@ loop-side-smaller c =
     omega (arith, count, c.in_ok-pass.ensures.more, c.in_ok-pass.ensures.under_way.walking.settled.each)
 
 pub returns-clause-found : goal.returns-clause-found
-returns-clause-found c = closed _ _ _ _ _ _ _ _ c.requires.ground c.loop-side.invariant.walking (rw c.in_default.is at c.next_open.ensures.none)
+returns-clause-found c = closed _ _ _ _ _ _ _ _ c.requires.ground c.loop-side.invariant.under_way.walking (rw c.in_default.is at c.next_open.ensures.none)

@@ -11,6 +11,7 @@
 mod frontier;
 mod mark;
 mod marks;
+mod row;
 mod rows;
 
 pub use frontier::Frontier;

@@ -1,13 +1,13 @@
 // Rows of sides, one for each distance.
-ghost use Rattle.std.specs.Prelude.{◌≡◌, ◌<◌, ◌≤◌, ◌+◌, ◌-◌, ◌^◌, ◌∷◌, [], true, false, length, map};
+ghost use Rattle.std.specs.Prelude.{◌≡◌, ◌<◌, ◌≤◌, ◌+◌, ◌-◌, ◌^◌, ◌∷◌, [], true, false, length};
 ghost use Rattle.std.specs.Prelude.{IfOk, IfSome, IfNone, slice_index_or};
 ghost use Rattle.std.specs.List.{All};
 ghost use Rattle.std.specs.List.Sorted.{IsPermutation};
 ghost use Rattle.reached_sides.specs.Nearness.{AreEmptyBelow};
 
+use crate::row::Row;
 use refusal::NoMemory;
 use std::alloc::Global;
-use std::collections::VecDeque;
 use std::marker::Model;
 
 /// How many rows there are. A step costs at most 40, so that most of the sides that are pushed lie
@@ -22,23 +22,23 @@ pub(crate) struct Rows {
     here: u64,
     /// The rows below this one are empty.
     low: usize,
-    rows: Vec<VecDeque<u32>>,
+    rows: Vec<Row>,
 }
 
 // Clauses see the distances and the sides.
 impl Model for Rows {
-    ghost use Rattle.std.specs.Prelude.{◌≡◌, ◌≤◌, ℕ, List, length, map};
+    ghost use Rattle.std.specs.Prelude.{◌≡◌, ◌≤◌, ℕ, List, length};
     ghost use Rattle.reached_sides.specs.Nearness.{AreEmptyBelow, HaveDistances, rows_from};
 
     ghost Value = { List (ℕ × ℕ) };
 
-    ghost view = { λ rows. rows_from rows.here (map (λ row. row.items) rows.rows.items) };
+    ghost view = { λ rows. rows_from rows.here rows.rows.items };
 
     ghost invariant = { λ rows. record {
       all : length rows.rows.items ≡ 64;
       low : rows.low ≤ 64;
-      empty : AreEmptyBelow rows.low (map (λ row. row.items) rows.rows.items);
-      fit : HaveDistances rows.here (map (λ row. row.items) rows.rows.items);
+      empty : AreEmptyBelow rows.low rows.rows.items;
+      fit : HaveDistances rows.here rows.rows.items;
     } };
 }
 
@@ -49,7 +49,7 @@ impl Rows {
     {
         let mut rows = Vec::with_capacity(alloc, ROWS)?;
         for _row in 0..ROWS {
-            rows.push(VecDeque::new(alloc))?;
+            rows.push(Row::new(alloc))?;
         }
         Ok(Rows {
             here: 0,
@@ -75,7 +75,7 @@ impl Rows {
     {
         match row_of(self.here, distance) {
             Some(row) => {
-                self.rows[row].push_back(side)?;
+                self.rows[row].push(side)?;
                 self.low = self.low.min(row);
                 Ok(true)
             }
@@ -101,7 +101,7 @@ impl Rows {
         if limit < distance {
             return None;
         }
-        let side = self.rows[self.low].pop_front()?;
+        let side = self.rows[self.low].take_first()?;
         Some((distance, side))
     }
 
@@ -127,14 +127,14 @@ fn row_of(here: u64, distance: u64) -> Option<usize>
 }
 
 /// The first row from a place on that has sides; the number of all rows if none has.
-fn first_filled(rows: &[VecDeque<u32>], from: usize) -> usize
+fn first_filled(rows: &[Row], from: usize) -> usize
     requires all { length rows.now ≡ 64 }
     requires low { from ≤ 64 }
-    requires empty { AreEmptyBelow from (map (λ row. row.items) rows.now) }
+    requires empty { AreEmptyBelow from rows.now }
     ensures low { result ≤ 64 }
-    ensures empty { AreEmptyBelow result (map (λ row. row.items) rows.now) }
+    ensures empty { AreEmptyBelow result rows.now }
     ensures filled { result < 64
-        → 0 < length (slice_index_or (map (λ row. row.items) rows.now) result []) }
+        → 0 < length (slice_index_or rows.now result []) }
 {
     for row in from..ROWS {
         if !rows[row].is_empty() {
@@ -145,12 +145,12 @@ fn first_filled(rows: &[VecDeque<u32>], from: usize) -> usize
 }
 
 /// Empties the rows from a place on.
-fn empty_from(rows: &mut [VecDeque<u32>], from: usize)
+fn empty_from(rows: &mut [Row], from: usize)
     requires all { length rows.old ≡ 64 }
     requires low { from ≤ 64 }
-    requires empty { AreEmptyBelow from (map (λ row. row.items) rows.old) }
+    requires empty { AreEmptyBelow from rows.old }
     ensures all { length rows.new ≡ 64 }
-    ensures empty { AreEmptyBelow 64 (map (λ row. row.items) rows.new) }
+    ensures empty { AreEmptyBelow 64 rows.new }
 {
     for row in from..ROWS {
         rows[row].clear();

@@ -9,5 +9,5 @@ loop-row-preserved c =
     let within = c.loop-row-test.true in
     record {
       all = length-set c.loop-row.rows c.loop-row.row c.clear.new.self ∙ old.all;
-      empty = emptied (λ row. row.items) c.loop-row.row c.loop-row.rows c.clear.new.self (omega (arith, old.all, within)) c.clear.ensures.items old.empty;
+      empty = emptied c.loop-row.row c.loop-row.rows c.clear.new.self (omega (arith, old.all, within)) c.clear.ensures old.empty;
     }

@@ -1,4 +1,4 @@
-use Rattle.std.proofs.Common.{◌≡◌, length, map}
+use Rattle.std.proofs.Common.{◌≡◌, length}
 use Rattle.reached_sides.specs.Nearness.{AreEmptyBelow}
 use Rattle.reached_sides.proofs.rows.empty_from.Given as goal
 
@@ -6,5 +6,5 @@ use Rattle.reached_sides.proofs.rows.empty_from.Given as goal
 abbrev pub invariant-loop-row : goal.invariant-loop-row
 invariant-loop-row l = record {
   all : length l.rows ≡ 64;
-  empty : AreEmptyBelow l.row (map (λ row. row.items) l.rows);
+  empty : AreEmptyBelow l.row l.rows;
 }

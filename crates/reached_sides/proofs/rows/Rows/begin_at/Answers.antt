@@ -8,5 +8,5 @@ returns-then-self-eq-ROWS c =
     let all = c.self.invariant.all in
     let empty = c.self.invariant.empty in
     let last = c.if-self-eq-ROWS.true in
-    no_sides (λ row. row.items) c.args.distance c.self.inside.low rows (omega (arith, all, last)) empty
-    ∙ sym (no_sides (λ row. row.items) c.self.inside.here c.self.inside.low rows (omega (arith, all, last)) empty) ∙ c.self.view_is
+    no_sides c.args.distance c.self.inside.low rows (omega (arith, all, last)) empty
+    ∙ sym (no_sides c.self.inside.here c.self.inside.low rows (omega (arith, all, last)) empty) ∙ c.self.view_is

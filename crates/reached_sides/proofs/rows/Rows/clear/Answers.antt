@@ -7,4 +7,4 @@ pub returns : goal.returns
 returns c =
     let rows = c.empty_from.new.rows in
     rw (with_items_is c.self.inside.rows rows (search rules))
-    (no_sides (λ row. row.items) 0 64 rows (omega (arith, c.empty_from.ensures.all)) c.empty_from.ensures.empty)
+    (no_sides 0 64 rows (omega (arith, c.empty_from.ensures.all)) c.empty_from.ensures.empty)

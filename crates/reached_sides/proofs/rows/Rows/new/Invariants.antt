@@ -1,6 +1,6 @@
-use Rattle.std.proofs.Common.{◌≡◌, [], map, replicate}
+use Rattle.std.proofs.Common.{◌≡◌, [], replicate}
 use Rattle.reached_sides.proofs.rows.Rows.new.Given as goal
 
 -- The rows so far have no sides.
 abbrev pub invariant-loop-row : goal.invariant-loop-row
-invariant-loop-row l = map (λ row. row.items) l.rows.items ≡ replicate l._row []
+invariant-loop-row l = l.rows.items ≡ replicate l._row []

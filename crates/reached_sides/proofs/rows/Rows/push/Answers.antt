@@ -7,10 +7,10 @@ pub invariant_of-self : goal.invariant_of-self
 invariant_of-self c =
     let old = c.self.invariant in
     let rows = c.self.inside.rows.items in
-    let same = kept_row (λ row. row.items) c.in-Some.row rows c.index_mut.result.now c.push_back.new.self
-    c.index_mut.ensures.value c.in_err-push_back-in-Some.ensures.items in
+    let same = kept_row c.in-Some.row rows c.index_mut.result.now c.push.new.self
+    c.index_mut.ensures.value c.in_err-push-in-Some.ensures.same in
     record {
-      all = length-set rows c.in-Some.row c.push_back.new.self ∙ old.all;
+      all = length-set rows c.in-Some.row c.push.new.self ∙ old.all;
       low = old.low;
       empty = rw same old.empty;
       fit = rw same old.fit;
@@ -24,18 +24,18 @@ invariant_of-self-in-Some c =
     let fits = c.ranges.distance.fits in
     let at = c.in-Some.ensures in
     record {
-      all = length-set rows c.in-Some.row c.push_back.new.self ∙ old.all;
+      all = length-set rows c.in-Some.row c.push.new.self ∙ old.all;
       low = omega (arith, least, old.low);
-      empty = empty_kept (λ row. row.items) c.self.inside.low _ c.in-Some.row rows _ (omega (arith, least)) (omega (arith, least)) old.empty;
-      fit = distances_kept (λ row. row.items) c.self.inside.here c.in-Some.row rows _ (omega (arith, at, fits)) old.fit;
+      empty = empty_kept c.self.inside.low _ c.in-Some.row rows _ (omega (arith, least)) (omega (arith, least)) old.empty;
+      fit = distances_kept c.self.inside.here c.in-Some.row rows _ (omega (arith, at, fits)) old.fit;
     }
 
-pub returns-in_ok-push_back-in-Some-clause-added :
-    goal.returns-in_ok-push_back-in-Some-clause-added
-returns-in_ok-push_back-in-Some-clause-added c = λ yes.
+pub returns-in_ok-push-in-Some-clause-added :
+    goal.returns-in_ok-push-in-Some-clause-added
+returns-in_ok-push-in-Some-clause-added c = λ yes.
     let all = c.self.invariant.all in
     let at = c.in-Some.ensures in
     rw (← c.self.view_is)
-    (pushed_row (λ row. row.items) c.self.inside.here c.args.distance c.in-Some.row c.args.side c.self.inside.rows.items
-    c.index_mut.result.now c.push_back.new.self (omega (arith, all, at)) (omega (arith, at)) c.index_mut.ensures.value
-    c.in_ok-push_back-in-Some.ensures.items)
+    (pushed_row c.self.inside.here c.args.distance c.in-Some.row c.args.side c.self.inside.rows.items
+    c.index_mut.result.now c.push.new.self (omega (arith, all, at)) (omega (arith, at)) c.index_mut.ensures.value
+    c.in_ok-push-in-Some.ensures.added)

@@ -56,7 +56,7 @@ fn above_root(
     ensures { IfOk result (λ list. IsEveryOther
         (λ side. price_at prices.now side -ℤ price_at prices.now 0) first blocks list.items) }
 {
-    let mut list = Vec::new(alloc);
+    let mut list = Vec::with_capacity(alloc, blocks)?;
     for block in 0..blocks {
         list.push(prices[first + 2 * block] - prices[0])?;
     }

@@ -29,8 +29,7 @@ pub(crate) fn level(prices: &mut [i64], marks: &mut Marks, order: &[u32], limit:
         return;
     }
     for side in order {
-        prices[*side as usize] -= nearer(marks, *side, limit);
-        put(marks, *side, limit);
+        prices[*side as usize] -= put(marks, *side, limit);
     }
 }
 
@@ -60,24 +59,16 @@ fn is_at(marks: &Marks, side: u32, distance: u64) -> bool
     }
 }
 
-/// By how much a side is nearer than a limit.
-fn nearer(marks: &Marks, side: u32, limit: u64) -> i64
-    requires inside { side < length marks.now }
-    requires near { limit < 2 ^ 62 }
-    ensures { result ≡ pos (limit - distance_at marks.now side) }
+/// Puts a side at a distance, if it is marked. By how much it was nearer.
+fn put(marks: &mut Marks, side: u32, distance: u64) -> i64
+    requires inside { side < length marks.old }
+    requires near { distance < 2 ^ 62 }
+    ensures nearer { result ≡ pos (distance - distance_at marks.old side) }
+    ensures marks { marks.new ≡ slice_set marks.old side (put_at distance (mark_at marks.old side)) }
 {
-    match marks.get(side) {
-        Some(mark) => limit.saturating_sub(mark.distance) as i64,
-        None => 0,
-    }
-}
-
-/// Puts a side that is marked at a distance.
-fn put(marks: &mut Marks, side: u32, distance: u64)
-    requires { side < length marks.old }
-    ensures { marks.new ≡ slice_set marks.old side (put_at distance (mark_at marks.old side)) }
-{
-    if let Some(mark) = marks.get(side) {
-        marks.set(side, Mark { distance, ..mark });
-    }
+    let Some(mark) = marks.get(side) else {
+        return 0;
+    };
+    marks.set(side, Mark { distance, ..mark });
+    distance.saturating_sub(mark.distance) as i64
 }

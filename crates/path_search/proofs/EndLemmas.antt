@@ -15,7 +15,7 @@ use Rattle.residual_model.specs.Residual.{StepsOn, cost_of_more, cost_of_less, r
 use Rattle.residual_model.proofs.PushLemmas.{more_above, more_below, less_above, less_below}
 use Rattle.reached_sides.specs.declared.mark.Mark.{Mark}
 use Rattle.path_search.specs.Ground.{AreSmall, IsSmallCost, arc_at, count_at, price_at, sides_of, IsGround}
-use Rattle.path_search.specs.Search.{far, mark_at, distance_of, distance_at, is_settled, is_open, is_reached, IsNext, HasReached, HasClosed, AreNear, IsWalking}
+use Rattle.path_search.specs.Search.{far, mark_at, distance_of, distance_at, is_settled, is_open, is_reached, IsNext, HasReached, HasClosed, HasSettled, AreNear, IsWalking}
 use Rattle.path_search.proofs.RowLemmas.{each_at, each_by_place, placed}
 use Rattle.path_search.proofs.SearchLemmas.{few_settled}
 use Rattle.path_search.proofs.WalkLemmas.{open_mark}
@@ -72,28 +72,28 @@ nearer_is_settled prices marks frontier side distance other few each near next n
       ]
     ]
 
-pub reached : (net : Network) (counts : List ℕ) (prices excess : List ℤ) (source : ℕ) (marks : List (Option Mark)) (old frontier : List (ℕ × ℕ))
-    (rank side distance : ℕ) → IsGround net counts prices → IsWalking net counts prices excess source marks old rank
+pub reached : (net : Network) (counts : List ℕ) (prices excess : List ℤ) (source : ℕ) (marks : List (Option Mark)) (frontier : List (ℕ × ℕ))
+    (side distance : ℕ) → IsGround net counts prices → HasSettled net counts prices excess source marks → AreNear marks
     → IsNext marks frontier side distance → price_at excess side <ℤ pos 0
     → HasReached net counts prices excess source marks side
-reached net counts prices excess source marks old frontier rank side distance ground walking next lacks =
+reached net counts prices excess source marks frontier side distance ground done near next lacks =
     let few = few_sides net ground.of_a_function in
-    let each = walking.settled.each in
+    let each = done.each in
     let Led : ℕ → ℕ → ℤ → Type 0 = λ from to cost. is_settled (mark_at marks from) ≡ true
     → pos (distance_at marks to) ≤ℤ (pos (distance_at marks from) +ℤ reduced (price_at prices) from to cost) in
     let Held : ℕ → ℕ → ℤ → Type 0 = λ from to cost. distance_at marks from < distance_at marks side
     → pos (distance_at marks to) ≤ℤ (pos (distance_at marks from) +ℤ reduced (price_at prices) from to cost) in
     let settled = nearer_is_settled prices marks frontier side distance in
     record {
-      settled = walking.settled;
+      settled = done;
       lacks = lacks;
       inside = let inside = next.inside in omega (arith, inside, each);
       hold = each_from (StepsOn Led) (StepsOn Held)
           (λ arc n here. record {
-            along = λ below nearer. here.along below (settled arc.tail (omega (arith, few, ground.priced)) each walking.near next nearer);
-            against = λ above nearer. here.against above (settled arc.head (omega (arith, few, ground.priced)) each walking.near next nearer);
+            along = λ below nearer. here.along below (settled arc.tail (omega (arith, few, ground.priced)) each near next nearer);
+            against = λ above nearer. here.against above (settled arc.head (omega (arith, few, ground.priced)) each near next nearer);
           })
-          (arcs_of net) counts walking.settled.led;
+          (arcs_of net) counts done.led;
     }
 
 -- ---- a set that no step leaves

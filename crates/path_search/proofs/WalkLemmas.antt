@@ -1,13 +1,12 @@
 -- The start of a search, one side more, and its two ends.
-use Rattle.std.proofs.Common.{◌≡◌, ◌≢◌, ℕ, zero, suc, ◌+◌, ◌^◌, ◌<◌, ◌≤◌, Bool, true, false, not, List, [], ◌∷◌, length, replicate, Option, None, Some, inl, inr, refl, arith, ap, sym, ◌∙◌, subst}
+use Rattle.std.proofs.Common.{◌≡◌, ◌≢◌, ℕ, ◌+◌, ◌^◌, ◌<◌, ◌≤◌, Bool, true, false, not, List, [], length, replicate, Option, None, Some, inl, inr, refl, arith, ap, sym, ◌∙◌, subst}
 use Rattle.std.specs.Prelude.{slice_set, ℤ, pos, ◌+ℤ◌, ◌≤ℤ◌}
-use Rattle.std.specs.List.{All, Contains}
+use Rattle.std.specs.List.{Contains}
 use Rattle.std.specs.Option.{is_some}
-use Rattle.std.specs.List.Sorted.{IsPermutation}
 use Rattle.std.proofs.lemmas.Bool.{cases_eq, cases_lt}
 use Rattle.std.proofs.lemmas.Int.{ints}
 use Rattle.std.proofs.lemmas.List.{get_or-replicate, get_or_past, length-replicate, length-set}
-use Rattle.std.proofs.lemmas.List.Sorted.{All-permutation, Contains-permutation}
+use Rattle.std.proofs.lemmas.List.Elements.{All-nil}
 use Rattle.std.proofs.lemmas.List.Folds.{sum_by-replicate}
 use Rattle.flow_model.specs.Network.{Network, arcs_of}
 use Rattle.residual_model.specs.Residual.{StepsOn, reduced}
@@ -60,42 +59,36 @@ begun n source within =
 pub never : (b : Bool) → b ≡ false → b ≡ true → ⊥
 never b unset set = let clash : true ≡ false = sym set ∙ unset in absurd (cc)
 
-pub walk_begins : (net : Network) (counts : List ℕ) (prices excess : List ℤ) (source n : ℕ) (marks : List (Option Mark)) (frontier : List (ℕ × ℕ))
+-- a search that has come to its source, and knows of no other side
+pub record HasBegun (net : Network) (counts : List ℕ) (prices excess : List ℤ) (source : ℕ) (marks : List (Option Mark))
+    : Type 0 where
+  pub done : HasSettled net counts prices excess source marks
+  pub near : AreNear marks
+  pub next : IsNext marks [] source 0
+  pub none_settled : (side : ℕ) → is_settled (mark_at marks side) ≡ false
+
+pub begins : (net : Network) (counts : List ℕ) (prices excess : List ℤ) (source n : ℕ) (marks : List (Option Mark))
     → IsGround net counts prices → source < length prices → n ≡ length prices
-    → marks ≡ slice_set (replicate n None) source (Some first) → IsPermutation ((0, source) ∷ []) frontier
-    → IsWalking net counts prices excess source marks frontier 0
-walk_begins net counts prices excess source n marks frontier ground within same is moves =
+    → marks ≡ slice_set (replicate n None) source (Some first)
+    → HasBegun net counts prices excess source marks
+begins net counts prices excess source n marks ground within same is =
     let begun_now = subst (λ (after : List (Option Mark)). IsBegun source after) (sym is) (begun n source (omega (arith, same, within))) in
     let long : length marks ≡ length prices =
     ap length is ∙ length-set (replicate n None) source (Some first) ∙ length-replicate {A = Option Mark} n None ∙ same in
     let Led : ℕ → ℕ → ℤ → Type 0 = λ from to cost. is_settled (mark_at marks from) ≡ true
     → pos (distance_at marks to) ≤ℤ (pos (distance_at marks from) +ℤ reduced (price_at prices) from to cost) in
+    let never_settled : (side : ℕ) → is_settled (mark_at marks side) ≡ true → ⊥ =
+    λ side settled. never _ (begun_now.none_settled side) settled in
     record {
-      settled = record {
+      done = record {
         each = long;
         begins = let d = ap distance_of begun_now.here in omega (arith, d);
         led = each_by_place (StepsOn Led) (arcs_of net) counts ground.counted
             (λ place inside. record {
-              along = λ below settled. absurd (never _ (begun_now.none_settled _) settled);
-              against = λ above settled. absurd (never _ (begun_now.none_settled _) settled);
+              along = λ below settled. absurd (never_settled _ settled);
+              against = λ above settled. absurd (never_settled _ settled);
             });
-        none_lacks = λ side settled. absurd (never _ (begun_now.none_settled side) settled);
-      };
-      waiting = record {
-        listed = λ side waits.
-            elim (cases_eq side source) [
-              | inl e ↦
-                  let one : Contains ((0, source) ∷ []) (0, source) = (0, omega arith, refl) in
-                  let there = Contains-permutation _ _ _ moves one in
-                  let d : distance_at marks source ≡ 0 = ap distance_of begun_now.here in
-                  let at : Contains frontier (distance_at marks source, source) = subst (λ (m : ℕ). Contains frontier (m, source)) (sym d) there in
-                  subst (λ (s : ℕ). Contains frontier (distance_at marks s, s)) (sym e) at
-              | inr apart ↦ absurd (never _ (ap is_open (begun_now.others side apart)) waits)
-            ];
-        within =
-            let Inside : ℕ × ℕ → Type 0 = λ entry. entry.1 < length marks in
-            All-permutation Inside _ _ moves (All-one Inside (0, source) (omega (arith, long, within)));
-        ordered = λ side settled. absurd (never _ (begun_now.none_settled side) settled);
+        none_lacks = λ side settled. absurd (never_settled side settled);
       };
       near = λ side mark at.
           elim (cases_eq side source) [
@@ -105,12 +98,16 @@ walk_begins net counts prices excess source n marks frontier ground within same 
                 omega (arith, d)
             | inr apart ↦ let clash : None ≡ Some mark = sym (begun_now.others side apart) ∙ at in absurd (cc)
           ];
-      rank_is = sym begun_now.count;
+      next = record {
+        current = record { waits = ap is_open begun_now.here; at = ap distance_of begun_now.here };
+        inside = omega (arith, long, within);
+        others = λ other waits apart. absurd (never _ (ap is_open (begun_now.others other apart)) waits);
+        within = All-nil (λ (entry : ℕ × ℕ). entry.1 < length marks);
+        ahead = All-nil (λ (entry : ℕ × ℕ). 0 ≤ entry.0);
+        behind = λ other settled. absurd (never_settled other settled);
+      };
+      none_settled = begun_now.none_settled;
     }
-  where
-    All-one : (P : ℕ × ℕ → Type 0) (x : ℕ × ℕ) → P x → All P (x ∷ [])
-    All-one P x here zero d within = here
-    All-one P x here (suc k) d within = absurd (omega (arith, within))
 
 -- ---- one side more
 

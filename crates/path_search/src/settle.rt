@@ -1,19 +1,16 @@
 // The start of a search, and the side that is settled next.
-ghost use Rattle.std.specs.Prelude.{◌≡◌, ◌<◌, ◌∷◌, [], OnOk, None, Some, length, replicate, slice_set};
-ghost use Rattle.std.specs.List.Sorted.{IsPermutation};
+ghost use Rattle.std.specs.Prelude.{◌≡◌, ◌<◌, [], None, Some, length, replicate, slice_set};
 ghost use Rattle.path_search.specs.Parent.{arc_of};
 ghost use Rattle.path_search.specs.Search.{mark_at, settled_as};
 
 use reached_sides::{Frontier, Mark, Marks, Way};
-use refusal::NoMemory;
 
-/// Forgets all sides but the source, which is open at the distance 0.
-pub(crate) fn begin(marks: &mut Marks, frontier: &mut Frontier, source: u32) -> Result<(), NoMemory>
+/// Forgets all sides but the source, which is open at the distance 0 and stands on no frontier.
+pub(crate) fn begin(marks: &mut Marks, frontier: &mut Frontier, source: u32)
     requires { source < length marks.old }
-    ensures marks { OnOk result
-        (marks.new ≡ slice_set (replicate (length marks.old) None) source
-        (Some (record { distance = 0; arc = 0; way = Way.Along; rank = None }))) }
-    ensures frontier { OnOk result (IsPermutation ((0, source) ∷ []) frontier.new) }
+    ensures marks { marks.new ≡ slice_set (replicate (length marks.old) None) source
+        (Some (record { distance = 0; arc = 0; way = Way.Along; rank = None })) }
+    ensures frontier { frontier.new ≡ [] }
 {
     marks.clear();
     frontier.clear();
@@ -24,8 +21,6 @@ pub(crate) fn begin(marks: &mut Marks, frontier: &mut Frontier, source: u32) -> 
         rank: None,
     };
     marks.set(source, first);
-    frontier.push(0, source)?;
-    Ok(())
 }
 
 /// Settles a side that is marked, as one that so many were settled before, and gives the arc by

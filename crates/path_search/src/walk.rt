@@ -1,6 +1,6 @@
 // The search from one side.
 ghost use Rattle.std.specs.Prelude.{◌≡◌, ◌*◌, ◌<◌, ◌≤◌, ◌<ℤ◌, ◌≤ℤ◌, ◌+◌, pos, ℕ, length, replicate, None};
-ghost use Rattle.std.specs.Prelude.{IfOk, IfSome, MatchOption, OnOk};
+ghost use Rattle.std.specs.Prelude.{IfNone, IfOk, IfSome, MatchOption, OnOk};
 ghost use Rattle.flow_model.specs.Network.{arcs_of};
 ghost use Rattle.residual_model.specs.Laws.{HoldBelow, IsClosed};
 ghost use Rattle.path_search.specs.Ground.{IsGround, price_at};
@@ -34,7 +34,7 @@ impl Search {
         Ok(Search {
             marks,
             frontier,
-            order: Vec::new(alloc),
+            order: Vec::with_capacity(alloc, sides)?,
         })
     }
 
@@ -63,9 +63,12 @@ impl Search {
         ensures begins { OnOk result (distance_at self.new.marks source ≡ 0) }
         ensures order { OnOk result (AreInOrder self.new.marks self.new.order.items) }
     {
-        begin(&mut self.marks, &mut self.frontier, source)?;
+        begin(&mut self.marks, &mut self.frontier, source);
         self.order.clear();
-        self.walk(ground, source)
+        if ground.excess[source as usize] < 0 {
+            return Ok(Some(source));
+        }
+        self.walk(ground, source, source, 0)
     }
 
     /// Goes on from a side that the search has come to, and that lacks nothing any more, to the
@@ -99,8 +102,7 @@ impl Search {
         ensures order { OnOk result (AreInOrder self.new.marks self.new.order.items) }
     {
         let distance = self.distance_to(side);
-        self.pass(ground, source, side, distance)?;
-        self.walk(ground, source)
+        self.walk(ground, source, side, distance)
     }
 
     /// How far a side is; what has no mark is beyond all others.
@@ -114,12 +116,47 @@ impl Search {
         }
     }
 
-    /// Settles the nearest open side until one lacks something.
-    fn walk(&mut self, ground: Ground<'_>, source: u32) -> Result<Option<u32>, NoMemory>
+    /// Takes the nearest open side from the frontier, with its distance; `None` exactly where no
+    /// side is open.
+    fn come_to_next(&mut self, ground: Ground<'_>, source: u32) -> Option<(u32, u64)>
         requires ground { IsGround ground.net.now ground.counts.now ground.prices.now }
-        requires told { length ground.excess.now ≡ length ground.prices.now }
         requires under_way { IsUnderWay ground.net.now ground.counts.now ground.prices.now
             ground.excess.now source self.old.marks self.old.frontier self.old.order.items }
+        ensures marks { self.new.marks ≡ self.old.marks }
+        ensures order { self.new.order ≡ self.old.order }
+        ensures come { IfSome result (λ next.
+            HasComeTo ground.entry.net.now ground.entry.counts.now ground.entry.prices.now
+            ground.entry.excess.now source self.new.marks self.new.frontier self.new.order.items
+            next.0 next.1) }
+        ensures reached { IfSome result (λ next. price_at ground.entry.excess.now next.0 <ℤ pos 0
+            → HasReached ground.entry.net.now ground.entry.counts.now ground.entry.prices.now
+            ground.entry.excess.now source self.new.marks next.0) }
+        ensures ways { IfSome result (λ next.
+            HasWays ground.entry.net.now ground.entry.counts.now ground.entry.prices.now source
+            self.new.marks next.0) }
+        ensures closed { IfNone result
+            (HasClosed ground.entry.net.now ground.entry.counts.now ground.entry.prices.now
+            ground.entry.excess.now source self.new.marks) }
+    {
+        let next = next_open(&self.marks, &mut self.frontier)?;
+        Some(next)
+    }
+
+    /// Settles a side that the search has come to, and then the nearest open side, until one lacks
+    /// something.
+    fn walk(
+        &mut self,
+        ground: Ground<'_>,
+        source: u32,
+        first: u32,
+        distance: u64,
+    ) -> Result<Option<u32>, NoMemory>
+        requires ground { IsGround ground.net.now ground.counts.now ground.prices.now }
+        requires told { length ground.excess.now ≡ length ground.prices.now }
+        requires come { HasComeTo ground.net.now ground.counts.now ground.prices.now
+            ground.excess.now source self.old.marks self.old.frontier self.old.order.items first
+            distance }
+        requires enough { pos 0 ≤ℤ price_at ground.excess.now first }
         ensures found { IfOk result (λ found. MatchOption found
             (HasClosed ground.entry.net.now ground.entry.counts.now ground.entry.prices.now
             ground.entry.excess.now source self.new.marks)
@@ -136,13 +173,15 @@ impl Search {
             ((other : ℕ) → distance_at self.new.marks other ≤ distance_at self.old.marks other) }
         ensures order { OnOk result (AreInOrder self.new.marks self.new.order.items) }
     {
-        while let Some((side, distance)) = next_open(&self.marks, &mut self.frontier) {
-            if ground.excess[side as usize] < 0 {
-                return Ok(Some(side));
+        let mut next = (first, distance);
+        loop {
+            self.pass(ground, source, next.0, next.1)?;
+            match self.come_to_next(ground, source) {
+                Some((side, _)) if ground.excess[side as usize] < 0 => return Ok(Some(side)),
+                Some(come_to) => next = come_to,
+                None => return Ok(None),
             }
-            self.pass(ground, source, side, distance)?;
         }
-        Ok(None)
     }
 
     /// Settles the nearest open side, and looks over the arcs that meet it. The source is where the

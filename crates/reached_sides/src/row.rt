@@ -5,6 +5,9 @@ use refusal::NoMemory;
 use std::alloc::Global;
 use std::marker::Model;
 
+/// How many sides a row has room for at first. Most rows never hold more.
+const FIRST_ROOM: usize = 32;
+
 /// Sides of which the one that came first is taken first.
 ///
 /// They stand in one list, and those that were taken are dropped when the last one is. So a side is
@@ -44,11 +47,14 @@ impl Row {
         self.taken == self.sides.len()
     }
 
-    /// Adds a side behind the others.
+    /// Adds a side behind the others. Room for the first ones is taken at once.
     pub fn push(&mut self, side: u32) -> Result<(), NoMemory>
         ensures added { OnOk result (self.new ≡ self.old ++ side ∷ []) }
         ensures same { OnErr result (self.new ≡ self.old) }
     {
+        if self.sides.capacity() == 0 {
+            self.sides.reserve(FIRST_ROOM)?;
+        }
         self.sides.push(side)?;
         Ok(())
     }

@@ -28,9 +28,9 @@ loop-side-preserved c =
     let long = c.loop-side.auto.prices in
     let small = c.requires.small side (pos 0) (omega (arith, inside, marked)) in
     let limit = c.requires.near in
-    let by = c.nearer.ensures in (
+    let by = c.put.ensures.nearer in (
       moving_more c.args.prices.now c.args.marks.now order c.args.limit c.loop-side.prices c.loop-side.side-index _ ordered c.loop-side-test.true
           (omega (arith, inside, marked, long)) (omega (arith, ints, same, there, small.least, small.most, limit, by)) c.loop-side.invariant.0,
-      put_more c.args.marks.now order c.args.limit c.loop-side.marks _ c.loop-side.side-index ordered c.loop-side-test.true inside c.put.ensures
+      put_more c.args.marks.now order c.args.limit c.loop-side.marks _ c.loop-side.side-index ordered c.loop-side-test.true inside c.put.ensures.marks
           c.loop-side.invariant.1,
     )

@@ -1,4 +1,4 @@
-use Rattle.std.proofs.Common.{rules, ◌∙◌, ap, sym, replicate}
+use Rattle.std.proofs.Common.{rules, arith, ◌∙◌, ap, sym, replicate}
 use Rattle.std.proofs.lemmas.List.{length-map}
 use Rattle.std.proofs.lemmas.List.Elements.{recursion_from_All}
 use Rattle.reached_sides.proofs.RoundLemmas.{no_mark, none_made, none_made_later}
@@ -8,7 +8,9 @@ use Rattle.reached_sides.proofs.marks.Marks.clear.Goals as goal
 pub returns-then-self : goal.returns-then-self
 returns-then-self c =
     let same = c.fill.ensures.items (search rules) in
-    rw (← c.self.view_is, same) (none_made 0 _ ∙ ap (λ n. replicate n no_mark) (sym (length-map c.self.inside.sides.items (made_in c.self.inside.round) ∙ sym c.self.inside.sides.ok.0)))
+    let before = c.none.ensures in
+    rw (← c.self.view_is, same) (none_made 1 _ c.none.result (omega (arith, before))
+    ∙ ap (λ n. replicate n no_mark) (sym (length-map c.self.inside.sides.items (made_in c.self.inside.round) ∙ sym c.self.inside.sides.ok.0)))
 
 pub returns-else-self : goal.returns-else-self
 returns-else-self c =

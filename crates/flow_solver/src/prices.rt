@@ -64,7 +64,8 @@ fn put(marks: &mut Marks, side: u32, distance: u64) -> i64
     requires inside { side < length marks.old }
     requires near { distance < 2 ^ 62 }
     ensures nearer { result ≡ pos (distance - distance_at marks.old side) }
-    ensures marks { marks.new ≡ slice_set marks.old side (put_at distance (mark_at marks.old side)) }
+    ensures marks { marks.new
+        ≡ slice_set marks.old side (put_at distance (mark_at marks.old side)) }
 {
     let Some(mark) = marks.get(side) else {
         return 0;

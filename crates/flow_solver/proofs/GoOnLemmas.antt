@@ -112,6 +112,8 @@ ways_kept : (net : Network) (counts : List ℕ) (prices : List ℤ) (source side
 ways_kept net counts prices source side amount marks steps counted ways traced apart_steps takes = record {
   level = ways.level;
   small = ways.small;
+  starts = ways.starts;
+  begun = ways.begun;
   steps = λ v mark at apart.
       let arcs = arcs_of net in
       let st = ways.steps v mark at apart in
@@ -140,7 +142,6 @@ ways_kept net counts prices source side amount marks steps counted ways traced a
         further = is.1;
       };
   ranked = ways.ranked;
-  cheap = ways.cheap;
 }
 
 by_way : (way : Way) (arc : Arc) (distance : ℕ → ℕ) (here : ℕ) → distance (start_of way arc) ≡ here → distance (end_of way arc) ≡ here
@@ -209,7 +210,6 @@ goes_on net counts prices excess source side marks frontier order steps new_coun
             let enough = come.done.none_lacks other settled in
             omega (arith, ints, enough, lacked));
       };
-      near = come.near;
       next = come.next;
       ways = subst (λ (list : List ℕ). AreWays net list prices source marks) (sym has.counts_are)
           (ways_kept net counts prices source side amount marks steps counted come.ways traced path.apart takes);

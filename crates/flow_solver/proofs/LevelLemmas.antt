@@ -1,5 +1,5 @@
 -- What a search knows when its settled sides are put at one distance, and the prices lowered by what they were nearer.
-use Rattle.std.proofs.Common.{◌≡◌, ℕ, ◌<◌, ◌≤◌, Bool, true, false, List, length, get_or, Option, None, Some, ◌⊎◌, inl, inr, refl, arith, ap, sym, ◌∙◌, subst}
+use Rattle.std.proofs.Common.{◌≡◌, ℕ, ◌<◌, ◌≤◌, Bool, true, false, List, length, get_or, Option, None, Some, inl, inr, refl, arith, ap, sym, ◌∙◌, subst}
 use Rattle.std.specs.Prelude.{ℤ, pos, ◌+ℤ◌, ◌≤ℤ◌}
 use Rattle.std.specs.List.{Contains}
 use Rattle.std.proofs.lemmas.Bool.{cases_lt}
@@ -12,7 +12,6 @@ use Rattle.path_search.specs.Search.{mark_at, far, distance_of, distance_at, is_
 use Rattle.path_search.specs.Ways.{AreWays, HasComeTo, IsStepTo, rank_of, start_of}
 use Rattle.path_search.proofs.RowLemmas.{each_at, each_by_place}
 use Rattle.path_search.proofs.WalkLemmas.{not_both}
-use Rattle.augmenting_path.proofs.TraceLemmas.{marked}
 use Rattle.flow_solver.specs.Level.{IsLevelled, put_at}
 use Rattle.flow_solver.proofs.StateLemmas.{AreMoved, IsFound, limit_near, prices_moved}
 
@@ -205,6 +204,13 @@ ways_raised net counts prices excess source side marks new_prices new_marks rais
     record {
       level = ways.level;
       small = ways.small;
+      starts =
+          let here = is_at net counts prices excess source side marks new_prices new_marks raised.found raised.are raised.level source in
+          let starts = ways.starts in
+          omega (arith, ints, starts, here.price);
+      begun = λ other settled.
+          settled_alike marks new_marks limit source raised.level
+          ∙ ways.begun other (sym (settled_alike marks new_marks limit other raised.level) ∙ settled);
       steps = λ v after at apart.
           let had = had_mark marks new_marks limit v after raised.level at in
           step_raised net counts prices excess source side marks new_prices new_marks v had.0 after raised had.1 at had.2 (ways.steps v had.0 had.1 apart);
@@ -212,16 +218,6 @@ ways_raised net counts prices excess source side marks new_prices new_marks rais
           let before = ways.ranked other (sym (settled_alike marks new_marks limit other raised.level) ∙ settled) in
           let rank = rank_alike marks new_marks limit other raised.level in
           omega (arith, before, rank, count);
-      cheap = λ other after at.
-          let had = had_mark marks new_marks limit other after raised.level at in
-          let cost = ways.cheap other had.0 had.1 in
-          let here = is_at net counts prices excess source side marks new_prices new_marks raised.found raised.are raised.level other in
-          let d = ap distance_of had.1 in
-          let d_now = ap distance_of at in
-          record {
-            above = omega (arith, ints, cost.above, here.price, d, d_now, count);
-            below = omega (arith, ints, cost.below, here.price, d, d_now, count);
-          };
     }
 
 -- the side that the search has come to stays where it is
@@ -302,20 +298,8 @@ come_raised net counts prices excess source side marks frontier order new_prices
     let same = side_same net counts prices excess source side marks new_prices new_marks raised in
     let d : distance_at new_marks side ≡ limit = ap distance_of same in
     let count = level.count in
-    let end = marked marks side side raised.found.ways.waits (inl refl) in
-    let end_d = ap distance_of end.1 in
-    let end_near = come.near side end.0 end.1 in
     record {
       done = settled_raised net counts prices excess source side marks new_prices new_marks raised;
-      near = λ other after is.
-          let had = had_mark marks new_marks limit other after level is in
-          let before = come.near other had.0 had.1 in
-          let was = ap distance_of had.1 in
-          let now = ap distance_of is in
-          elim (settled_or_not (mark_at marks other)) [
-            | inl settled ↦ let put = (at other).settled settled in omega (arith, put, now, end_d, end_near, count)
-            | inr open_side ↦ let kept = ap distance_of (level.others other open_side) in omega (arith, kept, was, now, before, count)
-          ];
       next = record {
         current = record { waits = ap is_open same ∙ come.next.current.waits; at = refl };
         inside = let inside = come.next.inside in omega (arith, inside, each);
@@ -348,10 +332,3 @@ come_raised net counts prices excess source side marks frontier order new_prices
             omega (arith, one, other);
       };
     }
-  where
-    by_bool : (b : Bool) → (b ≡ true) ⊎ (b ≡ false)
-    by_bool true = inl refl
-    by_bool false = inr refl
-
-    settled_or_not : (mark : Option Mark) → (is_settled mark ≡ true) ⊎ (is_settled mark ≡ false)
-    settled_or_not mark = by_bool (is_settled mark)

@@ -1,6 +1,6 @@
 -- What an augmentation leaves true.
 use Rattle.std.proofs.Common.{◌≡◌, ℕ, ◌+◌, ◌^◌, ◌<◌, ◌≤◌, Bool, List, length, replicate, Option, None, Some, inl, inr, refl, arith, ap, sym, ◌∙◌, subst}
-use Rattle.std.specs.Prelude.{ℤ, pos, ◌-ℤ◌, ◌≤ℤ◌, ◌<ℤ◌, IfSome, MatchOption, slice_index_or}
+use Rattle.std.specs.Prelude.{ℤ, pos, ◌-ℤ◌, ◌≤ℤ◌, ◌<ℤ◌, slice_index_or}
 use Rattle.std.specs.List.{All}
 use Rattle.std.proofs.lemmas.Bool.{cases_lt}
 use Rattle.std.proofs.lemmas.Int.{ints}
@@ -17,9 +17,9 @@ use Rattle.residual_model.proofs.PushLemmas.{starting_counts_fit}
 use Rattle.residual_model.proofs.StepLemmas.{moved_prices_fit}
 use Rattle.reached_sides.specs.declared.mark.Mark.{Mark}
 use Rattle.path_search.specs.Ground.{IsSmallPrice, AreSmall, arc_at, count_at, price_at, sides_of}
-use Rattle.path_search.specs.Search.{distance_of, distance_at, settled_count, HasClosed, HasReached}
-use Rattle.path_search.specs.Ways.{HasComeTo, HasWays}
-use Rattle.path_search.proofs.EndLemmas.{few_sides}
+use Rattle.path_search.specs.Search.{distance_of, distance_at, settled_count, HasReached}
+use Rattle.path_search.specs.Ways.{HasEnded, HasWays}
+use Rattle.path_search.proofs.CostLemmas.{few_sides, small_at, way_cost}
 use Rattle.path_search.proofs.RowLemmas.{each_by_place}
 use Rattle.path_search.proofs.SearchLemmas.{few_settled}
 use Rattle.augmenting_path.specs.declared.step.Step.{Step}
@@ -50,15 +50,6 @@ fit_same : (price other : ℕ → ℤ) (arcs : List Arc) (counts : List ℕ) →
 fit_same price other arcs counts same fit =
     each_from (FitsOn price) (FitsOn other)
     (λ arc n fits. fits_shifted price other (pos 0) arc n (not_shifted _ _ (same arc.tail)) (not_shifted _ _ (same arc.head)) fits) arcs counts fit
-
-small_at : (prices : List ℤ) → AreSmall prices → (side : ℕ) → IsSmallPrice (price_at prices side)
-small_at prices small side =
-    elim (cases_lt side (length prices)) [
-      | inl within ↦ small side (pos 0) within
-      | inr past ↦
-          let zero = get_or_past prices side (pos 0) past in
-          record { least = omega (arith, ints, zero); most = omega (arith, ints, zero) }
-    ]
 
 -- ---- the start
 
@@ -133,7 +124,7 @@ pub limit_near : (net : Network) (counts : List ℕ) (prices excess : List ℤ) 
 limit_near net counts prices excess source side marks found =
     let few = few_marks net counts prices excess source side marks found in
     let mark = marked marks side side found.ways.waits (inl refl) in
-    let cost = found.ways.ways.cheap side mark.0 mark.1 in
+    let cost = way_cost net counts prices source marks found.state.ground found.ways.ways side mark.0 mark.1 in
     let d = ap distance_of mark.1 in
     let here = small_at prices found.state.ground.small side in
     omega (arith, ints, few, cost.above, d, here.least, found.ways.ways.small.most)
@@ -158,10 +149,10 @@ moved_small net counts prices excess source side marks found other =
       | inl near ↦
           let few = few_marks net counts prices excess source side marks found in
           let end = marked marks side side found.ways.waits (inl refl) in
-          let end_cost = found.ways.ways.cheap side end.0 end.1 in
+          let end_cost = way_cost net counts prices source marks found.state.ground found.ways.ways side end.0 end.1 in
           let end_d = ap distance_of end.1 in
           let mark = marked marks side other found.ways.waits (inr (found.ways.nearest other near)) in
-          let cost = found.ways.ways.cheap other mark.0 mark.1 in
+          let cost = way_cost net counts prices source marks found.state.ground found.ways.ways other mark.0 mark.1 in
           let d = ap distance_of mark.1 in
           let zero = found.state.free side found.reached.lacks in
           record {
@@ -358,15 +349,13 @@ pub record IsTaking (net : Network) (old_excess : List ℤ) (counts : List ℕ) 
   pub no_more : surplus excess ≤ surplus old_excess
   pub kept : (side : ℕ) → price_at old_excess side ≤ℤ pos 0 → price_at excess side ≤ℤ pos 0
   pub gathers : pos 0 <ℤ price_at excess source
-  pub come_or_closed : MatchOption found (HasClosed net counts prices excess source marks) (λ side. HasReached net counts prices excess source marks side)
-  pub ways : IfSome found (λ side. HasWays net counts prices source marks side)
-  pub come : IfSome found (λ side. HasComeTo net counts prices excess source marks frontier order side (distance_at marks side))
+  pub ended : HasEnded net counts prices excess source marks frontier order found
 
 pub taking_marked : (net : Network) (old_excess : List ℤ) (counts : List ℕ) (prices excess : List ℤ) (source : ℕ) (marks : List (Option Mark))
     (frontier : List (ℕ × ℕ)) (order : List ℕ) (found : Option ℕ) → IsTaking net old_excess counts prices excess source marks frontier order found
     → length marks ≡ length prices
-taking_marked net old_excess counts prices excess source marks frontier order None so_far = so_far.come_or_closed.settled.each
-taking_marked net old_excess counts prices excess source marks frontier order (Some side) so_far = so_far.come_or_closed.settled.each
+taking_marked net old_excess counts prices excess source marks frontier order None so_far = so_far.ended.reached.settled.each
+taking_marked net old_excess counts prices excess source marks frontier order (Some side) so_far = so_far.ended.reached.settled.each
 
 -- one augmentation behind others
 pub augmented_more : (net : Network) (old_excess excess : List ℤ) (counts : List ℕ) (prices new_excess : List ℤ)

@@ -39,7 +39,7 @@ led_back_against prices marks distance arc n fits near above =
     let rise = fits.less above in
     omega (arith, ints, rise, near)
 
--- so many places of a row were looked at or left out, each with this outcome
+-- so many places of a row were looked at, each with this outcome
 pub record HasLooked (Led : List (Option Mark) → ℕ → Type 0) (prices : List ℤ) (start marks : List (Option Mark)) (frontier : List (ℕ × ℕ))
     (distance : ℕ) (row : List ℕ) (j : ℕ) : Type 0 where
   pub looking : IsLooking prices marks frontier distance
@@ -66,13 +66,6 @@ looked_more Led prices start marks new_marks frontier new_frontier distance row 
         | inr last ↦ subst (λ (i : ℕ). Led new_marks (get_or row i 0)) (omega (arith, below, last)) here
       ];
 }
-
--- a place that is left out
-pub looked_past : (Led : List (Option Mark) → ℕ → Type 0) (prices : List ℤ) (start marks : List (Option Mark)) (frontier : List (ℕ × ℕ))
-    (distance : ℕ) (row : List ℕ) (j : ℕ) → HasLooked Led prices start marks frontier distance row j → Led marks (get_or row j 0)
-    → HasLooked Led prices start marks frontier distance row (j + 1)
-looked_past Led prices start marks frontier distance row j so_far here =
-    looked_more Led prices start marks marks frontier frontier distance row j (λ place nearer led. led) so_far so_far.looking (nearer_itself marks) here
 
 -- when all of the row was passed
 pub looked_all : (Led : List (Option Mark) → ℕ → Type 0) (prices : List ℤ) (start marks : List (Option Mark)) (frontier : List (ℕ × ℕ))

@@ -3,7 +3,7 @@ pub mod SearchLemmas
 pub mod AroundLemmas
 pub mod NextLemmas
 pub mod WalkLemmas
+pub mod CostLemmas
 pub mod EndLemmas
 pub mod WayLemmas
 pub mod OrderLemmas
-pub mod ParentLemmas

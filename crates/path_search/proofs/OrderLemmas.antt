@@ -1,13 +1,16 @@
 -- The sides in the order in which they are settled.
-use Rattle.std.proofs.Common.{◌≡◌, ◌≢◌, ℕ, ◌<◌, ◌≤◌, true, List, [], ◌∷◌, ◌++◌, length, get_or, replicate, Option, None, Some, inl, inr, arith, ap, sym, ◌∙◌, subst}
-use Rattle.std.specs.Prelude.{slice_set}
+use Rattle.std.proofs.Common.{◌≡◌, ◌≢◌, ℕ, ◌*◌, ◌<◌, ◌≤◌, true, List, [], ◌∷◌, ◌++◌, length, get_or, replicate, Option, None, Some, inl, inr, arith, ap, sym, ◌∙◌, subst}
+use Rattle.std.specs.Prelude.{slice_set, ℤ}
 use Rattle.std.proofs.lemmas.Bool.{cases_eq, cases_lt}
 use Rattle.std.proofs.lemmas.List.{get_or_push, get_or_append_left, length_push}
+use Rattle.flow_model.specs.Network.{Network}
 use Rattle.reached_sides.specs.declared.mark.Mark.{Mark}
+use Rattle.path_search.specs.Ground.{IsGround}
 use Rattle.path_search.specs.Search.{mark_at, distance_of, distance_at, is_settled, is_open, settled_as, settled_count, ComeNearer}
-use Rattle.path_search.specs.Ways.{rank_of, AreSettled}
+use Rattle.path_search.specs.Ways.{rank_of, AreSettled, HasComeTo}
 use Rattle.path_search.proofs.SearchLemmas.{IsSet, set_is}
-use Rattle.path_search.proofs.WalkLemmas.{first, begun, open_mark, not_both, never, IsSettledNow}
+use Rattle.path_search.proofs.WalkLemmas.{first, begins, begun, open_mark, not_both, never, IsSettledNow}
+use Rattle.path_search.proofs.WayLemmas.{ways_begin}
 
 pub order_begins : (source n : ℕ) (marks : List (Option Mark)) (order : List ℕ) → source < n
     → marks ≡ slice_set (replicate n None) source (Some first) → order ≡ [] → AreSettled marks order
@@ -105,4 +108,20 @@ order_more marks now_marks new_marks order side rank within waits rank_is is now
                 let at = get_or_push order side 0 k e in
                 rw at at_last
           ];
+    }
+
+-- what a search knows at its source
+pub come_to_source : (net : Network) (counts : List ℕ) (prices excess : List ℤ) (source n : ℕ) (marks : List (Option Mark)) (frontier : List (ℕ × ℕ))
+    (order : List ℕ) → IsGround net counts prices → source ≤ 2 * length net.blocks → n ≡ length prices
+    → marks ≡ slice_set (replicate n None) source (Some first) → frontier ≡ [] → order ≡ []
+    → HasComeTo net counts prices excess source marks frontier order source 0
+come_to_source net counts prices excess source n marks frontier order ground inside marked is no_frontier no_order =
+    let priced = ground.priced in
+    let within : source < length prices = omega (arith, inside, priced) in
+    let now = begins net counts prices excess source n marks ground within marked is in
+    record {
+      done = now.done;
+      next = rw no_frontier now.next;
+      ways = ways_begin net counts prices source n marks (omega (arith, within, marked)) ground.small within is;
+      settled = order_begins source n marks order (omega (arith, within, marked)) is no_order;
     }

@@ -88,7 +88,6 @@ record IsTaken (prices : List ℤ) (marks : List (Option Mark)) (frontier : List
   pub was : is_settled (mark_at marks side) ≡ false
   pub is_not : is_settled (Some mark) ≡ false
   pub ahead : distance ≤ mark.distance
-  pub room : mark.distance ≤ distance + 2 ^ 29
   pub closer : mark.distance ≤ distance_at marks side
 
 same_count : (prices : List ℤ) (marks : List (Option Mark)) (frontier : List (ℕ × ℕ)) (distance side : ℕ) (mark : Mark)
@@ -127,16 +126,12 @@ taken_nearer prices marks frontier distance side mark new_marks new_frontier tak
   count = same_count prices marks frontier distance side mark new_marks new_frontier taken;
 }
 
-same_mark : (one two : Mark) (at : Option Mark) → at ≡ Some one → at ≡ Some two → one.distance ≡ two.distance
-same_mark one two at is also = let same : distance_of (Some one) ≡ distance_of (Some two) = ap distance_of (sym is ∙ also) in same
-
 taken_searching : (prices : List ℤ) (marks : List (Option Mark)) (frontier : List (ℕ × ℕ)) (distance side : ℕ) (mark : Mark)
     (new_marks : List (Option Mark)) (new_frontier : List (ℕ × ℕ)) → IsTaken prices marks frontier distance side mark new_marks new_frontier
     → IsSearching new_marks new_frontier distance
 taken_searching prices marks frontier distance side mark new_marks new_frontier taken =
     let searching = taken.looking.searching in
     let nearer = taken_nearer prices marks frontier distance side mark new_marks new_frontier taken in
-    let count = same_count prices marks frontier distance side mark new_marks new_frontier taken in
     let here : distance_at new_marks side ≡ mark.distance = ap distance_of taken.set.here in
     let Inside : ℕ × ℕ → Type 0 = λ entry. entry.1 < length new_marks in
     let Ahead : ℕ × ℕ → Type 0 = λ entry. distance ≤ entry.0 in
@@ -163,16 +158,6 @@ taken_searching prices marks frontier distance side mark new_marks new_frontier 
           let before = sym (nearer.alike other) ∙ settled in
           let same = ap distance_of (nearer.kept other before) in
           omega (arith, same, searching.behind other before);
-      near = λ other known is.
-          elim (cases_eq other side) [
-            | inl e ↦
-                let at_side : mark_at new_marks side ≡ Some known = subst (λ (s : ℕ). mark_at new_marks s ≡ Some known) e is in
-                let same = same_mark known mark (mark_at new_marks side) at_side taken.set.here in
-                omega (arith, same, taken.room, taken.looking.room, count)
-            | inr apart ↦
-                let before = searching.near other known (sym (taken.set.others other apart) ∙ is) in
-                omega (arith, before, count)
-          ];
     }
 
 pub looked : (prices : List ℤ) (marks : List (Option Mark)) (frontier : List (ℕ × ℕ)) (distance side : ℕ) (mark : Mark)
@@ -185,8 +170,7 @@ looked prices marks frontier distance side mark new_marks new_frontier looking w
     (subst (λ (after : List (ℕ × ℕ)). IsLooking prices marks after distance) (sym same.2) looking, nearer_itself marks)
 looked prices marks frontier distance side mark new_marks new_frontier looking within is_not ahead room (inr new) =
     let inside : side < length marks = omega (arith, within, looking.each) in
-    let few = few_settled marks in
-    let below : mark.distance ≤ far = omega (arith, room, looking.room, few, looking.few, looking.each) in
+    let below : mark.distance ≤ far = omega (arith, room, looking.room) in
     let closer : mark.distance ≤ distance_at marks side = elim new.0 [
       | inl less ↦ omega (arith, less)
       | inr none ↦ let unknown : distance_at marks side ≡ far = ap distance_of none in omega (arith, unknown, below)
@@ -199,16 +183,14 @@ looked prices marks frontier distance side mark new_marks new_frontier looking w
       was = not_settled marks frontier distance side mark.distance looking.searching ahead new.0;
       is_not = is_not;
       ahead = ahead;
-      room = room;
       closer = closer;
     } in
     let nearer = taken_nearer prices marks frontier distance side mark new_marks new_frontier taken in (
       record {
         small = looking.small;
-        few = looking.few;
         each = nearer.each ∙ looking.each;
         searching = taken_searching prices marks frontier distance side mark new_marks new_frontier taken;
-        room = let count = nearer.count in omega (arith, count, looking.room);
+        room = looking.room;
       },
       nearer,
     )

@@ -13,7 +13,7 @@ use Rattle.residual_model.specs.Residual.{StepsOn, reduced}
 use Rattle.reached_sides.specs.declared.mark.Mark.{Mark}
 use Rattle.reached_sides.specs.declared.mark.Way.TheVariants.{Along}
 use Rattle.path_search.specs.Ground.{AreSmall, arc_at, count_at, price_at, IsGround}
-use Rattle.path_search.specs.Search.{mark_at, distance_of, distance_at, is_settled, is_open, settled_one, settled_count, settled_as, ComeNearer, IsLooking, LedOut, LedBack, IsNext, HasSettled, AreNear, IsWalking}
+use Rattle.path_search.specs.Search.{mark_at, distance_of, distance_at, is_settled, is_open, settled_one, settled_count, settled_as, ComeNearer, IsLooking, LedOut, LedBack, IsNext, HasSettled, IsWalking}
 use Rattle.path_search.proofs.RowLemmas.{each_at, each_by_place}
 use Rattle.path_search.proofs.SearchLemmas.{IsSet, set_is}
 
@@ -63,7 +63,6 @@ never b unset set = let clash : true ≡ false = sym set ∙ unset in absurd (cc
 pub record HasBegun (net : Network) (counts : List ℕ) (prices excess : List ℤ) (source : ℕ) (marks : List (Option Mark))
     : Type 0 where
   pub done : HasSettled net counts prices excess source marks
-  pub near : AreNear marks
   pub next : IsNext marks [] source 0
   pub none_settled : (side : ℕ) → is_settled (mark_at marks side) ≡ false
 
@@ -90,14 +89,6 @@ begins net counts prices excess source n marks ground within same is =
             });
         none_lacks = λ side settled. absurd (never_settled side settled);
       };
-      near = λ side mark at.
-          elim (cases_eq side source) [
-            | inl e ↦
-                let here : mark_at marks source ≡ Some mark = subst (λ (s : ℕ). mark_at marks s ≡ Some mark) e at in
-                let d : distance_of (Some first) ≡ distance_of (Some mark) = ap distance_of (sym begun_now.here ∙ here) in
-                omega (arith, d)
-            | inr apart ↦ let clash : None ≡ Some mark = sym (begun_now.others side apart) ∙ at in absurd (cc)
-          ];
       next = record {
         current = record { waits = ap is_open begun_now.here; at = ap distance_of begun_now.here };
         inside = omega (arith, long, within);
@@ -159,23 +150,18 @@ settled_now marks new_marks side rank within waits is =
 pub record IsStepping (net : Network) (counts : List ℕ) (prices excess : List ℤ) (source : ℕ) (marks new_marks : List (Option Mark))
     (frontier : List (ℕ × ℕ)) (side distance : ℕ) : Type 0 where
   pub settled : HasSettled net counts prices excess source marks
-  pub near : AreNear marks
   pub next : IsNext marks frontier side distance
   pub now : IsSettledNow marks new_marks side
 
 pub looks_from : (net : Network) (counts : List ℕ) (prices excess : List ℤ) (source : ℕ) (marks new_marks : List (Option Mark))
-    (frontier : List (ℕ × ℕ)) (side distance : ℕ) → AreSmall prices → length prices < 2 ^ 18
+    (frontier : List (ℕ × ℕ)) (side distance : ℕ) → AreSmall prices → distance < 2 ^ 29
     → IsStepping net counts prices excess source marks new_marks frontier side distance
     → IsLooking prices new_marks frontier distance
-looks_from net counts prices excess source marks new_marks frontier side distance small few stepping =
+looks_from net counts prices excess source marks new_marks frontier side distance small room stepping =
     let next = stepping.next in
     let now = stepping.now in
-    let found = open_mark (mark_at marks side) next.current.waits in
-    let at : distance ≡ found.0.distance = sym next.current.at ∙ ap distance_of found.1 in
-    let close = stepping.near side found.0 found.1 in
     record {
       small = small;
-      few = few;
       each = now.each ∙ stepping.settled.each;
       searching = record {
         listed = λ other waits.
@@ -198,18 +184,8 @@ looks_from net counts prices excess source marks new_marks frontier side distanc
                   let before = next.behind other (ap is_settled (sym (now.others other apart)) ∙ done) in
                   omega (arith, before, now.distances other)
             ];
-        near = λ other mark is.
-            elim (cases_eq other side) [
-              | inl e ↦
-                  let here : mark_at new_marks side ≡ Some mark = subst (λ (s : ℕ). mark_at new_marks s ≡ Some mark) e is in
-                  let d : mark.distance ≡ distance = sym (ap distance_of here) ∙ now.distances side ∙ next.current.at in
-                  omega (arith, d, at, close, now.count)
-              | inr apart ↦
-                  let before = stepping.near other mark (sym (now.others other apart) ∙ is) in
-                  omega (arith, before, now.count)
-            ];
       };
-      room = omega (arith, at, close, now.count);
+      room = room;
     }
 
 pub walked : (net : Network) (counts : List ℕ) (prices excess : List ℤ) (source : ℕ) (marks now_marks new_marks : List (Option Mark))
@@ -277,6 +253,5 @@ walked net counts prices excess source marks now_marks new_marks frontier new_fr
         within = looking.searching.within;
         ordered = λ other done k d inside. omega (arith, looking.searching.behind other done, looking.searching.ahead k d inside);
       };
-      near = looking.searching.near;
       rank_is = omega (arith, rank_is, now.count, nearer.count);
     }

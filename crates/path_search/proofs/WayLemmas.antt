@@ -1,5 +1,5 @@
 -- What each part of a search leaves of the ways back to its source.
-use Rattle.std.proofs.Common.{◌≡◌, ◌≢◌, ℕ, ◌*◌, ◌<◌, ◌≤◌, true, false, List, length, get_or, map, replicate, Option, None, Some, inl, inr, refl, arith, ap, sym, ◌∙◌, subst}
+use Rattle.std.proofs.Common.{◌≡◌, ◌≢◌, ℕ, ◌<◌, ◌≤◌, true, false, List, length, get_or, map, replicate, Option, None, Some, inl, inr, refl, arith, ap, sym, ◌∙◌, subst}
 use Rattle.std.specs.Prelude.{slice_set, ℤ, pos, ◌+ℤ◌}
 use Rattle.std.specs.List.{Contains}
 use Rattle.std.proofs.lemmas.List.Elements.{Contains-get_or}
@@ -13,12 +13,10 @@ use Rattle.residual_model.specs.Residual.{reduced}
 use Rattle.reached_sides.specs.declared.mark.Mark.{Mark}
 use Rattle.reached_sides.specs.declared.mark.Way.{Way}
 use Rattle.reached_sides.specs.declared.mark.Way.TheVariants.{Along, Against}
-use Rattle.flow_network.specs.Cost.{IsCheap}
-use Rattle.path_search.specs.Ground.{AreSmall, IsSmallCost, IsGround, arc_at, count_at, price_at}
+use Rattle.path_search.specs.Ground.{AreSmall, IsGround, arc_at, count_at, price_at}
 use Rattle.path_search.specs.Search.{mark_at, distance_of, distance_at, is_settled, is_open, settled_count, settled_as, Offers, ComeNearer, IsLooking}
 use Rattle.path_search.specs.Ways.{start_of, end_of, IsOpen, cost_of_step, rank_of, IsStepTo, AreWays, AreWaysFrom, KeepWays, MarksAtMost}
 use Rattle.path_search.proofs.RowLemmas.{placed, row_only}
-use Rattle.path_search.proofs.EndLemmas.{more_is_small, less_is_small}
 use Rattle.path_search.proofs.SearchLemmas.{IsSet, set_is, not_settled}
 use Rattle.path_search.proofs.WalkLemmas.{IsBegun, first, begun, open_mark, not_both, never, IsSettledNow}
 
@@ -33,15 +31,8 @@ ways_begin net counts prices source n marks within small priced is =
       small = small source (pos 0) priced;
       steps = λ side mark at apart. let clash : None ≡ Some mark = sym (begun_now.others side apart) ∙ at in absurd (cc);
       ranked = λ side settled. absurd (never _ (begun_now.none_settled side) settled);
-      cheap = λ side mark at.
-          elim (cases_eq side source) [
-            | inl e ↦
-                let here : mark_at marks source ≡ Some mark = subst (λ (s : ℕ). mark_at marks s ≡ Some mark) e at in
-                let d : distance_of (Some first) ≡ distance_of (Some mark) = ap distance_of (sym begun_now.here ∙ here) in
-                let p : price_at prices side ≡ price_at prices source = ap (price_at prices) e in
-                record { above = omega (arith, ints, d, p); below = omega (arith, ints, d, p) }
-            | inr apart ↦ let clash : None ≡ Some mark = sym (begun_now.others side apart) ∙ at in absurd (cc)
-          ];
+      starts = let d = ap distance_of begun_now.here in omega (arith, ints, d);
+      begun = λ side settled. absurd (never _ (begun_now.none_settled side) settled);
     }
 
 -- ---- a mark that is offered
@@ -92,8 +83,6 @@ pub record IsLook (net : Network) (counts : List ℕ) (prices : List ℤ) (way :
   pub inside : place < length (arcs_of net)
   pub starts : start_of way (arc_at (arcs_of net) place) ≡ side
   pub within : end_of way (arc_at (arcs_of net) place) < length old
-  pub cheap : IsOpen way (arc_at (arcs_of net) place) (count_at counts place)
-      → IsSmallCost (cost_of_step way (arc_at (arcs_of net) place) (count_at counts place))
 
 -- the step that a look found
 found_step : (net : Network) (counts : List ℕ) (prices : List ℤ) (way : Way) (place side distance : ℕ) (old : List (Option Mark))
@@ -145,13 +134,16 @@ look_keeps net counts prices way place side distance old new look nearer (inr by
     let kept = step_kept net counts prices old new in
     let step = found_step net counts prices way place side distance old look from.settled from.at by.mark by.same_arc by.same_way by.not_settled by.leaves by.further in
     let count = nearer.count in
-    let small = look.cheap by.leaves in
-    let room = from.room in
-    let starts : price_at prices (start_of way arc) ≡ price_at prices side = ap (price_at prices) look.starts in
+    let source_settled = from.ways.begun side from.settled in
     record {
       ways = record {
         level = from.ways.level;
         small = from.ways.small;
+        starts =
+            let same = ap distance_of (nearer.kept source source_settled) in
+            let starts = from.ways.starts in
+            omega (arith, ints, starts, same);
+        begun = λ other done. nearer.alike source ∙ source_settled;
         steps = λ other mark at apart.
             elim (cases_eq other end) [
               | inl e ↦
@@ -166,24 +158,9 @@ look_keeps net counts prices way place side distance old new look nearer (inr by
             let before = sym (nearer.alike other) ∙ done in
             let rank = ap rank_of (nearer.kept other before) in
             omega (arith, rank, from.ways.ranked other before, count);
-        cheap = λ other mark at.
-            elim (cases_eq other end) [
-              | inl e ↦
-                  let here : mark_at new end ≡ Some mark = subst (λ (s : ℕ). mark_at new s ≡ Some mark) e at in
-                  let same : by.mark.distance ≡ mark.distance = ap (λ (m : Mark). m.distance) (same_marks by.mark mark (mark_at new end) set.here here) in
-                  let price : price_at prices other ≡ price_at prices end = ap (price_at prices) e in
-                  record {
-                    above = omega (arith, ints, same, price, by.further, starts, small.least, small.most, room.1, room.2.above, room.2.below, count);
-                    below = omega (arith, ints, same, price, by.further, starts, small.least, small.most, room.1, room.2.above, room.2.below, count);
-                  }
-              | inr other_side ↦
-                  let before = from.ways.cheap other mark (sym (set.others other other_side) ∙ at) in
-                  record { above = omega (arith, ints, before.above, count); below = omega (arith, ints, before.below, count) }
-            ];
       };
       settled = nearer.alike side ∙ from.settled;
       at = ap distance_of (nearer.kept side from.settled) ∙ from.at;
-      room = (room.0, omega (arith, room.1, count), room.2);
     }
 
 -- the step over an arc of a side's row
@@ -200,7 +177,6 @@ look_at way net counts prices side row j marks frontier distance is ground same 
       inside = only.0;
       starts = only.1;
       within = let each = looking.each in let within = ends way (arc_at (arcs_of net) place) (length prices) here.starts here.leads in omega (arith, within, each);
-      cheap = small way (arc_at (arcs_of net) place) (count_at counts place) here.cheap;
     }
   where
     none : (way : Way) → start_of way (free_arc 0 0 0) ≡ 0
@@ -210,10 +186,6 @@ look_at way net counts prices side row j marks frontier distance is ground same 
     ends : (way : Way) (arc : Arc) (n : ℕ) → arc.tail < n → arc.head < n → end_of way arc < n
     ends Along arc n tail head = head
     ends Against arc n tail head = tail
-
-    small : (way : Way) (arc : Arc) (n : ℕ) → IsCheap arc → IsOpen way arc n → IsSmallCost (cost_of_step way arc n)
-    small Along arc n cheap leaves = more_is_small arc n cheap
-    small Against arc n cheap leaves = less_is_small arc n (omega (arith, leaves)) cheap
 
 pub keep_none : (net : Network) (counts : List ℕ) (prices : List ℤ) (side distance : ℕ) (marks : List (Option Mark))
     → KeepWays net counts prices side distance marks marks
@@ -246,12 +218,18 @@ ways_from net counts prices source marks new_marks side rank distance within wai
     λ other settled. now.others other (apart_from other settled) in
     let kept = step_kept net counts prices marks new_marks in
     let count = now.count in
-    let cost = ways.cheap side mark found.1 in
-    let d : mark.distance ≡ distance = sym (ap distance_of found.1) ∙ at in
     record {
       ways = record {
         level = ways.level;
         small = ways.small;
+        starts = let same = now.distances source in let starts = ways.starts in omega (arith, ints, starts, same);
+        begun = λ other done.
+            elim (cases_eq side source) [
+              | inl e ↦ subst (λ (s : ℕ). is_settled (mark_at new_marks s) ≡ true) e now.here
+              | inr apart ↦
+                  let first = ways.begun _ (ways.steps side mark found.1 apart).from_settled in
+                  ap is_settled (same source first) ∙ first
+            ];
         steps = λ other known here apart.
             elim (cases_eq other side) [
               | inl e ↦
@@ -285,22 +263,7 @@ ways_from net counts prices source marks new_marks side rank distance within wai
                   let rank_same = ap rank_of unchanged in
                   omega (arith, before, rank_same, count)
             ];
-        cheap = λ other known here.
-            elim (cases_eq other side) [
-              | inl e ↦
-                  let at_side : mark_at new_marks side ≡ Some known = subst (λ (s : ℕ). mark_at new_marks s ≡ Some known) e here in
-                  let known_d : mark.distance ≡ known.distance = ap (λ (m : Mark). m.distance) (same_marks after known (mark_at new_marks side) set.here at_side) in
-                  let price : price_at prices other ≡ price_at prices side = ap (price_at prices) e in
-                  record {
-                    above = omega (arith, ints, known_d, price, cost.above, count);
-                    below = omega (arith, ints, known_d, price, cost.below, count);
-                  }
-              | inr other_side ↦
-                  let before = ways.cheap other known (sym (now.others other other_side) ∙ here) in
-                  record { above = omega (arith, ints, before.above, count); below = omega (arith, ints, before.below, count) }
-            ];
       };
       settled = now.here;
       at = now.distances side ∙ at;
-      room = (40 * settled_count marks, omega (arith, count), record { above = omega (arith, ints, d, cost.above); below = omega (arith, ints, d, cost.below) });
     }

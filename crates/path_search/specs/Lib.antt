@@ -2,4 +2,3 @@ pub mod Ground
 pub mod Search
 pub mod Ways
 pub mod Tight
-pub mod Parent

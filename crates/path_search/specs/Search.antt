@@ -1,5 +1,5 @@
 -- What a search knows of sides: marks, of which some are settled, and a frontier of those that are not.
-use Rattle.std.specs.Prelude.{◌≡◌, ℕ, ◌+◌, ◌*◌, ◌-◌, ◌^◌, ◌<◌, ◌≤◌, Bool, true, false, not, ◌⊎◌, ◌≢◌, List, ◌∷◌, length, slice_index_or, slice_set, Option, None, Some, ℤ, pos, ◌+ℤ◌, ◌≤ℤ◌, ◌<ℤ◌, if◌then◌else◌}
+use Rattle.std.specs.Prelude.{◌≡◌, ℕ, ◌-◌, ◌^◌, ◌<◌, ◌≤◌, Bool, true, false, not, ◌⊎◌, ◌≢◌, List, ◌∷◌, length, slice_index_or, slice_set, Option, None, Some, ℤ, pos, ◌+ℤ◌, ◌≤ℤ◌, ◌<ℤ◌, if◌then◌else◌}
 use Rattle.std.specs.List.{All, Contains, sum_by}
 use Rattle.std.specs.List.Sorted.{IsPermutation}
 use Rattle.std.specs.Option.{is_some}
@@ -63,22 +63,20 @@ pub record ComeNearer (old new : List (Option Mark)) : Type 0 where
   pub count : settled_count new ≡ settled_count old
 
 -- Each open side stands on the frontier with its distance. What is settled is no further than the limit, and what
--- stands on the frontier no nearer. No distance is above 2^29 for each settled side.
+-- stands on the frontier no nearer.
 pub record IsSearching (marks : List (Option Mark)) (frontier : List (ℕ × ℕ)) (limit : ℕ) : Type 0 where
   pub listed : (side : ℕ) → is_open (mark_at marks side) ≡ true → Contains frontier (distance_at marks side, side)
   pub within : All (λ entry. entry.1 < length marks) frontier
   pub ahead : All (λ entry. limit ≤ entry.0) frontier
   pub behind : (side : ℕ) → is_settled (mark_at marks side) ≡ true → distance_at marks side ≤ limit
-  pub near : (side : ℕ) (mark : Mark) → mark_at marks side ≡ Some mark → mark.distance ≤ settled_count marks * 2 ^ 29
 
 -- A search that looks from a side at this distance, settled last: there is room for one more step.
 pub record IsLooking (prices : List ℤ) (marks : List (Option Mark)) (frontier : List (ℕ × ℕ)) (distance : ℕ)
     : Type 0 where
   pub small : AreSmall prices
-  pub few : length prices < 2 ^ 18
   pub each : length marks ≡ length prices
   pub searching : IsSearching marks frontier distance
-  pub room : distance + 2 ^ 29 ≤ settled_count marks * 2 ^ 29
+  pub room : distance < 2 ^ 29
 
 -- The step along an arc leads no further than it costs, where one more may pass.
 abbrev pub LedAlong : List ℤ → List (Option Mark) → ℕ → Arc → ℕ → Type 0
@@ -144,11 +142,6 @@ pub record HasSettled (net : Network) (counts : List ℕ) (prices excess : List 
       (arcs_of net) counts
   pub none_lacks : (side : ℕ) → is_settled (mark_at marks side) ≡ true → pos 0 ≤ℤ price_at excess side
 
--- No distance is above 2^29 for each settled side.
-abbrev pub AreNear : List (Option Mark) → Type 0
-AreNear marks =
-    (side : ℕ) (mark : Mark) → mark_at marks side ≡ Some mark → mark.distance ≤ settled_count marks * 2 ^ 29
-
 -- A side is in the set that a search has reached.
 abbrev pub is_reached : List (Option Mark) → ℕ → Bool
 is_reached marks side = is_some (mark_at marks side)
@@ -174,5 +167,4 @@ pub record IsWalking (net : Network) (counts : List ℕ) (prices excess : List �
     (marks : List (Option Mark)) (frontier : List (ℕ × ℕ)) (rank : ℕ) : Type 0 where
   pub settled : HasSettled net counts prices excess source marks
   pub waiting : IsWaiting marks frontier
-  pub near : AreNear marks
   pub rank_is : rank ≡ settled_count marks

@@ -1,5 +1,5 @@
 -- The way back from a side that a search has reached: each mark tells the last step of a way from the source.
-use Rattle.std.specs.Prelude.{◌≡◌, ℕ, ◌+◌, ◌*◌, ◌<◌, ◌≤◌, true, false, ◌⊎◌, ◌≢◌, List, length, slice_index, slice_set, Option, None, Some, ℤ, pos, ◌+ℤ◌, ◌≤ℤ◌, unwrap_or}
+use Rattle.std.specs.Prelude.{◌≡◌, ℕ, ◌<◌, ◌≤◌, true, false, ◌⊎◌, ◌≢◌, List, length, slice_index, slice_set, Option, None, Some, ℤ, pos, ◌+ℤ◌, ◌≤ℤ◌, unwrap_or, IfSome, MatchOption}
 use Rattle.flow_model.specs.declared.arc.Arc.{Arc}
 use Rattle.flow_model.specs.Network.{Network, arcs_of}
 use Rattle.flow_model.specs.Prices.{IsBelow}
@@ -8,7 +8,7 @@ use Rattle.reached_sides.specs.declared.mark.Mark.{Mark}
 use Rattle.reached_sides.specs.declared.mark.Way.{Way}
 use Rattle.reached_sides.specs.declared.mark.Way.TheVariants.{Along, Against}
 use Rattle.path_search.specs.Ground.{IsSmallPrice, arc_at, count_at, price_at}
-use Rattle.path_search.specs.Search.{mark_at, distance_at, is_open, is_settled, settled_count, AreNear, HasSettled, IsNext, IsWalking}
+use Rattle.path_search.specs.Search.{mark_at, distance_at, is_open, is_settled, settled_count, HasClosed, HasReached, HasSettled, IsNext, IsWalking}
 
 -- Where a step over an arc starts.
 abbrev pub start_of : Way → Arc → ℕ
@@ -54,25 +54,24 @@ pub record IsWayCost (level : ℤ) (prices : List ℤ) (side distance most : ℕ
   pub above : (pos distance +ℤ price_at prices side) ≤ℤ (level +ℤ pos most)
   pub below : level ≤ℤ (pos distance +ℤ price_at prices side +ℤ pos most)
 
--- Marks tell ways back to the source, each of at most as many steps as sides are settled. The level is the price that
--- the source had at the distance 0.
+-- Marks tell ways back to the source, which was settled first. The level is the price that the source had at the
+-- distance 0.
 pub record AreWays (net : Network) (counts : List ℕ) (prices : List ℤ) (source : ℕ) (marks : List (Option Mark))
     : Type 0 where
   pub level : ℤ
   pub small : IsSmallPrice level
+  pub starts : (pos (distance_at marks source) +ℤ price_at prices source) ≡ level
+  pub begun : (side : ℕ) → is_settled (mark_at marks side) ≡ true → is_settled (mark_at marks source) ≡ true
   pub steps : (side : ℕ) (mark : Mark) → mark_at marks side ≡ Some mark → side ≢ source
       → IsStepTo net counts prices marks side mark
   pub ranked : (side : ℕ) → is_settled (mark_at marks side) ≡ true → rank_of (mark_at marks side) < settled_count marks
-  pub cheap : (side : ℕ) (mark : Mark) → mark_at marks side ≡ Some mark
-      → IsWayCost level prices side mark.distance (40 * settled_count marks)
 
--- And a side was settled last, with room for one more step.
+-- And a side was settled last.
 pub record AreWaysFrom (net : Network) (counts : List ℕ) (prices : List ℤ) (source side distance : ℕ)
     (marks : List (Option Mark)) : Type 0 where
   pub ways : AreWays net counts prices source marks
   pub settled : is_settled (mark_at marks side) ≡ true
   pub at : distance_at marks side ≡ distance
-  pub room : (most : ℕ) × (most + 40 ≡ 40 * settled_count marks) × IsWayCost ways.level prices side distance most
 
 -- What looks from a side keeps all ways, whatever the source.
 abbrev pub KeepWays : Network → List ℕ → List ℤ → ℕ → ℕ → List (Option Mark) → List (Option Mark) → Type 0
@@ -131,7 +130,17 @@ pub record IsUnderWay (net : Network) (counts : List ℕ) (prices excess : List 
 pub record HasComeTo (net : Network) (counts : List ℕ) (prices excess : List ℤ) (source : ℕ)
     (marks : List (Option Mark)) (frontier : List (ℕ × ℕ)) (order : List ℕ) (side distance : ℕ) : Type 0 where
   pub done : HasSettled net counts prices excess source marks
-  pub near : AreNear marks
   pub next : IsNext marks frontier side distance
   pub ways : AreWays net counts prices source marks
   pub settled : AreSettled marks order
+
+-- How a search ends: it has come to a side that lacks something, with the ways to all that it reached, or has closed:
+-- no step leaves what it reached, and no side there lacks anything. The settled sides are listed in their order.
+pub record HasEnded (net : Network) (counts : List ℕ) (prices excess : List ℤ) (source : ℕ) (marks : List (Option Mark))
+    (frontier : List (ℕ × ℕ)) (order : List ℕ) (found : Option ℕ) : Type 0 where
+  pub reached : MatchOption found (HasClosed net counts prices excess source marks)
+      (λ side. HasReached net counts prices excess source marks side)
+  pub ways : IfSome found (λ side. HasWays net counts prices source marks side)
+  pub come : IfSome found
+      (λ side. HasComeTo net counts prices excess source marks frontier order side (distance_at marks side))
+  pub ordered : AreInOrder marks order

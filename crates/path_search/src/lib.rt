@@ -9,6 +9,7 @@
 #![tactic(auto)]
 
 mod around;
+mod distance;
 mod ground;
 mod look;
 mod next;

@@ -6,6 +6,7 @@ ghost use Rattle.path_search.specs.Ground.{price_at};
 ghost use Rattle.path_search.specs.Search.{ComeNearer, IsLooking, LedAgainst, LedAlong};
 ghost use Rattle.path_search.specs.Ways.{MarksAtMost};
 
+use crate::distance::distance_at;
 use crate::offer::offer;
 use crate::steps::{cost_of_less, cost_of_more, is_below, reduced};
 use flow_model::Arc;
@@ -33,6 +34,10 @@ pub(crate) fn look_along(
     ensures marked { OnOk result
         (MarksAtMost Way.Along prices.now place distance arc.now count marks.old marks.new) }
 {
+    // A step never costs less than nothing, so none brings nearer what is as near already.
+    if distance_at(marks, arc.head) <= distance {
+        return Ok(());
+    }
     if !is_below(arc.upper, count) {
         return Ok(());
     }
@@ -69,6 +74,9 @@ pub(crate) fn look_against(
     ensures marked { OnOk result
         (MarksAtMost Way.Against prices.now place distance arc.now count marks.old marks.new) }
 {
+    if distance_at(marks, arc.tail) <= distance {
+        return Ok(());
+    }
     if count <= arc.lower {
         return Ok(());
     }

@@ -1,6 +1,5 @@
 // The start of a search, and the side that is settled next.
 ghost use Rattle.std.specs.Prelude.{◌≡◌, ◌<◌, [], None, Some, length, replicate, slice_set};
-ghost use Rattle.path_search.specs.Parent.{arc_of};
 ghost use Rattle.path_search.specs.Search.{mark_at, settled_as};
 
 use reached_sides::{Frontier, Mark, Marks, Way};
@@ -23,16 +22,13 @@ pub(crate) fn begin(marks: &mut Marks, frontier: &mut Frontier, source: u32)
     marks.set(source, first);
 }
 
-/// Settles a side that is marked, as one that so many were settled before, and gives the arc by
-/// which its mark says that it was reached.
-pub(crate) fn settle(marks: &mut Marks, side: u32, rank: u32) -> Option<u32>
+/// Settles a side that is marked, as one that so many were settled before.
+pub(crate) fn settle(marks: &mut Marks, side: u32, rank: u32)
     requires { side < length marks.old }
-    ensures marks { marks.new ≡ slice_set marks.old side
-        (settled_as rank (mark_at marks.old side)) }
-    ensures arc { result ≡ arc_of (mark_at marks.old side) }
+    ensures { marks.new ≡ slice_set marks.old side (settled_as rank (mark_at marks.old side)) }
 {
-    let mark = marks.get(side)?;
-    let rank = Some(rank);
-    marks.set(side, Mark { rank, ..mark });
-    Some(mark.arc)
+    if let Some(mark) = marks.get(side) {
+        let rank = Some(rank);
+        marks.set(side, Mark { rank, ..mark });
+    }
 }

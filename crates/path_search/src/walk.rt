@@ -5,9 +5,10 @@ ghost use Rattle.flow_model.specs.Network.{arcs_of};
 ghost use Rattle.residual_model.specs.Laws.{HoldBelow, IsClosed};
 ghost use Rattle.path_search.specs.Ground.{IsGround, price_at};
 ghost use Rattle.path_search.specs.Search.{HasClosed, HasReached, distance_at, settled_count};
-ghost use Rattle.path_search.specs.Ways.{AreInOrder, HasComeTo, HasWays, IsUnderWay};
+ghost use Rattle.path_search.specs.Ways.{HasComeTo, HasEnded, HasWays, IsUnderWay};
 
 use crate::around::look_around;
+use crate::distance::distance_at;
 use crate::ground::Ground;
 use crate::next::next_open;
 use crate::settle::{begin, settle};
@@ -48,20 +49,10 @@ impl Search {
         requires told { length ground.excess.now ≡ length ground.prices.now }
         requires marked { length self.old.marks ≡ length ground.prices.now }
         requires source { source ≤ 2 * length ground.net.now.blocks }
-        ensures found { IfOk result (λ found. MatchOption found
-            (HasClosed ground.entry.net.now ground.entry.counts.now ground.entry.prices.now
-            ground.entry.excess.now source self.new.marks)
-            (λ side. HasReached ground.entry.net.now ground.entry.counts.now
-            ground.entry.prices.now ground.entry.excess.now source self.new.marks side)) }
-        ensures ways { IfOk result (λ found. IfSome found (λ side.
-            HasWays ground.entry.net.now ground.entry.counts.now ground.entry.prices.now source
-            self.new.marks side)) }
-        ensures come { IfOk result (λ found. IfSome found (λ side.
-            HasComeTo ground.entry.net.now ground.entry.counts.now ground.entry.prices.now
-            ground.entry.excess.now source self.new.marks self.new.frontier self.new.order.items
-            side (distance_at self.new.marks side))) }
+        ensures ended { IfOk result (HasEnded ground.entry.net.now ground.entry.counts.now
+            ground.entry.prices.now ground.entry.excess.now source self.new.marks
+            self.new.frontier self.new.order.items) }
         ensures begins { OnOk result (distance_at self.new.marks source ≡ 0) }
-        ensures order { OnOk result (AreInOrder self.new.marks self.new.order.items) }
     {
         begin(&mut self.marks, &mut self.frontier, source);
         self.order.clear();
@@ -85,21 +76,11 @@ impl Search {
             ground.excess.now source self.old.marks self.old.frontier self.old.order.items side
             (distance_at self.old.marks side) }
         requires enough { pos 0 ≤ℤ price_at ground.excess.now side }
-        ensures found { IfOk result (λ found. MatchOption found
-            (HasClosed ground.entry.net.now ground.entry.counts.now ground.entry.prices.now
-            ground.entry.excess.now source self.new.marks)
-            (λ side. HasReached ground.entry.net.now ground.entry.counts.now
-            ground.entry.prices.now ground.entry.excess.now source self.new.marks side)) }
-        ensures ways { IfOk result (λ found. IfSome found (λ side.
-            HasWays ground.entry.net.now ground.entry.counts.now ground.entry.prices.now source
-            self.new.marks side)) }
-        ensures come { IfOk result (λ found. IfSome found (λ side.
-            HasComeTo ground.entry.net.now ground.entry.counts.now ground.entry.prices.now
-            ground.entry.excess.now source self.new.marks self.new.frontier self.new.order.items
-            side (distance_at self.new.marks side))) }
+        ensures ended { IfOk result (HasEnded ground.entry.net.now ground.entry.counts.now
+            ground.entry.prices.now ground.entry.excess.now source self.new.marks
+            self.new.frontier self.new.order.items) }
         ensures nearer { OnOk result
             ((other : ℕ) → distance_at self.new.marks other ≤ distance_at self.old.marks other) }
-        ensures order { OnOk result (AreInOrder self.new.marks self.new.order.items) }
     {
         let distance = self.distance_to(side);
         self.walk(ground, source, side, distance)
@@ -110,10 +91,7 @@ impl Search {
         requires { side < length self.now.marks }
         ensures { result ≡ distance_at self.now.marks side }
     {
-        match self.marks.get(side) {
-            Some(mark) => mark.distance,
-            None => u64::MAX,
-        }
+        distance_at(&self.marks, side)
     }
 
     /// Takes the nearest open side from the frontier, with its distance; `None` exactly where no
@@ -157,21 +135,11 @@ impl Search {
             ground.excess.now source self.old.marks self.old.frontier self.old.order.items first
             distance }
         requires enough { pos 0 ≤ℤ price_at ground.excess.now first }
-        ensures found { IfOk result (λ found. MatchOption found
-            (HasClosed ground.entry.net.now ground.entry.counts.now ground.entry.prices.now
-            ground.entry.excess.now source self.new.marks)
-            (λ side. HasReached ground.entry.net.now ground.entry.counts.now
-            ground.entry.prices.now ground.entry.excess.now source self.new.marks side)) }
-        ensures ways { IfOk result (λ found. IfSome found (λ side.
-            HasWays ground.entry.net.now ground.entry.counts.now ground.entry.prices.now source
-            self.new.marks side)) }
-        ensures come { IfOk result (λ found. IfSome found (λ side.
-            HasComeTo ground.entry.net.now ground.entry.counts.now ground.entry.prices.now
-            ground.entry.excess.now source self.new.marks self.new.frontier self.new.order.items
-            side (distance_at self.new.marks side))) }
+        ensures ended { IfOk result (HasEnded ground.entry.net.now ground.entry.counts.now
+            ground.entry.prices.now ground.entry.excess.now source self.new.marks
+            self.new.frontier self.new.order.items) }
         ensures nearer { OnOk result
             ((other : ℕ) → distance_at self.new.marks other ≤ distance_at self.old.marks other) }
-        ensures order { OnOk result (AreInOrder self.new.marks self.new.order.items) }
     {
         let mut next = (first, distance);
         loop {
@@ -206,9 +174,7 @@ impl Search {
         ensures more { OnOk result
             (settled_count self.new.marks ≡ settled_count self.old.marks + 1) }
     {
-        let arc = settle(&mut self.marks, side, self.order.len() as u32);
-        // All ways begin at the source: its mark names an arc over which nothing came.
-        let last = if side == source { None } else { arc };
+        settle(&mut self.marks, side, self.order.len() as u32);
         self.order.push(side)?;
         look_around(
             &mut self.marks,
@@ -218,7 +184,6 @@ impl Search {
             ground.prices,
             side,
             distance,
-            last,
         )?;
         Ok(())
     }

@@ -8,7 +8,5 @@ loop-found-init c = record {
   no_more = omega arith;
   kept = λ side least. least;
   gathers = c.requires.gathers;
-  come_or_closed = c.in_ok-found.ensures.found;
-  ways = c.in_ok-found.ensures.ways;
-  come = c.in_ok-found.ensures.come;
+  ended = c.in_ok-found.ensures.ended;
 }

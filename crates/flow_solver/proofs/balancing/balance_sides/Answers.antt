@@ -1,5 +1,5 @@
 use Rattle.std.proofs.Common.{arith}
-use Rattle.path_search.proofs.EndLemmas.{few_sides}
+use Rattle.path_search.proofs.CostLemmas.{few_sides}
 use Rattle.flow_solver.proofs.StateLemmas.{all_passed}
 use Rattle.flow_solver.proofs.balancing.balance_sides.Goals as goal
 

@@ -1,12 +1,11 @@
-use Rattle.std.proofs.Common.{ℕ, List, Option, refl, sym, ◌∙◌}
+use Rattle.std.proofs.Common.{ℕ, List, Option, refl}
 use Rattle.flow_model.specs.Network.{arcs_of}
 use Rattle.reached_sides.specs.declared.mark.Mark.{Mark}
 use Rattle.reached_sides.specs.declared.mark.Way.TheVariants.{Against}
 use Rattle.path_search.specs.Ground.{arc_at, count_at}
 use Rattle.path_search.specs.Search.{LedAgainst}
 use Rattle.path_search.proofs.RowLemmas.{row_has, row_placed}
-use Rattle.path_search.proofs.AroundLemmas.{led_on_against, led_back_against, looked_none, looked_more, looked_past, looked_all}
-use Rattle.path_search.proofs.ParentLemmas.{ends_on, last_is}
+use Rattle.path_search.proofs.AroundLemmas.{led_on_against, looked_none, looked_more, looked_all}
 use Rattle.path_search.proofs.WayLemmas.{look_at, look_keeps, keep_none, keep_on}
 use Rattle.path_search.proofs.around.look_back.Goals as goal
 
@@ -52,18 +51,6 @@ loop-place-preserved c =
       looked = looked_more Led _ _ _ _ _ _ _ _ _ (λ place nearer led. led_on_against _ _ _ _ (arc_at (arcs_of c.args.net.now) place) (count_at c.args.counts.now place) nearer led)
           c.loop-place.invariant.looked c.in_ok-look_against.ensures.looking c.in_ok-look_against.ensures.nearer here;
       ways = keep_on c.args.net.now c.args.counts.now c.args.prices.now c.args.side c.args.distance _ _ _ c.loop-place.invariant.ways ways;
-    }
-
-pub loop-place-preserved-then-eq : goal.loop-place-preserved-then-eq
-loop-place-preserved-then-eq c =
-    let Led : List (Option Mark) → ℕ → Type 0 = λ marks place.
-    LedAgainst c.args.prices.now marks c.args.distance (arc_at (arcs_of c.args.net.now) place) (count_at c.args.counts.now place) in
-    let so_far = c.loop-place.invariant.looked in
-    let at = row_placed (λ arc. arc.head) _ _ _ _ _ _ refl c.arcs-arcs.ensures.of_a_function c.requires.ground c.entering-row.ensures c.loop-place-test.true in
-    let ends = ends_on _ _ _ _ so_far.nearer (last_is (arcs_of c.args.net.now) _ _ _ _ (sym c.eq.ensures ∙ c.if-eq.true) c.requires.last) in
-    record {
-      looked = looked_past Led _ _ _ _ _ _ _ so_far (led_back_against _ _ _ _ _ at.fits ends.tail);
-      ways = c.loop-place.invariant.ways;
     }
 
 pub returns-clause-back : goal.returns-clause-back

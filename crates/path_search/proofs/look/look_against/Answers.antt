@@ -1,14 +1,14 @@
 use Rattle.std.proofs.Common.{arith, refl}
 use Rattle.std.proofs.lemmas.Int.{ints}
-use Rattle.path_search.proofs.SearchLemmas.{few_settled, looked}
+use Rattle.path_search.proofs.AroundLemmas.{led_back_against}
+use Rattle.path_search.proofs.SearchLemmas.{looked}
 use Rattle.path_search.proofs.WayLemmas.{taken_by}
 use Rattle.path_search.proofs.look.look_against.Goals as goal
 
 pub overflow_add-distance : goal.overflow_add-distance
 overflow_add-distance c =
-    let few = few_settled c.args.marks.now in
-    let looking = c.requires.looking in
-    search (arith, few, looking.few, looking.each, looking.room, c.reduced-more.ensures.small)
+    let room = c.requires.looking.room in
+    search (arith, room, c.reduced-more.ensures.small)
 
 pub returns-clause-looking : goal.returns-clause-looking
 returns-clause-looking c =
@@ -28,3 +28,9 @@ returns-clause-marked c =
     let value = c.reduced-more.ensures.value in
     let cost = c.cost_of_less.ensures.value in
     taken_by _ _ _ _ _ _ _ _ _ _ _ c.requires.looking c.if-count-arc.false refl refl refl (omega arith) (omega (arith, ints, value, cost)) c.in_ok-offer.ensures
+
+pub returns-then-distance_at-distance-clause-led : goal.returns-then-distance_at-distance-clause-led
+returns-then-distance_at-distance-clause-led c =
+    let is = c.distance_at.ensures in
+    let near = c.if-distance_at-distance.true in
+    led_back_against _ _ _ _ _ c.requires.fits (omega (arith, is, near))

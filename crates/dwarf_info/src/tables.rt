@@ -13,10 +13,15 @@ use std::alloc::Global;
 use std::collections::BTreeMap;
 use std::marker::Model;
 
-/// The section of abbreviations, with the tables that are kept by their offsets in the file.
+/// How much room there is for tables beyond what those take that do not overlap.
+const SPARE: usize = 1 << 22;
+
+/// The section of abbreviations, with the tables that were read, by their offsets in the file.
 ///
-/// Many units can refer to one table, and tables can overlap. So there is room for as much as the
-/// section has bytes, which is enough for all tables that do not overlap.
+/// Many units can refer to one table, which is read once. Tables that do not overlap have at most
+/// as many abbreviations and attributes as the section has bytes. Each unit can refer to another
+/// tail of one long table, though, and what all those take grows as its square: there is room for
+/// some of it.
 #[derive(Debug, Drop)]
 pub(crate) struct Tables<'b> {
     section: Option<Part<'b>>,
@@ -46,7 +51,7 @@ impl<'b> Tables<'b> {
         Tables {
             section,
             kept: BTreeMap::new(alloc),
-            room: section.map_or(0, |part| part.len),
+            room: section.map_or(0, |part| part.len).saturating_add(SPARE),
         }
     }
 
@@ -84,14 +89,17 @@ impl<'b> Tables<'b> {
         }
     }
 
-    /// Keeps the table at an offset in the file, where there is room.
+    /// Keeps the table at an offset in the file.
+    ///
+    /// # Errors
+    /// `NoMemory` also where there is no room for the table.
     pub fn keep(&mut self, at: usize, table: EntryKinds) -> Result<(), NoMemory>
         requires { IsTableAt self.old at table }
         ensures { self.new ≡ self.old }
     {
         let room = table.room();
         if room > self.room {
-            return Ok(());
+            return Err(NoMemory);
         }
         self.kept.insert(at, table)?;
         self.room -= room;

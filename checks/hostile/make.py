@@ -123,6 +123,12 @@ def tails_of_a_table(n):
     return binary(b"".join(each) + b"\0", units, 0x1000)
 
 
+def tails_of_a_list(n):
+    """n units, each of which refers to another tail of one list of n attributes."""
+    table = b"\x01\x01\x01" + b"\x01\x01" * n + b"\0\0\0"
+    return binary(table, b"".join(unit(b"\0", 2 * k) for k in range(n)), 0x1000)
+
+
 def origins(n):
     """A unit of n functions, each of which refers to the next; every 17th has a name and no origin."""
     abbrevs = ROOT + abbreviation(2, 0x2E, 0, (NAME, STRING)) + abbreviation(3, 0x2E, 0, (ORIGIN, REF4))
@@ -535,7 +541,7 @@ def branches_of_16(n):
 
 
 CASES = [
-    small, abbreviations, shared_table, tails_of_a_table, empty_attributes, section_names, segments,
+    small, abbreviations, shared_table, tails_of_a_table, tails_of_a_list, empty_attributes, section_names, segments,
     origins, far_origins, range_lists, dead_range_lists, overlapping_ranges,
     nested_functions, nested_calls, deep_lines, deep_ranges,
     repeated_rows, repeated_sequences, nested_sequences, shared_lines, shared_lines_without_rows,

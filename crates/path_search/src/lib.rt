@@ -9,7 +9,6 @@
 #![tactic(auto)]
 
 mod around;
-mod distance;
 mod ground;
 mod look;
 mod next;

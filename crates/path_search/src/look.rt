@@ -1,12 +1,11 @@
 // The step over one arc, from the side that was settled last.
-ghost use Rattle.std.specs.Prelude.{◌≡◌, ◌<◌, length, OnOk};
+ghost use Rattle.std.specs.Prelude.{◌≡◌, ◌<◌, ◌≤◌, length, true, OnOk};
 ghost use Rattle.flow_model.specs.Prices.{FitsOn};
 ghost use Rattle.flow_network.specs.Cost.{IsCheap};
 ghost use Rattle.path_search.specs.Ground.{price_at};
-ghost use Rattle.path_search.specs.Search.{ComeNearer, IsLooking, LedAgainst, LedAlong};
+ghost use Rattle.path_search.specs.Search.{ComeNearer, IsLooking, LedAgainst, LedAlong, distance_at};
 ghost use Rattle.path_search.specs.Ways.{MarksAtMost};
 
-use crate::distance::distance_at;
 use crate::offer::offer;
 use crate::steps::{cost_of_less, cost_of_more, is_below, reduced};
 use flow_model::Arc;
@@ -34,8 +33,7 @@ pub(crate) fn look_along(
     ensures marked { OnOk result
         (MarksAtMost Way.Along prices.now place distance arc.now count marks.old marks.new) }
 {
-    // A step never costs less than nothing, so none brings nearer what is as near already.
-    if distance_at(marks, arc.head) <= distance {
+    if is_within(marks, arc.head, distance) {
         return Ok(());
     }
     if !is_below(arc.upper, count) {
@@ -74,7 +72,7 @@ pub(crate) fn look_against(
     ensures marked { OnOk result
         (MarksAtMost Way.Against prices.now place distance arc.now count marks.old marks.new) }
 {
-    if distance_at(marks, arc.tail) <= distance {
+    if is_within(marks, arc.tail, distance) {
         return Ok(());
     }
     if count <= arc.lower {
@@ -90,4 +88,19 @@ pub(crate) fn look_against(
         Way::Against,
     )?;
     Ok(())
+}
+
+/// Whether a side is known to be no further away than this. No step costs less than nothing, so
+/// none from a side at that distance brings it nearer.
+//
+// It is asked of each arc. A distance for sides without a mark, which would do away with the second
+// arm, made the whole solver a fifth slower.
+fn is_within(marks: &Marks, side: u32, distance: u64) -> bool
+    requires { side < length marks.now }
+    ensures { result ≡ true → distance_at marks.now side ≤ distance }
+{
+    match marks.get(side) {
+        Some(mark) => mark.distance <= distance,
+        None => false,
+    }
 }

@@ -2,7 +2,6 @@
 ghost use Rattle.std.specs.Prelude.{◌≡◌, ◌<◌, length, OnOk};
 ghost use Rattle.path_search.specs.Search.{Offers};
 
-use crate::distance::distance_at;
 use reached_sides::{Frontier, Mark, Marks, Way};
 use refusal::NoMemory;
 
@@ -20,8 +19,10 @@ pub(crate) fn offer(
         (Offers side (record { distance = distance; arc = arc; way = way; rank = None })
         marks.old frontier.old marks.new frontier.new) }
 {
-    if distance_at(marks, side) <= distance {
-        return Ok(());
+    if let Some(known) = marks.get(side) {
+        if known.distance <= distance {
+            return Ok(());
+        }
     }
     let rank = None;
     marks.set(

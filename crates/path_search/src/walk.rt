@@ -8,7 +8,6 @@ ghost use Rattle.path_search.specs.Search.{HasClosed, HasReached, distance_at, s
 ghost use Rattle.path_search.specs.Ways.{HasComeTo, HasEnded, HasWays, IsUnderWay};
 
 use crate::around::look_around;
-use crate::distance::distance_at;
 use crate::ground::Ground;
 use crate::next::next_open;
 use crate::settle::{begin, settle};
@@ -91,7 +90,10 @@ impl Search {
         requires { side < length self.now.marks }
         ensures { result ≡ distance_at self.now.marks side }
     {
-        distance_at(&self.marks, side)
+        match self.marks.get(side) {
+            Some(mark) => mark.distance,
+            None => u64::MAX,
+        }
     }
 
     /// Takes the nearest open side from the frontier, with its distance; `None` exactly where no

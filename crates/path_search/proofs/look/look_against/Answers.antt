@@ -29,8 +29,5 @@ returns-clause-marked c =
     let cost = c.cost_of_less.ensures.value in
     taken_by _ _ _ _ _ _ _ _ _ _ _ c.requires.looking c.if-count-arc.false refl refl refl (omega arith) (omega (arith, ints, value, cost)) c.in_ok-offer.ensures
 
-pub returns-then-distance_at-distance-clause-led : goal.returns-then-distance_at-distance-clause-led
-returns-then-distance_at-distance-clause-led c =
-    let is = c.distance_at.ensures in
-    let near = c.if-distance_at-distance.true in
-    led_back_against _ _ _ _ _ c.requires.fits (omega (arith, is, near))
+pub returns-then-is_within-clause-led : goal.returns-then-is_within-clause-led
+returns-then-is_within-clause-led c = led_back_against _ _ _ _ _ c.requires.fits (c.is_within.ensures c.if-is_within.true)

@@ -13,19 +13,21 @@ use std::alloc::Global;
 use std::collections::BTreeMap;
 use std::marker::Model;
 
-/// How much room there is for tables beyond what those take that do not overlap.
+/// How many abbreviations, attributes and ends of tables there is room for, beyond as many as the
+/// section has bytes.
 const SPARE: usize = 1 << 22;
 
 /// The section of abbreviations, with the tables that were read, by their offsets in the file.
 ///
 /// Many units can refer to one table, which is read once. Tables that do not overlap have at most
 /// as many abbreviations and attributes as the section has bytes. Each unit can refer to another
-/// tail of one long table, though, and what all those take grows as its square: there is room for
-/// some of it.
+/// tail of one long table, though, and what all those take grows as the square of that table: what
+/// passes `SPARE` is `NoMemory`.
 #[derive(Debug, Drop)]
 pub(crate) struct Tables<'b> {
     section: Option<Part<'b>>,
     kept: BTreeMap<usize, EntryKinds>,
+    /// What is left of the room, in the units of `EntryKinds::room`.
     room: usize,
 }
 

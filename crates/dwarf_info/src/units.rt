@@ -77,8 +77,8 @@ fn read_by_table<'a>(
     Ok(())
 }
 
-/// Reads the entries of a unit whose header was read. Its table of abbreviations is read only where
-/// it is not kept.
+/// Reads the entries of a unit whose header was read. Its table of abbreviations is read for the
+/// first unit that refers to it.
 fn read_unit<'a>(
     alloc: Global,
     cur: &mut Cur<'a>,

@@ -16,8 +16,9 @@ use Rattle.reached_sides.specs.declared.mark.Way.{Way}
 use Rattle.reached_sides.specs.declared.mark.Way.TheVariants.{Along, Against}
 use Rattle.path_search.specs.Ground.{AreSmall, IsSmallCost, IsSmallPrice, IsGround, arc_at, count_at, price_at, sides_of}
 use Rattle.path_search.specs.Search.{mark_at, distance_of, distance_at, is_settled, settled_count}
-use Rattle.path_search.specs.Ways.{start_of, IsOpen, cost_of_step, rank_of, IsWayCost, AreWays}
+use Rattle.path_search.specs.Ways.{start_of, IsOpen, cost_of_step, rank_of, AreWays}
 use Rattle.path_search.proofs.RowLemmas.{placed}
+use Rattle.std.specs.Prelude.{ℤ, pos, ◌+ℤ◌, ◌≤ℤ◌}
 use Rattle.path_search.proofs.SearchLemmas.{few_settled}
 
 pub few_sides : (net : Network) → IsNet net → sides_of net < 2 ^ 18
@@ -64,6 +65,11 @@ step_is_small Along arc n cheap leaves = more_is_small arc n cheap
 step_is_small Against arc n cheap leaves = less_is_small arc n (omega (arith, leaves)) cheap
 
 -- ---- a whole way
+
+-- distance and price of a side are together within this much of a level: what a way there costs
+pub record IsWayCost (level : ℤ) (prices : List ℤ) (side distance most : ℕ) : Type 0 where
+  pub above : (pos distance +ℤ price_at prices side) ≤ℤ (level +ℤ pos most)
+  pub below : level ≤ℤ (pos distance +ℤ price_at prices side +ℤ pos most)
 
 pub settled_mark : (at : Option Mark) → is_settled at ≡ true → (mark : Mark) × (at ≡ Some mark)
 settled_mark None settled = absurd (cc)

@@ -64,7 +64,6 @@ pub record HasBegun (net : Network) (counts : List ℕ) (prices excess : List �
     : Type 0 where
   pub done : HasSettled net counts prices excess source marks
   pub next : IsNext marks [] source 0
-  pub none_settled : (side : ℕ) → is_settled (mark_at marks side) ≡ false
 
 pub begins : (net : Network) (counts : List ℕ) (prices excess : List ℤ) (source n : ℕ) (marks : List (Option Mark))
     → IsGround net counts prices → source < length prices → n ≡ length prices
@@ -97,7 +96,6 @@ begins net counts prices excess source n marks ground within same is =
         ahead = All-nil (λ (entry : ℕ × ℕ). 0 ≤ entry.0);
         behind = λ other settled. absurd (never_settled other settled);
       };
-      none_settled = begun_now.none_settled;
     }
 
 -- ---- one side more

@@ -70,7 +70,7 @@ pub record IsSearching (marks : List (Option Mark)) (frontier : List (ℕ × ℕ
   pub ahead : All (λ entry. limit ≤ entry.0) frontier
   pub behind : (side : ℕ) → is_settled (mark_at marks side) ≡ true → distance_at marks side ≤ limit
 
--- A search that looks from a side at this distance, settled last: there is room for one more step.
+-- What holds while a search looks from a side at this distance, so that one step more stays within 64 bits.
 pub record IsLooking (prices : List ℤ) (marks : List (Option Mark)) (frontier : List (ℕ × ℕ)) (distance : ℕ)
     : Type 0 where
   pub small : AreSmall prices

@@ -1,5 +1,5 @@
 -- The way back from a side that a search has reached: each mark tells the last step of a way from the source.
-use Rattle.std.specs.Prelude.{◌≡◌, ℕ, ◌<◌, ◌≤◌, true, false, ◌⊎◌, ◌≢◌, List, length, slice_index, slice_set, Option, None, Some, ℤ, pos, ◌+ℤ◌, ◌≤ℤ◌, unwrap_or, IfSome, MatchOption}
+use Rattle.std.specs.Prelude.{◌≡◌, ℕ, ◌<◌, ◌≤◌, true, false, ◌⊎◌, ◌≢◌, List, length, slice_index, slice_set, Option, None, Some, ℤ, pos, ◌+ℤ◌, unwrap_or, IfSome, MatchOption}
 use Rattle.flow_model.specs.declared.arc.Arc.{Arc}
 use Rattle.flow_model.specs.Network.{Network, arcs_of}
 use Rattle.flow_model.specs.Prices.{IsBelow}
@@ -49,13 +49,8 @@ pub record IsStepTo (net : Network) (counts : List ℕ) (prices : List ℤ) (mar
       +ℤ reduced (price_at prices) (start_of mark.way (arc_at (arcs_of net) mark.arc)) side
       (cost_of_step mark.way (arc_at (arcs_of net) mark.arc) (count_at counts mark.arc))
 
--- The distance of a side and its price differ together from a level by at most this much: by what a way there costs.
-pub record IsWayCost (level : ℤ) (prices : List ℤ) (side distance most : ℕ) : Type 0 where
-  pub above : (pos distance +ℤ price_at prices side) ≤ℤ (level +ℤ pos most)
-  pub below : level ≤ℤ (pos distance +ℤ price_at prices side +ℤ pos most)
-
--- Marks tell ways back to the source, which was settled first. The level is the price that the source had at the
--- distance 0.
+-- Marks tell ways back to the source, which is settled before any other side. The level is the sum of its distance and
+-- price, which no move of prices changes.
 pub record AreWays (net : Network) (counts : List ℕ) (prices : List ℤ) (source : ℕ) (marks : List (Option Mark))
     : Type 0 where
   pub level : ℤ
@@ -66,7 +61,7 @@ pub record AreWays (net : Network) (counts : List ℕ) (prices : List ℤ) (sour
       → IsStepTo net counts prices marks side mark
   pub ranked : (side : ℕ) → is_settled (mark_at marks side) ≡ true → rank_of (mark_at marks side) < settled_count marks
 
--- And a side was settled last.
+-- And a side is settled at this distance.
 pub record AreWaysFrom (net : Network) (counts : List ℕ) (prices : List ℤ) (source side distance : ℕ)
     (marks : List (Option Mark)) : Type 0 where
   pub ways : AreWays net counts prices source marks
@@ -134,8 +129,8 @@ pub record HasComeTo (net : Network) (counts : List ℕ) (prices excess : List �
   pub ways : AreWays net counts prices source marks
   pub settled : AreSettled marks order
 
--- How a search ends: it has come to a side that lacks something, with the ways to all that it reached, or has closed:
--- no step leaves what it reached, and no side there lacks anything. The settled sides are listed in their order.
+-- How a search ends. It has come to a side that lacks something, with the ways to all that it reached; or no step
+-- leaves what it reached, and no side there lacks anything. In both cases the settled sides are listed in their order.
 pub record HasEnded (net : Network) (counts : List ℕ) (prices excess : List ℤ) (source : ℕ) (marks : List (Option Mark))
     (frontier : List (ℕ × ℕ)) (order : List ℕ) (found : Option ℕ) : Type 0 where
   pub reached : MatchOption found (HasClosed net counts prices excess source marks)

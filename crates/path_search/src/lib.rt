@@ -1,8 +1,8 @@
 //! The cheapest way from one side of a network to a side that lacks counts, over the steps that
 //! counts leave.
 //!
-//! The search settles sides in the order of their distances by reduced costs and ends at the first
-//! one that lacks something, so it mostly looks at a few sides near its source.
+//! The search comes to sides in the order of their distances by reduced costs, and settles each up
+//! to the first one that lacks something. So it mostly looks at a few sides near its source.
 //!
 //! Source: Ahuja, Magnanti and Orlin, "Network Flows", 4.5 (Dijkstra's algorithm) and 9.7
 //! (successive shortest paths).

@@ -90,11 +90,11 @@ pub(crate) fn look_against(
     Ok(())
 }
 
-/// Whether a side is known to be no further away than this. No step costs less than nothing, so
-/// none from a side at that distance brings it nearer.
+/// True only where a side is marked as no further away than this. No step costs less than nothing,
+/// so none from a side at that distance brings it nearer.
 //
-// It is asked of each arc. A distance for sides without a mark, which would do away with the second
-// arm, made the whole solver a fifth slower.
+// It is asked of each arc. To give sides without a mark the greatest distance, which would save the
+// second arm, made the whole solver a fifth slower.
 fn is_within(marks: &Marks, side: u32, distance: u64) -> bool
     requires { side < length marks.now }
     ensures { result ≡ true → distance_at marks.now side ≤ distance }

@@ -1,8 +1,6 @@
 // The search from one side.
 ghost use Rattle.std.specs.Prelude.{◌≡◌, ◌*◌, ◌<◌, ◌≤◌, ◌<ℤ◌, ◌≤ℤ◌, ◌+◌, pos, ℕ, length, replicate, None};
-ghost use Rattle.std.specs.Prelude.{IfNone, IfOk, IfSome, MatchOption, OnOk};
-ghost use Rattle.flow_model.specs.Network.{arcs_of};
-ghost use Rattle.residual_model.specs.Laws.{HoldBelow, IsClosed};
+ghost use Rattle.std.specs.Prelude.{IfNone, IfOk, IfSome, OnOk};
 ghost use Rattle.path_search.specs.Ground.{IsGround, price_at};
 ghost use Rattle.path_search.specs.Search.{HasClosed, HasReached, distance_at, settled_count};
 ghost use Rattle.path_search.specs.Ways.{HasComeTo, HasEnded, HasWays, IsUnderWay};
@@ -42,7 +40,8 @@ impl Search {
     /// `None` exactly where no such side can be reached.
     ///
     /// Afterwards the marks tell the distances of the sides that the search has reached, from 0 at
-    /// the source on, and ways back from them to it; the settled ones are listed in their order.
+    /// the source on, and, where a side is found, ways back from them to the source. The settled
+    /// ones are listed in their order.
     pub fn find(&mut self, ground: Ground<'_>, source: u32) -> Result<Option<u32>, NoMemory>
         requires ground { IsGround ground.net.now ground.counts.now ground.prices.now }
         requires told { length ground.excess.now ≡ length ground.prices.now }
@@ -154,8 +153,8 @@ impl Search {
         }
     }
 
-    /// Settles the nearest open side, and looks over the arcs that meet it. The source is where the
-    /// search has begun.
+    /// Settles the nearest open side, and looks over the arcs that meet it. The source stands in
+    /// the contract alone.
     fn pass(
         &mut self,
         ground: Ground<'_>,

@@ -34,7 +34,7 @@ exit status:
   4  a file is refused; its first bad place is named
   5  a file could not be read
   6  the output could not be written
-  7  memory was refused
+  7  memory was refused, or a file needs too much of it
 ";
 
 /// What `--version` prints.

@@ -9,6 +9,7 @@ use Rattle.reached_sides.specs.declared.mark.Mark.{Mark}
 use Rattle.path_search.specs.Ground.{price_at}
 use Rattle.path_search.specs.Search.{mark_at, distance_at, distance_of, is_settled, settled_count, settled_one}
 use Rattle.path_search.specs.Ways.{rank_of, AreInOrder}
+use Rattle.path_search.proofs.CostLemmas.{settled_mark}
 use Rattle.path_search.proofs.SearchLemmas.{IsSet, set_is}
 use Rattle.flow_solver.specs.Level.{IsLevelled, put_at}
 
@@ -133,10 +134,6 @@ put_begins marks limit = record {
   count = refl;
 }
 
-a_mark : (at : Option Mark) → is_settled at ≡ true → (mark : Mark) × (at ≡ Some mark)
-a_mark None settled = absurd (cc)
-a_mark (Some mark) settled = (mark, refl)
-
 pub put_more : (marks : List (Option Mark)) (order : List ℕ) (limit : ℕ) (now new : List (Option Mark)) (k : ℕ) → AreInOrder marks order
     → k < length order → get_or order k 0 < length marks
     → new ≡ slice_set now (get_or order k 0) (put_at limit (mark_at now (get_or order k 0)))
@@ -145,7 +142,7 @@ put_more marks order limit now new k ordered below inside is so_far =
     let here = get_or order k 0 in
     let placed = ordered.settled k below in
     let was = so_far.rest here (λ settled. let rank = placed.1 in omega (arith, rank)) in
-    let found = a_mark (mark_at marks here) placed.0 in
+    let found = settled_mark (mark_at marks here) placed.0 in
     let after : Mark = record found.0 { distance = limit } in
     let value : put_at limit (mark_at now here) ≡ Some after = ap (put_at limit) (was ∙ found.1) in
     let is_set : new ≡ slice_set now here (Some after) = is ∙ ap (slice_set now here) value in

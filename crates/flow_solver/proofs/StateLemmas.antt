@@ -19,7 +19,7 @@ use Rattle.reached_sides.specs.declared.mark.Mark.{Mark}
 use Rattle.path_search.specs.Ground.{IsSmallPrice, AreSmall, arc_at, count_at, price_at, sides_of}
 use Rattle.path_search.specs.Search.{distance_of, distance_at, settled_count, HasReached}
 use Rattle.path_search.specs.Ways.{HasEnded, HasWays}
-use Rattle.path_search.proofs.CostLemmas.{few_sides, small_at, way_cost}
+use Rattle.path_search.proofs.CostLemmas.{few_sides, small_at, way_cost, way_near}
 use Rattle.path_search.proofs.RowLemmas.{each_by_place}
 use Rattle.path_search.proofs.SearchLemmas.{few_settled}
 use Rattle.augmenting_path.specs.declared.step.Step.{Step}
@@ -122,12 +122,10 @@ few_marks net counts prices excess source side marks found =
 pub limit_near : (net : Network) (counts : List ℕ) (prices excess : List ℤ) (source side : ℕ) (marks : List (Option Mark))
     → IsFound net counts prices excess source side marks → distance_at marks side < 2 ^ 62
 limit_near net counts prices excess source side marks found =
-    let few = few_marks net counts prices excess source side marks found in
     let mark = marked marks side side found.ways.waits (inl refl) in
-    let cost = way_cost net counts prices source marks found.state.ground found.ways.ways side mark.0 mark.1 in
+    let near = way_near net counts prices source marks found.state.ground found.ways.ways found.reached.settled.each side mark.0 mark.1 in
     let d = ap distance_of mark.1 in
-    let here = small_at prices found.state.ground.small side in
-    omega (arith, ints, few, cost.above, d, here.least, found.ways.ways.small.most)
+    omega (arith, near, d)
 
 -- a side that lacks something is no nearer than the one that was found
 lacking_far : (net : Network) (counts : List ℕ) (prices excess : List ℤ) (source side : ℕ) (marks : List (Option Mark))

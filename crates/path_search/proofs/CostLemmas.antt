@@ -1,6 +1,6 @@
 -- What ways cost, and so how far away sides can be.
 use Rattle.std.proofs.Common.{◌≡◌, ℕ, zero, suc, ◌*◌, ◌^◌, ◌<◌, true, List, length, Option, None, Some, inl, inr, refl, arith, ap, sym, ◌∙◌}
-use Rattle.std.specs.Prelude.{ℤ, pos}
+use Rattle.std.specs.Prelude.{ℤ, pos, ◌+ℤ◌, ◌≤ℤ◌}
 use Rattle.std.proofs.lemmas.Bool.{cases_eq, cases_lt}
 use Rattle.std.proofs.lemmas.Int.{ints}
 use Rattle.std.proofs.lemmas.List.{get_or_past}
@@ -18,7 +18,6 @@ use Rattle.path_search.specs.Ground.{AreSmall, IsSmallCost, IsSmallPrice, IsGrou
 use Rattle.path_search.specs.Search.{mark_at, distance_of, distance_at, is_settled, settled_count}
 use Rattle.path_search.specs.Ways.{start_of, IsOpen, cost_of_step, rank_of, AreWays}
 use Rattle.path_search.proofs.RowLemmas.{placed}
-use Rattle.std.specs.Prelude.{ℤ, pos, ◌+ℤ◌, ◌≤ℤ◌}
 use Rattle.path_search.proofs.SearchLemmas.{few_settled}
 
 pub few_sides : (net : Network) → IsNet net → sides_of net < 2 ^ 18

@@ -38,7 +38,8 @@ pub record BalancesAt (edges : List Edge) (counts : Counts) (number : ℕ) (bloc
 pub record IsBalanced (blocks : List Block) (edges : List Edge) (weights : List Weight) (counts : Counts) : Type 0 where
   pub block_counts : length counts.blocks ≡ length blocks
   pub edge_counts : length counts.edges ≡ length edges
-  pub balance : (number : ℕ) (block : Block) → slice_get blocks number ≡ Some block → BalancesAt edges counts number block
+  pub balance : (number : ℕ) (block : Block) → slice_get blocks number ≡ Some block
+      → BalancesAt edges counts number block
   pub within : (number : ℕ) (edge : Edge) → slice_get edges number ≡ Some edge
       → IsWithinBound edge.bound (slice_index counts.edges number)
   pub called : some_sampled weights ≡ true → came_to edges counts.edges 0 < slice_index counts.blocks 0

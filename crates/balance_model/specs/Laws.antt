@@ -15,7 +15,8 @@ abbrev pub BalanceIsConservation : Type 0
 BalanceIsConservation =
     (blocks : List Block) (edges : List Edge) (weights edge_weights : List Weight) (counts : Counts)
     → IsSound blocks edges → AreWeights (length blocks) weights → AreWeights (length edges) edge_weights
-    → ConserveWithinBounds (network_of blocks edges weights edge_weights) counts ↔ IsBalanced blocks edges weights counts
+    → ConserveWithinBounds (network_of blocks edges weights edge_weights) counts
+    ↔ IsBalanced blocks edges weights counts
 
 -- All blocks and edges pass their tests exactly where counts conserve within bounds and the prices fit them.
 abbrev pub TestsAreExact : Type 0

@@ -1,5 +1,5 @@
 -- The definitions on worked values.
-use Rattle.std.proofs.Common.{◌≡◌, ℕ, Bool, true, false, List, [], ◌∷◌, Some, None, refl, arith, get_or}
+use Rattle.std.proofs.Common.{◌≡◌, ℕ, Bool, true, false, List, [], ◌∷◌, ◌++◌, codes, Some, None, refl, arith, get_or}
 use Rattle.std.specs.Prelude.{ℤ, pos, map, not, ◌==◌, ◌||◌}
 use Rattle.std.proofs.lemmas.Int.{ints}
 use Rattle.block_model.specs.declared.parts.Block.{Block}
@@ -7,6 +7,12 @@ use Rattle.block_model.specs.declared.parts.Bound.{Bound}
 use Rattle.block_model.specs.declared.parts.Edge.{Edge}
 use Rattle.block_model.specs.declared.parts.Weight.{Weight}
 use Rattle.block_model.specs.declared.parts.Weight.TheVariants.{Unknown, Known}
+use Rattle.block_model.specs.Function.{Function}
+use Rattle.block_model.specs.Line.{place_of, address_of, bound_by_word, bound_of, block_line_of, edge_line_of, line_by_fields, line_of}
+use Rattle.block_model.specs.Text.{functions_from, functions_of}
+use Rattle.text_model.specs.Fields.{fields_of}
+use Rattle.text_model.specs.Lines.{lines_of}
+use Rattle.text_model.specs.Numbers.{number_of, prefixed_of}
 use Rattle.flow_model.specs.declared.arc.Arc.{Arc}
 use Rattle.flow_model.specs.Circulation.{inflow, outflow, IsWithin, cost_on}
 use Rattle.flow_model.specs.Cut.{least_in, most_out, IsCut}
@@ -97,6 +103,28 @@ edges_count = refl
 each_once : cost_of (two_ways none none (Known 1 ∷ Known 1 ∷ Known 1 ∷ Known 2 ∷ []) (Known 1 ∷ Known 1 ∷ Known 1 ∷ Known 1 ∷ []))
     (record { blocks = 2 ∷ 1 ∷ 1 ∷ 2 ∷ []; edges = 1 ∷ 1 ∷ 1 ∷ 1 ∷ [] }) ≡ 40
 each_once = refl
+
+-- and so what the generated block text of one function says
+abbrev part : ℕ → ℕ → Bool → Block
+part lo hi exit = record { lo = lo; hi = hi; exit = exit; bound = none }
+
+abbrev generated_function : Function
+generated_function = record {
+  name = codes "f0000";
+  blocks = part 0x401000 0x401008 false ∷ part 0x401008 0x401010 false ∷ part 0x401010 0x401020 false ∷ part 0x401020 0x401040 true ∷ [];
+  edges = edge 0 1 ∷ edge 0 2 ∷ edge 1 3 ∷ edge 2 3 ∷ [];
+}
+
+generated : functions_of (
+    codes "func f0000\nblock 0 0x401000 0x401008\nblock 1 0x401008 0x401010\nblock 2 0x401010 0x401020\n"
+    ++ codes "block 3 0x401020 0x401040 exit\nedge 0 1\nedge 0 2\nedge 1 3\nedge 2 3\nend\n")
+    ≡ generated_function ∷ []
+unfolding functions_from line_of line_by_fields block_line_of edge_line_of place_of address_of bound_of bound_by_word fields_of number_of prefixed_of lines_of
+generated = refl
+
+generated_costs : cost_of (network_of generated_function.blocks generated_function.edges (Known 1 ∷ Known 1 ∷ Known 1 ∷ Known 2 ∷ []) (Known 1 ∷ Known 1 ∷ Known 1 ∷ Known 1 ∷ []))
+    (record { blocks = 2 ∷ 1 ∷ 1 ∷ 2 ∷ []; edges = 1 ∷ 1 ∷ 1 ∷ 1 ∷ [] }) ≡ 40
+generated_costs = refl
 
 -- the exit runs at most once
 at_most_once : cost_of (two_ways none (record { lower = 0; upper = Some 1 }) (Known 1 ∷ Known 1 ∷ Known 1 ∷ Known 2 ∷ []) unknown)

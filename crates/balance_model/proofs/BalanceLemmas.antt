@@ -1,5 +1,6 @@
--- Balance at each block is conservation.
-use Rattle.std.proofs.Common.{◌≡◌, ℕ, ◌+◌, ◌-◌, ◌==◌, Bool, true, false, List, ◌++◌, length, get_or, map, if◌then◌else◌, refl, arith, sym, subst, inl, inr, ◌∙◌}
+-- Balance at the arc of each block is conservation.
+use Rattle.std.proofs.Common.{◌≡◌, ℕ, ◌+◌, ◌-◌, ◌≤◌, ◌==◌, Bool, true, false, List, ◌++◌, length, get_or, map, if◌then◌else◌, refl, arith, sym, subst, inl, inr, ◌∙◌}
+use Rattle.std.specs.Prelude.{◌↔◌}
 use Rattle.std.specs.List.{list_any}
 use Rattle.std.proofs.lemmas.Bool.{ne_eqb, cases_eq, cases_lt}
 use Rattle.std.proofs.lemmas.List.{get_or_past}
@@ -11,11 +12,24 @@ use Rattle.flow_model.specs.declared.arc.Arc.{Arc}
 use Rattle.flow_model.specs.Circulation.{EachArc, IsWithin, inflow, outflow, Conserve}
 use Rattle.flow_model.specs.Network.{in_side, out_side, Network, arcs_of, network_of, Counts, calls, returns, loads}
 use Rattle.flow_model.specs.Repair.{AreCounts, ConserveWithinBounds}
-use Rattle.balance_model.specs.Balance.{MakesUp, BalancesAt, IsBalanced}
-use Rattle.balance_model.specs.Sound.{JoinsBlocks, IsSound, AreWeights}
-use Rattle.balance_model.specs.Laws.{BalanceIsConservation}
+use Rattle.balance_model.specs.Balance.{MakesUp}
+use Rattle.balance_model.specs.Passing.{came_by_edges, went_by_edges, is_entry, is_exit}
+use Rattle.balance_model.specs.Sound.{JoinsBlocks, IsSound, AreWeights, IsNet}
 use Rattle.balance_model.proofs.ArcLemmas.{each_split, each_join, each_from, each_from_both, sum_where_none}
 use Rattle.balance_model.proofs.NetLemmas.{IsWoven, into_in_side, out_of_in_side, into_out_side, out_of_out_side, tail_count, each_by_number, each_at_number, length-block_arcs, side_of, returns_within, no_edge_to, no_edge_from}
+
+-- the count on a block's arc is within its bounds, and balances at both sides
+pub record ArcBalances (net : Network) (counts : Counts) (arc : Arc) (n : ℕ) : Type 0 where
+  pub within : IsWithin arc n
+  pub entered : MakesUp (is_entry net arc) (came_by_edges net counts arc) n
+  pub left : MakesUp (is_exit net arc) (went_by_edges net counts arc) n
+
+-- all blocks do, each edge's count is within its bounds, and there are enough calls
+pub record ArcsBalance (net : Network) (counts : Counts) : Type 0 where
+  pub each : AreCounts net counts
+  pub blocks : EachArc (ArcBalances net counts) net.blocks counts.blocks
+  pub edges : EachArc IsWithin net.edges counts.edges
+  pub called : net.calls.lower ≤ calls net counts
 
 makes_up_from : (more : Bool) (part n : ℕ) → (if more then n - part else 0) + part ≡ n → MakesUp more part n
 makes_up_from true part n e = omega (arith, e)
@@ -83,10 +97,10 @@ conserve_from blocks edges weights edge_weights counts woven sides node apart =
 sides_at : (blocks : List Block) (edges : List Edge) (weights edge_weights : List Weight) (counts : Counts)
     → IsWoven blocks edges weights edge_weights counts
     → let net = network_of blocks edges weights edge_weights in
-    EachArc (BalancesAt net counts) net.blocks counts.blocks → (b : ℕ) → SidesMakeUp net counts b
+    EachArc (ArcBalances net counts) net.blocks counts.blocks → (b : ℕ) → SidesMakeUp net counts b
 sides_at blocks edges weights edge_weights counts woven each b =
     let net = network_of blocks edges weights edge_weights in
-    let balances = BalancesAt net counts in
+    let balances = ArcBalances net counts in
     let counted = woven.counted in
     elim (cases_lt b (length counts.blocks)) [
       | inl within ↦
@@ -107,7 +121,7 @@ sides_at blocks edges weights edge_weights counts woven each b =
 balanced_from : (blocks : List Block) (edges : List Edge) (weights edge_weights : List Weight) (counts : Counts)
     → IsWoven blocks edges weights edge_weights counts
     → let net = network_of blocks edges weights edge_weights in
-    ConserveWithinBounds net counts → IsBalanced net counts
+    ConserveWithinBounds net counts → ArcsBalance net counts
 balanced_from blocks edges weights edge_weights counts woven conserve =
     let net = network_of blocks edges weights edge_weights in
     let backs = map (returns net counts) net.returns in
@@ -122,7 +136,7 @@ balanced_from blocks edges weights edge_weights counts woven conserve =
     (λ b k block weight e. let same : k ≡ b = omega (arith, e) in rw same ((sides b).entered, (sides b).left)) in
     record {
       each = conserve.each;
-      blocks = each_from_both IsWithin Sides (BalancesAt net counts) (λ arc n bounded both. record { within = bounded; entered = both.0; left = both.1 })
+      blocks = each_from_both IsWithin Sides (ArcBalances net counts) (λ arc n bounded both. record { within = bounded; entered = both.0; left = both.1 })
           net.blocks counts.blocks front.0 each;
       edges = back.0;
       called = within.0.0;
@@ -131,11 +145,11 @@ balanced_from blocks edges weights edge_weights counts woven conserve =
 conserving_from : (blocks : List Block) (edges : List Edge) (weights edge_weights : List Weight) (counts : Counts)
     → IsWoven blocks edges weights edge_weights counts
     → let net = network_of blocks edges weights edge_weights in
-    IsBalanced net counts → ConserveWithinBounds net counts
+    ArcsBalance net counts → ConserveWithinBounds net counts
 conserving_from blocks edges weights edge_weights counts woven balanced =
     let net = network_of blocks edges weights edge_weights in
     let backs = map (returns net counts) net.returns in
-    let balances = BalancesAt net counts in
+    let balances = ArcBalances net counts in
     let bounded = each_from balances IsWithin (λ arc n here. here.within) net.blocks counts.blocks balanced.blocks in
     let back = each_join IsWithin net.edges net.returns counts.edges backs balanced.edges (returns_within (returns net counts) 0 blocks) in
     let all = each_join IsWithin net.blocks (net.edges ++ net.returns) counts.blocks (counts.edges ++ backs) bounded back in
@@ -159,8 +173,8 @@ woven_from blocks edges weights edge_weights counts sound weighed are = record {
   counted = are.blocks ∙ length-block_arcs 0 blocks weights weighed.each;
 }
 
-pub balance_is_conservation : BalanceIsConservation
-balance_is_conservation net counts is =
+pub arcs_balance : (net : Network) (counts : Counts) → IsNet net → ConserveWithinBounds net counts ↔ ArcsBalance net counts
+arcs_balance net counts is =
     let here = network_of is.blocks is.edges is.weights is.edge_weights in
     let woven = λ (are : AreCounts here counts). woven_from is.blocks is.edges is.weights is.edge_weights counts is.sound is.block_weighed are in
     rw is.same (

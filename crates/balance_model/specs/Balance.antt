@@ -1,42 +1,45 @@
--- Conservation said block by block.
-use Rattle.std.specs.Prelude.{◌≡◌, ℕ, ◌≤◌, ◌==◌, Bool, true, false}
-use Rattle.std.specs.List.{list_any}
-use Rattle.flow_model.specs.declared.arc.Arc.{Arc}
-use Rattle.flow_model.specs.Circulation.{EachArc, IsWithin, inflow, outflow}
-use Rattle.flow_model.specs.Network.{Network, Counts, calls}
-use Rattle.flow_model.specs.Repair.{AreCounts}
+-- Conservation as a reader of counts says it: over the blocks and edges of a function, by their numbers.
+use Rattle.std.specs.Prelude.{◌≡◌, ℕ, ◌+◌, ◌<◌, ◌≤◌, ◌==◌, Bool, true, false, List, ◌∷◌, length, slice_get, slice_index, Some, if◌then◌else◌}
+use Rattle.block_model.specs.declared.parts.Block.{Block}
+use Rattle.block_model.specs.declared.parts.Bound.{Bound}
+use Rattle.block_model.specs.declared.parts.Edge.{Edge}
+use Rattle.block_model.specs.declared.parts.Weight.{Weight}
+use Rattle.flow_model.specs.Circulation.{IsAtMost}
+use Rattle.flow_model.specs.Network.{Counts, some_sampled}
+
+-- How often edges lead to a block: the sum of the counts of those that do.
+abbrev pub came_to : List Edge → List ℕ → ℕ → ℕ
+came_to (edge ∷ edges) (n ∷ counts) block = (if edge.to == block then n else 0) + came_to edges counts block
+came_to _ _ block = 0
+
+-- How often edges lead from a block.
+abbrev pub went_from : List Edge → List ℕ → ℕ → ℕ
+went_from (edge ∷ edges) (n ∷ counts) block = (if edge.from == block then n else 0) + went_from edges counts block
+went_from _ _ block = 0
 
 -- A part is all of the count, or at most all of it where there may be a rest.
 abbrev pub MakesUp : Bool → ℕ → ℕ → Type 0
 MakesUp true part n = part ≤ n
 MakesUp false part n = part ≡ n
 
--- How often edges lead to where the block of this arc is entered.
-abbrev pub came_by_edges : Network → Counts → Arc → ℕ
-came_by_edges net counts arc = inflow net.edges counts.edges arc.tail
+-- A count is within a bound.
+abbrev pub IsWithinBound : Bound → ℕ → Type 0
+IsWithinBound bound n = (bound.lower ≤ n) × IsAtMost bound.upper n
 
--- How often edges lead from where the block of this arc is left.
-abbrev pub went_by_edges : Network → Counts → Arc → ℕ
-went_by_edges net counts arc = outflow net.edges counts.edges arc.head
+-- A block runs as often as edges lead to it, and block 0 at least so often, the rest being calls; as often as edges
+-- lead from it, and an exit at least so often, the rest being returns; and so often as its bound allows.
+pub record BalancesAt (edges : List Edge) (counts : Counts) (number : ℕ) (block : Block) : Type 0 where
+  pub entered : MakesUp (number == 0) (came_to edges counts.edges number) (slice_index counts.blocks number)
+  pub left : MakesUp block.exit (went_from edges counts.edges number) (slice_index counts.blocks number)
+  pub within : IsWithinBound block.bound (slice_index counts.blocks number)
 
--- Whether the block of this arc is the one that calls enter.
-abbrev pub is_entry : Network → Arc → Bool
-is_entry net arc = arc.tail == net.calls.head
-
--- Whether the function returns from the block of this arc.
-abbrev pub is_exit : Network → Arc → Bool
-is_exit net arc = list_any (λ back. back.tail == arc.head) net.returns
-
--- A block runs as often as edges lead to it, and to the entry calls do as well; and as often as edges lead on, and from
--- an exit returns do as well.
-pub record BalancesAt (net : Network) (counts : Counts) (arc : Arc) (n : ℕ) : Type 0 where
-  pub within : IsWithin arc n
-  pub entered : MakesUp (is_entry net arc) (came_by_edges net counts arc) n
-  pub left : MakesUp (is_exit net arc) (went_by_edges net counts arc) n
-
--- Counts balance at each block, each edge's is within its bounds, and there are enough calls.
-pub record IsBalanced (net : Network) (counts : Counts) : Type 0 where
-  pub each : AreCounts net counts
-  pub blocks : EachArc (BalancesAt net counts) net.blocks counts.blocks
-  pub edges : EachArc IsWithin net.edges counts.edges
-  pub called : net.calls.lower ≤ calls net counts
+-- Each block and each edge has a count; blocks balance, edges are taken so often as their bounds allow, and where a
+-- weight of a block is above 0 there is a call.
+pub record IsBalanced (blocks : List Block) (edges : List Edge) (weights : List Weight) (counts : Counts) : Type 0 where
+  pub block_counts : length counts.blocks ≡ length blocks
+  pub edge_counts : length counts.edges ≡ length edges
+  pub balance : (number : ℕ) (block : Block) → slice_get blocks number ≡ Some block
+      → BalancesAt edges counts number block
+  pub within : (number : ℕ) (edge : Edge) → slice_get edges number ≡ Some edge
+      → IsWithinBound edge.bound (slice_index counts.edges number)
+  pub called : some_sampled weights ≡ true → came_to edges counts.edges 0 < slice_index counts.blocks 0

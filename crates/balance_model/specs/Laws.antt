@@ -1,15 +1,33 @@
--- What conservation of a circulation means at blocks.
-use Rattle.std.specs.Prelude.{◌↔◌}
-use Rattle.flow_model.specs.Network.{Network, Counts}
-use Rattle.flow_model.specs.Repair.{ConserveWithinBounds}
+-- What conservation of a circulation means at blocks, and what the tests of blocks and edges show.
+use Rattle.std.specs.Prelude.{◌↔◌, ℕ, List, length, ℤ}
+use Rattle.block_model.specs.declared.parts.Block.{Block}
+use Rattle.block_model.specs.declared.parts.Edge.{Edge}
+use Rattle.block_model.specs.declared.parts.Weight.{Weight}
+use Rattle.flow_model.specs.Network.{Network, Counts, network_of}
+use Rattle.flow_model.specs.Repair.{AreLeast, ConserveWithinBounds, FitCounts}
 use Rattle.balance_model.specs.Balance.{IsBalanced}
-use Rattle.balance_model.specs.Sound.{IsNet, IsLimited}
+use Rattle.balance_model.specs.Passing.{AllTestsPass}
+use Rattle.balance_model.specs.Sound.{AreWeights, IsNet, IsSound, IsLimited}
 
 -- With the calls and the returns that they leave, counts of a function are a circulation within bounds exactly where
 -- they balance at each of its blocks.
 abbrev pub BalanceIsConservation : Type 0
 BalanceIsConservation =
-    (net : Network) (counts : Counts) → IsNet net → ConserveWithinBounds net counts ↔ IsBalanced net counts
+    (blocks : List Block) (edges : List Edge) (weights edge_weights : List Weight) (counts : Counts)
+    → IsSound blocks edges → AreWeights (length blocks) weights → AreWeights (length edges) edge_weights
+    → ConserveWithinBounds (network_of blocks edges weights edge_weights) counts
+    ↔ IsBalanced blocks edges weights counts
+
+-- All blocks and edges pass their tests exactly where counts conserve within bounds and the prices fit them.
+abbrev pub TestsAreExact : Type 0
+TestsAreExact =
+    (net : Network) (counts : Counts) (price : ℕ → ℤ)
+    → IsNet net → AllTestsPass net counts price ↔ (ConserveWithinBounds net counts × FitCounts price net counts)
+
+-- Where all pass, no counts of any size that conserve within bounds cost less.
+abbrev pub TestsShowLeast : Type 0
+TestsShowLeast =
+    (net : Network) (counts : Counts) (price : ℕ → ℤ) → IsNet net → AllTestsPass net counts price → AreLeast net counts
 
 -- Each network of a function is limited.
 abbrev pub NetsAreLimited : Type 0

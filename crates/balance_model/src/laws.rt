@@ -1,12 +1,20 @@
-// What a circulation means at the blocks of a function.
+// What a circulation means at the blocks of a function, and what the tests of blocks show.
 ghost use Rattle.balance_model.specs.Laws.{BalanceIsConservation, NetsAreLimited};
+ghost use Rattle.balance_model.specs.Laws.{TestsAreExact, TestsShowLeast};
 
 /// Counts of a function are a circulation within bounds, with the calls and the returns that they
-/// leave, exactly where each block runs as often as edges lead to it (at the entry at least so
-/// often) and as often as edges lead on (at an exit at least so often), and blocks, edges and
-/// calls are within their bounds.
+/// leave, exactly where each block runs as often as edges lead to it (block 0 at least so often)
+/// and as often as edges lead on (an exit at least so often), and blocks, edges and calls are
+/// within their bounds.
 pub fn balance_is_conservation()
     ensures { BalanceIsConservation }
+{}
+
+/// Each block and each edge passes its test exactly where the counts conserve within bounds and the
+/// prices fit them. Then no counts of any size that conserve within bounds cost less.
+pub fn tests_show_least_counts()
+    ensures exact { TestsAreExact }
+    ensures least { TestsShowLeast }
 {}
 
 /// The network of a function within the limits of a block text has fewer than 2^19 arcs, bounds

@@ -1,11 +1,14 @@
 -- The definitions on worked values.
-use Rattle.std.proofs.Common.{◌≡◌, List, [], ◌∷◌, refl, Some, None, true, false, codes, ℕ, Option}
+use Rattle.std.proofs.Common.{◌≡◌, Bool, List, [], ◌∷◌, ◌++◌, refl, Some, None, true, false, codes, ℕ, Option}
 use Rattle.refusal.specs.declared.kind.Kind.{Kind}
-use Rattle.refusal.specs.declared.kind.Kind.TheVariants.{BadLine, BlockOrder, BlockOverlap, NoBlocks, NoEndLine, BadBound, EdgeEnd, EdgeTwice}
+use Rattle.refusal.specs.declared.kind.Kind.TheVariants.{BadLine, BlockOrder, BlockEmpty, BlockOverlap, NoBlocks, NoEndLine, BadBound, EdgeEnd, EdgeTwice}
 use Rattle.refusal.specs.declared.place.Place.{Place}
 use Rattle.text_model.specs.Fields.{fields_of}
 use Rattle.text_model.specs.Lines.{lines_of}
 use Rattle.text_model.specs.Numbers.{number_of, prefixed_of}
+use Rattle.block_model.specs.declared.parts.Block.{Block}
+use Rattle.block_model.specs.declared.parts.Bound.{Bound}
+use Rattle.block_model.specs.declared.parts.Edge.{Edge}
 use Rattle.block_model.specs.Judging.{cause_of_block, cause_of_edge, cause_of_line, items_from, first_bad_of_text}
 use Rattle.block_model.specs.Line.{place_of, address_of, bounded_by, count_of, bound_by_word, bound_by_words, bound_of, block_line_of, edge_line_of, line_by_fields, line_of}
 use Rattle.block_model.specs.Line.{passed, tells_block, tells_edge}
@@ -76,3 +79,58 @@ a_text : functions_of (codes "# two\nfunc a\nblock 0 0x1 0x2 exit\nedge 0 0\nend
     ∷ record { name = codes "a"; blocks = record { lo = 1; hi = 2; exit = false; bound = record { lower = 1; upper = None } } ∷ []; edges = [] } ∷ []
 unfolding functions_from line_of line_by_fields block_line_of edge_line_of place_of address_of bound_of bound_by_word fields_of number_of prefixed_of lines_of
 a_text = refl
+
+-- blocks that overlap are named before a bad bound
+overlap_before_bound : bad (codes "func a\nblock 0 0x1 0x3\nblock 1 0x2 0x4 lo=3 hi=2\n") ≡ at 3 BlockOverlap
+unfolding bad at items_from cause_of_line cause_of_block line_of line_by_fields block_line_of place_of address_of bound_of bound_by_words bounded_by count_of fields_of number_of prefixed_of lines_of
+overlap_before_bound = refl
+
+-- blocks that touch do not overlap, whichever comes first
+touching : (bad (codes "func a\nblock 0 0x2 0x3\nblock 1 0x3 0x4\nblock 2 0x1 0x2\nend\n") ≡ None) × (bad (codes "func a\nblock 0 0x2 0x2\n") ≡ at 2 BlockEmpty)
+unfolding bad at items_from cause_of_line cause_of_block line_of line_by_fields block_line_of place_of address_of bound_of fields_of number_of prefixed_of lines_of
+touching = (refl, refl)
+
+-- an edge to block 2^32 leads to no block; to block 2^64, to no number
+far_ends : (bad (codes "func a\nblock 0 0x1 0x2\nedge 0 4294967296\n") ≡ at 3 EdgeEnd) × (bad (codes "func a\nblock 0 0x1 0x2\nedge 4294967296 0\n") ≡ at 3 EdgeEnd)
+    × (bad (codes "func a\nblock 0 0x1 0x2\nedge 0 18446744073709551616\n") ≡ at 3 BadLine)
+unfolding bad at items_from cause_of_line cause_of_block cause_of_edge line_of line_by_fields block_line_of edge_line_of place_of address_of bound_of fields_of number_of prefixed_of lines_of
+far_ends = (refl, refl, refl)
+
+-- an edge and the one back are two; a bound may be a single number
+both_ways : bad (codes "func a\nblock 0 0x1 0x2\nblock 1 0x2 0x3\nedge 0 1\nedge 1 0 lo=2 hi=2\nend\n") ≡ None
+unfolding bad at items_from cause_of_line cause_of_block cause_of_edge line_of line_by_fields block_line_of edge_line_of place_of address_of bound_of bound_by_words bounded_by count_of fields_of number_of prefixed_of lines_of
+both_ways = refl
+
+past_64_bits : (line_of (codes "block 18446744073709551616 0x1 0x2") ≡ None) × (line_of (codes "block 0 0x1 0x10000000000000000") ≡ None)
+unfolding line_of line_by_fields block_line_of place_of address_of bound_of fields_of number_of prefixed_of
+past_64_bits = (refl, refl)
+
+-- ---- the generated block text of two functions
+
+abbrev free : Bound
+free = record { lower = 0; upper = None }
+
+abbrev part : ℕ → ℕ → Bool → Block
+part lo hi exit = record { lo = lo; hi = hi; exit = exit; bound = free }
+
+abbrev way : ℕ → ℕ → Edge
+way from to = record { from = from; to = to; bound = free }
+
+two_generated : functions_of (
+    codes "func f0000\nblock 0 0x401000 0x401008\nblock 1 0x401008 0x401010\nblock 2 0x401010 0x401020\n"
+    ++ codes "block 3 0x401020 0x401040 exit\nedge 0 1\nedge 0 2\nedge 1 3\nedge 2 3\nend\n"
+    ++ codes "func f0001\nblock 0 0x401040 0x401048\nblock 1 0x401048 0x401050\nblock 2 0x401050 0x401060\n"
+    ++ codes "block 3 0x401060 0x401080 exit\nedge 0 1\nedge 0 2\nedge 1 3\nedge 2 3\nend\n")
+    ≡ record {
+      name = codes "f0000";
+      blocks = part 0x401000 0x401008 false ∷ part 0x401008 0x401010 false ∷ part 0x401010 0x401020 false ∷ part 0x401020 0x401040 true ∷ [];
+      edges = way 0 1 ∷ way 0 2 ∷ way 1 3 ∷ way 2 3 ∷ [];
+    }
+    ∷ record {
+      name = codes "f0001";
+      blocks = part 0x401040 0x401048 false ∷ part 0x401048 0x401050 false ∷ part 0x401050 0x401060 false ∷ part 0x401060 0x401080 true ∷ [];
+      edges = way 0 1 ∷ way 0 2 ∷ way 1 3 ∷ way 2 3 ∷ [];
+    }
+    ∷ []
+unfolding functions_from line_of line_by_fields block_line_of edge_line_of place_of address_of bound_of bound_by_word fields_of number_of prefixed_of lines_of
+two_generated = refl

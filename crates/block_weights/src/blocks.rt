@@ -1,5 +1,7 @@
 ghost use Rattle.std.specs.Prelude.{◌≡◌, ℕ, ◌<◌, ◌^◌, length, IfOk};
-ghost use Rattle.std.specs.List.{AllZip};
+ghost use Rattle.std.specs.List.{All, AllZip};
+ghost use Rattle.block_model.specs.Limits.{bound_bits};
+ghost use Rattle.balance_model.specs.Sound.{AreWeights};
 ghost use Rattle.key_segments.specs.Segments.{AreSegments, key_told};
 ghost use Rattle.weight_model.specs.Blocks.{IsWeightOf};
 ghost use Rattle.block_weights.specs.Counts.{count_in, with_count};
@@ -14,7 +16,8 @@ use std::alloc::Global;
 /// there is none.
 ///
 /// The segments tell the key of each address. `counts` has the count of each key at its number;
-/// keys behind its end count 0. Each block takes a search, and then as long as it has segments.
+/// keys behind its end count 0. Where all counts are below 2^44, so are the weights. Each block
+/// takes a search, and then as long as it has segments.
 ///
 /// # Errors
 /// `NoMemory`.
@@ -25,9 +28,11 @@ pub fn weights(
     counts: &[u64],
 ) -> Result<Vec<Weight>, NoMemory>
     requires { AreSegments segments.now }
-    ensures { IfOk result (λ made. AllZip
+    ensures told { IfOk result (λ made. AllZip
         (IsWeightOf (key_told segments.now) (count_in counts.now))
         fun.now.blocks made.items) }
+    ensures small { IfOk result (λ made. All (λ count. count < 2 ^ bound_bits) counts.now
+        → AreWeights (length fun.now.blocks) made.items) }
 {
     let mut made = Vec::new(alloc);
     for block in fun.blocks.as_slice() {

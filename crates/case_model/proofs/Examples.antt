@@ -143,3 +143,11 @@ block_text_of_1 : block_text 1
     ++ codes "block 3 0x401020 0x401040 exit\nedge 0 1\nedge 0 2\nedge 1 3\nedge 2 3\nend\n"
 unfolding block_text blocks_of block_line edge_line hex_text digits for_each_function name extent
 block_text_of_1 = refl
+
+block_text_of_2 : block_text 2
+    ≡ codes "func f0000\nblock 0 0x401000 0x401008\nblock 1 0x401008 0x401010\nblock 2 0x401010 0x401020\n"
+    ++ codes "block 3 0x401020 0x401040 exit\nedge 0 1\nedge 0 2\nedge 1 3\nedge 2 3\nend\n"
+    ++ codes "func f0001\nblock 0 0x401040 0x401048\nblock 1 0x401048 0x401050\nblock 2 0x401050 0x401060\n"
+    ++ codes "block 3 0x401060 0x401080 exit\nedge 0 1\nedge 0 2\nedge 1 3\nedge 2 3\nend\n"
+unfolding block_text blocks_of block_line edge_line hex_text digits for_each_function name extent
+block_text_of_2 = refl

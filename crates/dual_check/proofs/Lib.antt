@@ -1,4 +1,3 @@
 pub mod PlaceLemmas
 pub mod FirstLemmas
 pub mod FitLemmas
-pub mod AcceptLemmas

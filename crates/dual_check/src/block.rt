@@ -1,9 +1,9 @@
 // The test of a block.
 ghost use Rattle.std.specs.Prelude.{◌≡◌, ◌*◌, ◌-◌, ◌≤◌, ◌↔◌, IsTrue, length, nat_le, if◌then◌else◌, Some, None};
 ghost use Rattle.flow_model.specs.Repair.{AreCounts};
-ghost use Rattle.balance_model.specs.Balance.{came_by_edges, is_exit, went_by_edges};
+ghost use Rattle.balance_model.specs.Passing.{IsEntered, IsLeft, PassesBlock, PassesEdge};
+ghost use Rattle.balance_model.specs.Passing.{came_by_edges, is_exit, went_by_edges};
 ghost use Rattle.flow_network.specs.Flow.{counts_of, price_of};
-ghost use Rattle.dual_check.specs.Passing.{IsEntered, IsLeft, PassesBlock, PassesEdge};
 
 use crate::fits::{fits, is_within};
 use crate::sums::{edge_sum, has_return};

@@ -1,9 +1,10 @@
 // The first block or edge that breaks its test.
-ghost use Rattle.flow_model.specs.Repair.{AreCounts};
+ghost use Rattle.std.specs.Prelude.{◌≡◌, ◌↔◌, None};
+ghost use Rattle.flow_model.specs.Repair.{AreCounts, AreLeast, ConserveWithinBounds, FitCounts};
+ghost use Rattle.balance_model.specs.Passing.{PassesBlock, PassesEdge};
 ghost use Rattle.balance_model.specs.Sound.{IsNet};
 ghost use Rattle.flow_network.specs.Flow.{AreSides, counts_of, price_of};
 ghost use Rattle.dual_check.specs.First.{IsFirst, IsFirstBad};
-ghost use Rattle.dual_check.specs.Passing.{PassesBlock, PassesEdge};
 
 use crate::block::{block_passes, edge_passes};
 use flow_network::{Flow, Net, Prices};
@@ -21,10 +22,16 @@ pub enum Spot {
 /// most so often, and the rest are calls, of which there are enough; likewise edges lead on as
 /// often, or at an exit at most so often. The prices fit the block's count, at the entry the calls
 /// and at an exit the returns. An edge's count is within its bounds, and the prices fit it.
+///
+/// There is none exactly where the counts conserve within bounds and the prices fit them. Then no
+/// counts of any size that conserve within bounds cost less.
 pub fn first_bad(net: &Net, flow: &Flow, prices: &Prices) -> Option<Spot>
     requires counted { AreCounts net.now (counts_of flow.now) }
     requires priced { AreSides net.now prices.now.ins prices.now.outs }
-    ensures { IsFirstBad net.now (counts_of flow.now) (price_of prices.now) result }
+    ensures first { IsFirstBad net.now (counts_of flow.now) (price_of prices.now) result }
+    ensures none { result ≡ None ↔ (ConserveWithinBounds net.now (counts_of flow.now)
+        × FitCounts (price_of prices.now) net.now (counts_of flow.now)) }
+    ensures least { result ≡ None → AreLeast net.now (counts_of flow.now) }
 {
     match first_bad_block(net, flow, prices) {
         Some(block) => Some(Spot::Block(block)),
@@ -36,7 +43,7 @@ pub fn first_bad(net: &Net, flow: &Flow, prices: &Prices) -> Option<Spot>
 }
 
 /// The first block that breaks its test.
-pub(crate) fn first_bad_block(net: &Net, flow: &Flow, prices: &Prices) -> Option<u32>
+fn first_bad_block(net: &Net, flow: &Flow, prices: &Prices) -> Option<u32>
     requires { AreCounts net.now (counts_of flow.now) }
     ensures first { IsFirst (PassesBlock net.now (counts_of flow.now) (price_of prices.now))
         net.now.blocks flow.now.blocks result }
@@ -52,7 +59,7 @@ pub(crate) fn first_bad_block(net: &Net, flow: &Flow, prices: &Prices) -> Option
 }
 
 /// The first edge that breaks its test.
-pub(crate) fn first_bad_edge(net: &Net, flow: &Flow, prices: &Prices) -> Option<u32>
+fn first_bad_edge(net: &Net, flow: &Flow, prices: &Prices) -> Option<u32>
     requires { AreCounts net.now (counts_of flow.now) }
     ensures { IsFirst (PassesEdge (price_of prices.now)) net.now.edges flow.now.edges result }
 {

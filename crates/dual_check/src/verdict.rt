@@ -5,11 +5,11 @@ ghost use Rattle.flow_model.specs.Network.{Counts, arcs_of};
 ghost use Rattle.flow_model.specs.Repair.{AreCounts, AreLeast, ConserveWithinBounds, FitCounts};
 ghost use Rattle.flow_network.specs.Flow.{AreSides, counts_of, holds, price_of};
 
-use crate::spot::{first_bad_block, first_bad_edge};
+use crate::spot::first_bad;
 use flow_network::{Flow, Net, Nodes, Prices, cut_sums};
 
-/// Whether counts conserve within bounds and the prices fit them. Then no counts of any size that
-/// conserve within bounds cost less.
+/// Whether no block and no edge breaks its test: counts conserve within bounds and the prices fit
+/// them. Then no counts of any size that conserve within bounds cost less.
 pub fn accepts(net: &Net, flow: &Flow, prices: &Prices) -> bool
     requires counted { AreCounts net.now (counts_of flow.now) }
     requires priced { AreSides net.now prices.now.ins prices.now.outs }
@@ -17,7 +17,7 @@ pub fn accepts(net: &Net, flow: &Flow, prices: &Prices) -> bool
         × FitCounts (price_of prices.now) net.now (counts_of flow.now)) }
     ensures least { IsTrue result → AreLeast net.now (counts_of flow.now) }
 {
-    first_bad_block(net, flow, prices).is_none() && first_bad_edge(net, flow, prices).is_none()
+    first_bad(net, flow, prices).is_none()
 }
 
 /// Whether a set of sides is a cut: more has to flow into it than can flow out. Then no counts

@@ -1,4 +1,6 @@
-ghost use Rattle.std.specs.Prelude.{◌≡◌, map, IfOk};
+ghost use Rattle.std.specs.Prelude.{◌≡◌, ◌<◌, ◌^◌, length, map, IfOk};
+ghost use Rattle.flow_model.specs.Network.{weight_of as number_of};
+ghost use Rattle.balance_model.specs.Sound.{AreWeights};
 ghost use Rattle.hit_model.specs.Steps.{hits_by};
 ghost use Rattle.weight_model.specs.Edges.{known_block, taken, weight_by};
 
@@ -10,6 +12,7 @@ use std::alloc::Global;
 
 /// The weight of each edge of a function, known where both its blocks are: how often branches lead
 /// from the one to the start of the other, and where the one ends there, how often ranges ran on.
+/// Each is below 2^44.
 ///
 /// `weights` are those of the blocks, in their order. A block behind its end has none.
 ///
@@ -21,10 +24,11 @@ pub fn edge_weights(
     samples: &EdgeSamples,
     weights: &[Weight],
 ) -> Result<Vec<Weight>, NoMemory>
-    ensures { IfOk result (λ made. made.items ≡ map
+    ensures told { IfOk result (λ made. made.items ≡ map
         (weight_by (taken samples.now.branches) (hits_by samples.now.passing)
         fun.now.blocks weights.now)
         fun.now.edges) }
+    ensures small { IfOk result (λ made. AreWeights (length fun.now.edges) made.items) }
 {
     let mut made = Vec::new(alloc);
     for edge in fun.edges.as_slice() {
@@ -35,8 +39,9 @@ pub fn edge_weights(
 
 /// The weight of an edge.
 fn weight_of(edge: &Edge, blocks: &[Block], samples: &EdgeSamples, weights: &[Weight]) -> Weight
-    ensures { result ≡ weight_by (taken samples.now.branches) (hits_by samples.now.passing)
+    ensures told { result ≡ weight_by (taken samples.now.branches) (hits_by samples.now.passing)
         blocks.now weights.now edge.now }
+    ensures small { number_of result < 2 ^ 44 }
 {
     let from = known_block(blocks, weights, edge.from);
     let to = known_block(blocks, weights, edge.to);

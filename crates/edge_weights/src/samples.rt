@@ -52,8 +52,9 @@ impl EdgeSamples {
 
     /// How often the program went over from one block to another.
     pub(crate) fn went_over(&self, from: &Block, to: &Block) -> u64
-        ensures { result ≡ went_over (times_taken self.now.branches) (hits_by self.now.passing)
+        ensures told { result ≡ went_over (times_taken self.now.branches) (hits_by self.now.passing)
             from.now to.now }
+        ensures small { result < 2 ^ 33 }
     {
         let taken = taken(&self.branches, from, to.lo);
         if from.hi == to.lo {

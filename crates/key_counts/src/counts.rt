@@ -1,5 +1,5 @@
 // Counts, one for each key.
-ghost use Rattle.std.specs.Prelude.{◌≡◌, ◌^◌, ◌<◌, length, max, slice_index, slice_set, IfOk, ℕ};
+ghost use Rattle.std.specs.Prelude.{◌≡◌, ◌^◌, ◌<◌, length, max, slice_index, slice_set, All, IfOk, ℕ};
 ghost use Rattle.hit_model.specs.Steps.{hits_by};
 ghost use Rattle.key_segments.specs.Segments.{AreSegments};
 ghost use Rattle.key_counts.specs.Segments.{AllFit, AreCounts};
@@ -10,7 +10,7 @@ use refusal::NoMemory;
 use std::alloc::Global;
 
 /// The count of each of `keys` keys: the largest hits times factor of the addresses of its
-/// segments, and 0 for a key without a segment.
+/// segments, and 0 for a key without a segment. Each is below 2^44.
 ///
 /// Segments are disjoint, ascending and not empty. Factors are below 4,096 and hits below 2^32.
 ///
@@ -28,6 +28,7 @@ pub fn counts_of(
     ensures counts { IfOk result (λ counts.
         AreCounts segments.now (hits_by hits.now) counts.items) }
     ensures len { IfOk result (λ counts. length counts.items ≡ keys) }
+    ensures small { IfOk result (λ counts. All (λ count. count < 2 ^ 44) counts.items) }
 {
     let mut counts = vec![in alloc; 0; keys as usize]?;
     let mut walk = hits.walk();

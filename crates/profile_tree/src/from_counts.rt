@@ -27,8 +27,8 @@ use way_rows::{rows_of, sort_items};
 
 /// The profile of what was counted: how often addresses ran, what was called, and what was entered.
 ///
-/// The count of a key is the largest hits times factor of the addresses of its segments. A total
-/// stands still at 2^64 - 1.
+/// The count of a key is the largest hits times factor of the addresses of its segments, and below
+/// 2^44. A total stands still at 2^64 - 1.
 ///
 /// Segments are disjoint, ascending and not empty, all numbers are of `keys` and `names`, hits are
 /// below 2^32 and factors below 4,096. The times of one function's heads add up to less than 2^64,
@@ -59,6 +59,7 @@ pub fn build(
     ensures counts { IfOk result (λ tree.
         AreCountsOfPlaces segments.now (hits_by hits.now) tree.counts) }
     ensures len { IfOk result (λ tree. length tree.counts ≡ length keys.now) }
+    ensures small { IfOk result (λ tree. All (λ count. count < 2 ^ 44) tree.counts) }
 {
     keys.each_once();
     names.each_once();

@@ -1,10 +1,12 @@
 -- The functions of a good text are sound.
-use Rattle.std.proofs.Common.{◌≡◌, ℕ, ◌+◌, ◌≤◌, ◌==◌, ◌||◌, Bool, true, false, not, List, [], ◌∷◌, ◌++◌, length, Option, None, Some, refl, arith, sym, subst}
+use Rattle.std.proofs.Common.{◌≡◌, ℕ, zero, suc, get_or, ◌+◌, ◌<◌, ◌≤◌, ◌==◌, ◌||◌, Bool, true, false, not, List, [], ◌∷◌, ◌++◌, length, Option, None, Some, refl, arith, sym, subst}
 use Rattle.std.specs.Prelude.{nat_le, ⊤}
-use Rattle.std.specs.List.{AllByRecursion, list_any}
+use Rattle.std.specs.List.{All, AllPairs, AllByRecursion, list_any}
 use Rattle.std.proofs.lemmas.Bool.{leb-false, ltb-false, eqb-true, eqb-false, not-false, or_parts}
 use Rattle.std.proofs.lemmas.List.{length_push, nil_from_length}
+use Rattle.std.proofs.lemmas.Bool.Decides.{nat_tests}
 use Rattle.std.proofs.lemmas.List.Elements.{All-from_recursion}
+use Rattle.std.proofs.lemmas.List.Quantifiers.{all_pairs_push}
 use Rattle.refusal.specs.declared.kind.Kind.{Kind}
 use Rattle.refusal.specs.declared.kind.Kind.TheVariants.{BadLine, TooManyBlocks, BlockOrder, BlockEmpty, BlockOverlap, TooManyEdges, EdgeEnd, EdgeTwice, NoBlocks, BadBound}
 use Rattle.refusal.specs.declared.place.Place.{Place}
@@ -14,12 +16,12 @@ use Rattle.block_model.specs.declared.parts.Block.{Block}
 use Rattle.block_model.specs.declared.parts.Bound.{Bound}
 use Rattle.block_model.specs.declared.parts.Edge.{Edge}
 use Rattle.block_model.specs.Function.{Function, named, with_block, with_edge, overlap, joins}
-use Rattle.block_model.specs.Judging.{exceeds, is_bad_bound, cause_of_block, cause_of_edge, cause_of_line, item, items_from}
+use Rattle.block_model.specs.Judging.{exceeds, is_bad_bound, cause_of_block, cause_of_edge, cause_of_line, item, items_from, first_bad_of_text}
 use Rattle.block_model.specs.Limits.{max_blocks, max_edges}
 use Rattle.block_model.specs.Line.{Line, passed, begins, tells_block, tells_edge, ends, line_of}
-use Rattle.block_model.specs.Text.{open_behind_line, closed_by_line, functions_from}
+use Rattle.block_model.specs.Text.{open_behind_line, closed_by_line, functions_from, functions_of}
 use Rattle.balance_model.specs.Sound.{IsSoundUpper, IsSoundBound, JoinsBlocks, IsSound}
-use Rattle.sound_text.specs.Laws.{GoodTextsAreSound}
+use Rattle.sound_text.specs.Laws.{GoodTextsAreSound, GoodTextsAreApart, AreApart, ShareNone, LeadApart}
 use Rattle.sound_text.proofs.LineLemmas.{IsSmallUpper, IsSmall, SaysSmall, Of, small_line}
 
 -- what a function keeps while it is open
@@ -29,13 +31,16 @@ record IsOpen (fun : Function) : Type 0 where
   pub joined : AllByRecursion (JoinsBlocks (length fun.blocks)) fun.edges
   pub bounded_blocks : AllByRecursion (λ block. IsSoundBound block.bound) fun.blocks
   pub bounded_edges : AllByRecursion (λ edge. IsSoundBound edge.bound) fun.edges
+  pub filled : AllByRecursion (λ block. block.lo < block.hi) fun.blocks
+  pub blocks_apart : AllPairs ShareNone fun.blocks
+  pub edges_apart : AllPairs LeadApart fun.edges
 
 Keeps : Option Function → Type 0
 Keeps None = ⊤
 Keeps (Some fun) = IsOpen fun
 
 abbrev Sound : Function → Type 0
-Sound fun = IsSound fun.blocks fun.edges
+Sound fun = IsSound fun.blocks fun.edges × AreApart fun.blocks fun.edges
 
 all_push : {A : Type 0} (P : A → Type 0) (xs : List A) (x : A) → AllByRecursion P xs → P x → AllByRecursion P (xs ++ x ∷ [])
 all_push P [] x all here = (here, tt)
@@ -44,6 +49,18 @@ all_push P (y ∷ xs) x all here = (all.0, all_push P xs x all.1 here)
 all_append : {A : Type 0} (P : A → Type 0) (xs ys : List A) → AllByRecursion P xs → AllByRecursion P ys → AllByRecursion P (xs ++ ys)
 all_append P [] ys all also = also
 all_append P (x ∷ xs) ys all also = (all.0, all_append P xs ys all.1 also)
+
+none_at : {A : Type 0} (p : A → Bool) (xs : List A) (k : ℕ) (d : A) → list_any p xs ≡ false → k < length xs → p (get_or xs k d) ≡ false
+none_at p [] k d none within = absurd (omega (arith, within))
+none_at p (x ∷ xs) zero d none within = (or_parts (p x) (list_any p xs) none).0
+none_at p (x ∷ xs) (suc k) d none within = none_at p xs k d (or_parts (p x) (list_any p xs) none).1 (omega (arith, within))
+
+-- blocks that do not overlap share no address; edges that do not join the same blocks lead apart
+share_none : (earlier block : Block) → overlap block earlier ≡ false → ShareNone earlier block
+share_none earlier block apart a from below from_too below_too = grind (arith, nat_tests)
+
+lead_apart : (earlier : Edge) (from to : ℕ) (bound : Bound) → joins from to earlier ≡ false → LeadApart earlier (record { from = from; to = to; bound = bound })
+lead_apart earlier from to bound apart same_from same_to = grind (arith, nat_tests)
 
 no_cause : (b : Bool) (kind : Kind) (rest : List (Bool × Kind)) → first_cause ((b, kind) ∷ rest) ≡ None → (b ≡ false) × (first_cause rest ≡ None)
 no_cause true kind rest none = absurd (cc)
@@ -93,6 +110,10 @@ block_added fun number block open' small good =
       joined = subst (λ (edges : List Edge). AllByRecursion (JoinsBlocks (length (fun.blocks ++ block ∷ []))) edges) (sym none) tt;
       bounded_blocks = all_push (λ block. IsSoundBound block.bound) fun.blocks block open'.bounded_blocks (sound_bound block.bound sixth.0 small);
       bounded_edges = open'.bounded_edges;
+      filled = all_push (λ block. block.lo < block.hi) fun.blocks block open'.filled (leb-false block.hi block.lo causes.3);
+      blocks_apart = all_pairs_push ShareNone fun.blocks block open'.blocks_apart
+          (λ k d within. share_none (get_or fun.blocks k d) block (none_at (overlap block) fun.blocks k d fifth.0 within));
+      edges_apart = open'.edges_apart;
     }
 
 edge_added : (fun : Function) (from to : ℕ) (bound : Bound) → IsOpen fun → IsSmall bound → cause_of_edge fun from to bound ≡ None
@@ -112,20 +133,43 @@ edge_added fun from to bound open' small good =
           (record { leaves = leb-false (length fun.blocks) from ends_at.0; enters = leb-false (length fun.blocks) to ends_at.1 });
       bounded_blocks = open'.bounded_blocks;
       bounded_edges = all_push (λ edge. IsSoundBound edge.bound) fun.edges edge open'.bounded_edges (sound_bound bound causes.3 small);
+      filled = open'.filled;
+      blocks_apart = open'.blocks_apart;
+      edges_apart = all_pairs_push LeadApart fun.edges edge open'.edges_apart
+          (λ k d within. lead_apart (get_or fun.edges k d) from to bound (none_at (joins from to) fun.edges k d causes.2 within));
     }
 
 ended : (fun : Function) → IsOpen fun → (length fun.blocks ≡ 0 → ⊥) → Sound fun
-ended fun open' some = record {
-  some = omega (arith, some);
-  few_blocks = open'.few_blocks;
-  few_edges = open'.few_edges;
-  joined = All-from_recursion (JoinsBlocks (length fun.blocks)) fun.edges open'.joined;
-  bounded_blocks = All-from_recursion (λ block. IsSoundBound block.bound) fun.blocks open'.bounded_blocks;
-  bounded_edges = All-from_recursion (λ edge. IsSoundBound edge.bound) fun.edges open'.bounded_edges;
-}
+ended fun open' some = (
+  record {
+    some = omega (arith, some);
+    few_blocks = open'.few_blocks;
+    few_edges = open'.few_edges;
+    joined = All-from_recursion (JoinsBlocks (length fun.blocks)) fun.edges open'.joined;
+    bounded_blocks = All-from_recursion (λ block. IsSoundBound block.bound) fun.blocks open'.bounded_blocks;
+    bounded_edges = All-from_recursion (λ edge. IsSoundBound edge.bound) fun.edges open'.bounded_edges;
+  },
+  record {
+    filled = All-from_recursion (λ block. block.lo < block.hi) fun.blocks open'.filled;
+    blocks_apart = open'.blocks_apart;
+    edges_apart = open'.edges_apart;
+  },
+)
+
+none_apart : {A : Type 0} (R : A → A → Type 0) → AllPairs R []
+none_apart R i j d before within = absurd (omega (arith, within))
 
 new : (name : List ℕ) → IsOpen (named name)
-new name = record { few_blocks = omega arith; few_edges = omega arith; joined = tt; bounded_blocks = tt; bounded_edges = tt }
+new name = record {
+  few_blocks = omega arith;
+  few_edges = omega arith;
+  joined = tt;
+  bounded_blocks = tt;
+  bounded_edges = tt;
+  filled = tt;
+  blocks_apart = none_apart ShareNone;
+  edges_apart = none_apart LeadApart;
+}
 
 -- one good line
 stepped : (opened : Option Function) (said : Option Line) → Keeps opened → Of SaysSmall said → cause_of_line opened said ≡ None
@@ -154,7 +198,13 @@ all_sound file number opened (line ∷ lines) keeps good =
     all_append Sound (closed_by_line opened (line_of line)) (functions_from (open_behind_line opened (line_of line)) lines) step.1
     (all_sound file (number + 1) (open_behind_line opened (line_of line)) lines step.0 parts.1)
 
-pub good_texts_are_sound : GoodTextsAreSound
+both : (file : ℕ) (text : List ℕ) → first_bad_of_text file text ≡ None → All Sound (functions_of text)
 unfolding Keeps
-good_texts_are_sound file text good =
+both file text good =
     All-from_recursion Sound (functions_from None (lines_of text)) (all_sound file 1 None (lines_of text) tt good)
+
+pub good_texts_are_sound : GoodTextsAreSound
+good_texts_are_sound file text good k d within = (both file text good k d within).0
+
+pub good_texts_are_apart : GoodTextsAreApart
+good_texts_are_apart file text good k d within = (both file text good k d within).1

@@ -1,4 +1,5 @@
-//! What the functions of a block text without a bad line keep: all that their networks rest on.
+//! What the functions of a block text without a bad line keep: all that their networks rest on, and
+//! that blocks and edges are apart.
 #![tactic(auto)]
 
 mod laws;

@@ -1,4 +1,4 @@
-use Rattle.balance_model.proofs.BalanceLemmas.{balance_is_conservation}
+use Rattle.balance_model.proofs.NumberLemmas.{balance_is_conservation}
 use Rattle.balance_model.proofs.laws.balance_is_conservation.Goals as goal
 
 pub returns : goal.returns

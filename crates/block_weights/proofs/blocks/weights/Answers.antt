@@ -5,6 +5,7 @@ use Rattle.block_model.specs.declared.parts.Block.{Block}
 use Rattle.key_segments.specs.Segments.{key_told}
 use Rattle.weight_model.specs.Blocks.{IsWeightOf}
 use Rattle.block_weights.specs.Counts.{count_in}
+use Rattle.block_weights.proofs.SmallLemmas.{weights_are_small}
 use Rattle.block_weights.proofs.WeightLemmas.{all_zip_push}
 use Rattle.block_weights.proofs.blocks.weights.Goals as goal
 
@@ -18,7 +19,13 @@ loop-block-preserved c =
     rw (c.in_ok-push.ensures.items, take_more c.as_slice-block-items.result.now c.loop-block.block-index none c.loop-block-test.true)
     (all_zip_push (IsWeightOf (key_told c.args.segments.now) (count_in c.args.counts.now)) _ _ _ _ c.loop-block.invariant c.weight_of.ensures)
 
-pub returns : goal.returns
-returns c =
+pub returns-clause-told : goal.returns-clause-told
+returns-clause-told c =
     let all = take_all c.loop-block.block-index c.as_slice-block-items.result.now c.loop-block-test.false ∙ c.as_slice-block-items.ensures in
     subst (λ (blocks : List Block). AllZip (IsWeightOf (key_told c.args.segments.now) (count_in c.args.counts.now)) blocks c.loop-block.made.items) all c.loop-block.invariant
+
+pub returns-clause-small : goal.returns-clause-small
+returns-clause-small c =
+    let all = take_all c.loop-block.block-index c.as_slice-block-items.result.now c.loop-block-test.false ∙ c.as_slice-block-items.ensures in
+    weights_are_small (key_told c.args.segments.now) c.args.counts.now c.args.fun.now.blocks c.loop-block.made.items
+    (subst (λ (blocks : List Block). AllZip (IsWeightOf (key_told c.args.segments.now) (count_in c.args.counts.now)) blocks c.loop-block.made.items) all c.loop-block.invariant)

@@ -5,7 +5,7 @@ use Rattle.flow_model.specs.declared.arc.Arc.{Arc}
 use Rattle.balance_model.specs.Sound.{IsLimitedArc}
 use Rattle.flow_network.specs.Flow.{counts_of, price_of}
 use Rattle.flow_network.proofs.CostLemmas.{few_blocks}
-use Rattle.dual_check.specs.Passing.{PassesBlock}
+use Rattle.balance_model.specs.Passing.{PassesBlock}
 use Rattle.dual_check.proofs.FirstLemmas.{each_more, first_fails, limited_blocks}
 use Rattle.dual_check.proofs.spot.first_bad_block.Goals as goal
 

@@ -1,8 +1,11 @@
-use Rattle.std.proofs.Common.{get_or, subst, ◌∙◌}
+use Rattle.std.proofs.Common.{List, get_or, subst, ◌∙◌}
+use Rattle.std.proofs.lemmas.List.{take_all}
 use Rattle.hit_model.specs.Hits.{IsLargestIn}
 use Rattle.hit_model.specs.Steps.{hits_by}
 use Rattle.key_types.specs.declared.places.Seg.{Seg}
+use Rattle.key_counts.specs.Segments.{AreCounts}
 use Rattle.key_counts.proofs.CountLemmas.{segment_step}
+use Rattle.key_counts.proofs.SmallLemmas.{small_counts}
 use Rattle.key_counts.proofs.counts.counts_of.Goals as goal
 
 pub loop-segment-preserved : goal.loop-segment-preserved
@@ -16,3 +19,11 @@ loop-segment-preserved c =
       segment_step (hits_by c.args.hits.now) segments c.args.keys i c.loop-segment.walk.from c.max_in-largest.new.self.from c.max_in-largest.result d c.loop-segment.counts.items c.raise.new.counts.items
           c.loop-segment-test.true c.loop-segment.invariant.1 largest c.max_in-largest.ensures.from c.raise.ensures,
     )
+
+pub returns-clause-small : goal.returns-clause-small
+returns-clause-small c =
+    let hits = hits_by c.args.hits.now in
+    let counts = c.loop-segment.counts.items in
+    let all = take_all c.loop-segment.segment-index c.args.segments.now c.loop-segment-test.false in
+    small_counts c.args.keys c.args.segments.now hits counts c.requires.fit c.requires.hits
+    (subst (λ (segments : List Seg). AreCounts segments hits counts) all c.loop-segment.invariant.1.so_far)

@@ -1,5 +1,5 @@
-use Rattle.sound_text.proofs.TextLemmas.{good_texts_are_sound}
+use Rattle.sound_text.proofs.TextLemmas.{good_texts_are_sound, good_texts_are_apart}
 use Rattle.sound_text.proofs.laws.good_texts_are_sound.Goals as goal
 
 pub returns : goal.returns
-returns c = good_texts_are_sound
+returns c = record { sound = good_texts_are_sound; apart = good_texts_are_apart }

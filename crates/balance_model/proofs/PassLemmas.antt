@@ -1,6 +1,6 @@
--- All blocks and edges pass exactly where counts conserve within bounds and prices fit them.
-use Rattle.std.proofs.Common.{◌≡◌, ℕ, ◌+◌, ◌-◌, ◌<◌, ◌≤◌, ◌==◌, Bool, true, false, List, [], ◌∷◌, ◌++◌, length, get_or, map, refl, arith, ap, sym, subst, inl, inr, ◌⊎◌}
-use Rattle.std.specs.Prelude.{ℤ, Option, None, Some, is_some, not}
+-- All blocks and edges pass their tests exactly where counts conserve within bounds and prices fit them.
+use Rattle.std.proofs.Common.{◌≡◌, ℕ, ◌+◌, ◌-◌, ◌<◌, ◌≤◌, ◌==◌, true, List, [], ◌∷◌, ◌++◌, length, get_or, map, refl, arith, ap, sym, subst, inl, inr, ◌⊎◌}
+use Rattle.std.specs.Prelude.{ℤ}
 use Rattle.std.specs.Bool.{OnTrue}
 use Rattle.std.specs.List.{list_any}
 use Rattle.std.proofs.lemmas.Bool.{eq-eqb, eqb-true, cases_lt, cond_both, or_cases, or_left, or_right, both_ways, OnTrue_at, OnTrue_from}
@@ -12,14 +12,13 @@ use Rattle.flow_model.specs.Circulation.{root, EachArc, IsWithin, inflow, outflo
 use Rattle.flow_model.specs.Network.{in_side, out_side, free_arc, return_arcs, Network, network_of, Counts, calls, returns}
 use Rattle.flow_model.specs.Prices.{FitsOn}
 use Rattle.flow_model.specs.Repair.{AreCounts, ConserveWithinBounds, FitCounts}
-use Rattle.balance_model.specs.Balance.{BalancesAt, IsBalanced, came_by_edges, went_by_edges, is_entry, is_exit}
+use Rattle.flow_model.proofs.LawLemmas.{fitting_prices_show_least_counts}
+use Rattle.balance_model.specs.Laws.{TestsAreExact, TestsShowLeast}
+use Rattle.balance_model.specs.Passing.{AllTestsPass, AreCalls, PassesBlock, PassesEdge, came_by_edges, went_by_edges, is_entry, is_exit}
 use Rattle.balance_model.specs.Sound.{IsNet}
-use Rattle.balance_model.proofs.ArcLemmas.{each_split, each_join, each_from, each_from_both}
+use Rattle.balance_model.proofs.ArcLemmas.{each-length, each_split, each_join, each_from, each_from_both}
 use Rattle.balance_model.proofs.NetLemmas.{IsWoven, tail_count, head_count, each_by_number, each_at_number, no_return_behind}
-use Rattle.balance_model.proofs.BalanceLemmas.{woven_from, balance_is_conservation}
-use Rattle.dual_check.specs.First.{IsFirst}
-use Rattle.dual_check.proofs.FirstLemmas.{not_all}
-use Rattle.dual_check.specs.Passing.{AreCalls, PassesBlock, PassesEdge}
+use Rattle.balance_model.proofs.BalanceLemmas.{ArcBalances, ArcsBalance, arcs_balance, woven_from}
 
 -- ---- the arcs of returns
 
@@ -105,8 +104,7 @@ fit_from blocks edges weights edge_weights counts price woven pass edges_pass =
 pass_from : (blocks : List Block) (edges : List Edge) (weights edge_weights : List Weight) (counts : Counts) (price : ℕ → ℤ)
     → IsWoven blocks edges weights edge_weights counts
     → let net = network_of blocks edges weights edge_weights in
-    IsBalanced net counts → FitCounts price net counts
-    → EachArc (PassesBlock net counts price) net.blocks counts.blocks × EachArc (PassesEdge price) net.edges counts.edges
+    ArcsBalance net counts → FitCounts price net counts → AllTestsPass net counts price
 pass_from blocks edges weights edge_weights counts price woven balanced fit =
     let net = network_of blocks edges weights edge_weights in
     let backs = map (returns net counts) net.returns in
@@ -115,20 +113,20 @@ pass_from blocks edges weights edge_weights counts price woven balanced fit =
     let Ends : Arc → ℕ → Type 0 = λ arc n.
     OnTrue (is_entry net arc) (AreCalls net price (n - came_by_edges net counts arc))
     × OnTrue (is_exit net arc) (FitsOn price (free_arc arc.head root 0) (n - went_by_edges net counts arc)) in
-    let Both : Arc → ℕ → Type 0 = λ arc n. BalancesAt net counts arc n × FitsOn price arc n in
+    let Both : Arc → ℕ → Type 0 = λ arc n. ArcBalances net counts arc n × FitsOn price arc n in
     let ends = each_by_number Ends 0 blocks weights counts.blocks woven.weighed woven.counted
     (λ b k block weight e. let same : k ≡ b = omega (arith, e) in rw same (at_entry b fit.0 balanced.called, at_exit b back.1)) in
-    let both = each_from_both (BalancesAt net counts) (FitsOn price) Both (λ arc n here also. (here, also)) net.blocks counts.blocks balanced.blocks front.0 in (
-      each_from_both Both Ends (PassesBlock net counts price)
+    let both = each_from_both (ArcBalances net counts) (FitsOn price) Both (λ arc n here also. (here, also)) net.blocks counts.blocks balanced.blocks front.0 in record {
+      blocks = each_from_both Both Ends (PassesBlock net counts price)
           (λ arc n here ends. record {
             within = here.0.within;
             fits = here.1;
             entered = record { made_up = here.0.entered; called = ends.0 };
             left = record { made_up = here.0.left; returned = ends.1 };
           })
-          net.blocks counts.blocks both ends,
-      each_from_both IsWithin (FitsOn price) (PassesEdge price) (λ arc n here also. record { within = here; fits = also }) net.edges counts.edges balanced.edges back.0,
-    )
+          net.blocks counts.blocks both ends;
+      edges = each_from_both IsWithin (FitsOn price) (PassesEdge price) (λ arc n here also. record { within = here; fits = also }) net.edges counts.edges balanced.edges back.0;
+    }
   where
     at_entry : (b : ℕ) → let net = network_of blocks edges weights edge_weights in
         FitsOn price net.calls (calls net counts) → net.calls.lower ≤ calls net counts
@@ -156,54 +154,52 @@ pass_from blocks edges weights edge_weights counts price woven balanced fit =
 
 -- ---- both
 
-pub conserve_and_fit : (net : Network) (counts : Counts) (price : ℕ → ℤ) → IsNet net → AreCounts net counts
-    → EachArc (PassesBlock net counts price) net.blocks counts.blocks → EachArc (PassesEdge price) net.edges counts.edges
+conserve_and_fit : (net : Network) (counts : Counts) (price : ℕ → ℤ) → IsNet net → AllTestsPass net counts price
     → ConserveWithinBounds net counts × FitCounts price net counts
 conserve_and_fit net counts price is = subst P (sym is.same) here
   where
     P : Network → Type 0
-    P net = AreCounts net counts → EachArc (PassesBlock net counts price) net.blocks counts.blocks → EachArc (PassesEdge price) net.edges counts.edges
-        → ConserveWithinBounds net counts × FitCounts price net counts
+    P net = AllTestsPass net counts price → ConserveWithinBounds net counts × FitCounts price net counts
 
     here : P (network_of is.blocks is.edges is.weights is.edge_weights)
-    here are pass edges_pass =
+    here all =
         let net = network_of is.blocks is.edges is.weights is.edge_weights in
+        let are : AreCounts net counts = record {
+          blocks = each-length (PassesBlock net counts price) net.blocks counts.blocks all.blocks;
+          edges = each-length (PassesEdge price) net.edges counts.edges all.edges;
+        } in
         let woven = woven_from is.blocks is.edges is.weights is.edge_weights counts is.sound is.block_weighed are in
-        let fit = fit_from is.blocks is.edges is.weights is.edge_weights counts price woven pass edges_pass in
+        let fit = fit_from is.blocks is.edges is.weights is.edge_weights counts price woven all.blocks all.edges in
         let this : IsNet net = subst IsNet is.same is in
-        let balanced : IsBalanced net counts = record {
+        let balanced : ArcsBalance net counts = record {
           each = are;
-          blocks = each_from (PassesBlock net counts price) (BalancesAt net counts) (λ arc n here. record { within = here.within; entered = here.entered.made_up; left = here.left.made_up }) net.blocks counts.blocks pass;
-          edges = each_from (PassesEdge price) IsWithin (λ arc n here. here.within) net.edges counts.edges edges_pass;
+          blocks = each_from (PassesBlock net counts price) (ArcBalances net counts) (λ arc n here. record { within = here.within; entered = here.entered.made_up; left = here.left.made_up }) net.blocks counts.blocks all.blocks;
+          edges = each_from (PassesEdge price) IsWithin (λ arc n here. here.within) net.edges counts.edges all.edges;
           called = fit.0;
         } in
-        ((balance_is_conservation net counts this).1 balanced, fit.1)
+        ((arcs_balance net counts this).1 balanced, fit.1)
 
-pub all_pass_from : (net : Network) (counts : Counts) (price : ℕ → ℤ) → IsNet net
-    → ConserveWithinBounds net counts → FitCounts price net counts
-    → EachArc (PassesBlock net counts price) net.blocks counts.blocks × EachArc (PassesEdge price) net.edges counts.edges
+all_pass_from : (net : Network) (counts : Counts) (price : ℕ → ℤ) → IsNet net
+    → ConserveWithinBounds net counts → FitCounts price net counts → AllTestsPass net counts price
 all_pass_from net counts price is = subst P (sym is.same) here
   where
     P : Network → Type 0
-    P net = ConserveWithinBounds net counts → FitCounts price net counts
-        → EachArc (PassesBlock net counts price) net.blocks counts.blocks × EachArc (PassesEdge price) net.edges counts.edges
+    P net = ConserveWithinBounds net counts → FitCounts price net counts → AllTestsPass net counts price
 
     here : P (network_of is.blocks is.edges is.weights is.edge_weights)
     here conserve fit =
         let net = network_of is.blocks is.edges is.weights is.edge_weights in
         let woven = woven_from is.blocks is.edges is.weights is.edge_weights counts is.sound is.block_weighed conserve.each in
         let this : IsNet net = subst IsNet is.same is in
-        pass_from is.blocks is.edges is.weights is.edge_weights counts price woven ((balance_is_conservation net counts this).0 conserve) fit
+        pass_from is.blocks is.edges is.weights is.edge_weights counts price woven ((arcs_balance net counts this).0 conserve) fit
 
--- none is the first where all pass; `b` says that there is none
-pub all_from_none : (P : Arc → ℕ → Type 0) (arcs : List Arc) (counts : List ℕ) (o : Option ℕ) (b : Bool) → IsFirst P arcs counts o
-    → is_some o ≡ not b → b ≡ true → EachArc P arcs counts
-all_from_none P arcs counts None b first is none = first
-all_from_none P arcs counts (Some k) true first is none = absurd (cc)
-all_from_none P arcs counts (Some k) false first is none = absurd (cc)
+pub tests_are_exact : TestsAreExact
+tests_are_exact net counts price is = (
+  conserve_and_fit net counts price is,
+  λ both. all_pass_from net counts price is both.0 both.1,
+)
 
-pub none_from_all : (P : Arc → ℕ → Type 0) (arcs : List Arc) (counts : List ℕ) (o : Option ℕ) (b : Bool) → IsFirst P arcs counts o
-    → is_some o ≡ not b → EachArc P arcs counts → b ≡ true
-none_from_all P arcs counts None true first is all = refl
-none_from_all P arcs counts None false first is all = absurd (cc)
-none_from_all P arcs counts (Some k) b first is all = absurd (not_all P arcs counts k first all)
+pub tests_show_least : TestsShowLeast
+tests_show_least net counts price is all =
+    let both = conserve_and_fit net counts price is all in
+    fitting_prices_show_least_counts net counts price both.0 both.1

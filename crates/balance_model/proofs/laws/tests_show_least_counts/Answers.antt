@@ -1,0 +1,5 @@
+use Rattle.balance_model.proofs.PassLemmas.{tests_are_exact, tests_show_least}
+use Rattle.balance_model.proofs.laws.tests_show_least_counts.Goals as goal
+
+pub returns : goal.returns
+returns c = record { exact = tests_are_exact; least = tests_show_least }

@@ -190,3 +190,16 @@ segments_of_code : (code_loads (changed ((72, 16) ∷ (104, 0) ∷ (105, 2) ∷ 
     × (code_loads (changed ((68, 6) ∷ [])) ≡ [])
 unfolding number_at section items lookup_item is_live code_loads
 segments_of_code = (refl, refl)
+
+-- Without section headers there is no section, and without program headers their size says nothing. Their place does.
+without_tables : (first_bad (items (changed ((40, 0) ∷ (41, 0) ∷ (58, 0) ∷ (62, 9) ∷ []))) ≡ None)
+    × (sections (changed ((40, 0) ∷ (41, 0) ∷ [])) ≡ [])
+    × (map bad_with (((56, 0) ∷ (54, 0) ∷ []) ∷ ((56, 0) ∷ (33, 255) ∷ []) ∷ []) ≡ None ∷ bad 32 BadHeader ∷ [])
+unfolding number_at section items lookup_item is_live
+without_tables = (refl, refl, refl)
+
+-- A count in header 0 needs that header within the file, and a count of 0 has no header for the names.
+a_count_in_header_0 : map bad_with (((60, 0) ∷ (40, 0x50) ∷ (41, 2) ∷ []) ∷ ((60, 0) ∷ (62, 0) ∷ []) ∷ ((60, 0) ∷ (367, 6) ∷ []) ∷ [])
+    ≡ bad 40 BadHeader ∷ bad 62 BadHeader ∷ bad 40 BadHeader ∷ []
+unfolding number_at section items lookup_item is_live
+a_count_in_header_0 = refl

@@ -190,3 +190,8 @@ foreign_by_one_end :
     ranges_by (Some x_loaded) (lines_of half_foreign) ≡ (0, 0) ∷ (0, 0) ∷ (0x401004, 0x401008) ∷ []
 unfolding half_foreign x_loaded segments lines_of fields_of number_of prefixed_of address_of is_ip entry_of is_sample branches_of_line load_line_of extent_of offset_of behind_at name_in move_of address_of_offset moved_ranges
 foreign_by_one_end = refl
+
+-- a byte more than a text may have
+largest_text : first_bad_of_piece 1 [] 0 (codes "#") ≡ Some (record { file = 1; at = 0x10000000000; kind = FileTooLarge })
+unfolding lines_of ended_lines_of fields_of number_of prefixed_of address_of is_ip entry_of is_sample is_well_formed branches_of_line cause_of_line items_of_lines
+largest_text = refl

@@ -100,7 +100,8 @@ def judge(title, wanted, words, **files):
         passed += 1
     else:
         failed += 1
-        print(f"FAILED: {title}: {ran.returncode} {ran.stdout!r} {ran.stderr!r}, wanted {wanted}")
+        status, out, said = wanted
+        print(f"FAILED: {title}: {ran.returncode} {ran.stdout[:500]} {ran.stderr}, wanted {status} {out[:500]} {said}")
 
 
 def place(title, binary, address, line, *options):
@@ -307,10 +308,10 @@ PERF_LINE = (
 LOAD = b"x 7 PERF_RECORD_MMAP2 7/7: [0x7f0000000000(0x1000) @ 0 08:02 5 0]: r-xp /bin/x\n"
 
 
-def profile(title, binary, text, lines, ran, *options, reversed=0, outside=0, crossing=0):
-    """The profile with its report up to the ranges, and the numbers of ranges behind it."""
+def profile(title, binary, text, lines, ran, *options, reversed=0, outside=0, crossing=0, units=1):
+    """The profile with its report up to the ranges, and the numbers of ranges and units behind it."""
     numbers = b"# ranges ran %d\n# ranges reversed %d\n# ranges outside %d\n# ranges crossing %d\n"
-    wanted = lines + numbers % (ran, reversed, outside, crossing) + b"# units read 1 passed 0\n"
+    wanted = lines + numbers % (ran, reversed, outside, crossing) + b"# units read %d passed 0\n" % units
     judge(title, (DONE, wanted, b""), ["profile", *options, "bin", "perf"], bin=binary, perf=text)
 
 
@@ -401,8 +402,31 @@ def bases_and_loads():
     )
 
 
+def large():
+    # More functions than 16 bits number, with two lines each. Function k calls the next three from its line 11 + 2 k,
+    # and itself begins in line 5. The three branches of a sample have two ranges between them, which go back to that
+    # function but for those of the last two samples that begin in function 0 or 1.
+    count = 70000
+    lines = []
+    for name, k in sorted((b"f%d" % k, k) for k in range(count)):
+        called = sorted(b"f%d" % ((k + d) % count) for d in (1, 2, 3))
+        lines.append(b"%s:0:3\n %d: 0 %s:1 %s:1 %s:1\n" % (name, (6 + 2 * k) % 65536, *called))
+    report = b"# branches %d\n# entries %d\n# inside 0\n" % (3 * count, 3 * count)
+    profile(
+        "70,000 functions", make.lined_functions(count), make.calls_of_each(count), b"".join(lines) + report, 0,
+        reversed=2 * count - 3, crossing=3,
+    )
+    shared = make.shared_table(2000, 4000)
+    profile("4,000 units with one table", shared, b"", b"# branches 0\n# entries 0\n# inside 0\n", 0, units=4000)
+    count = 1600000
+    judge(
+        "1.6 million branches", (DONE, b"".join(b"0x%x 0x%x 1\n" % (k, k + 9) for k in range(count)) + b"# branches %d\n" % count, b""),
+        ["counts", "perf"], perf=b"".join(b"0x%x/0x%x\n" % (k, k + 9) for k in range(count)),
+    )
+
+
 PROGRAM = os.path.abspath(sys.argv[1])
-for part in [places, range_lists, other_places, refusals, words, profiles, reports, bases_and_loads]:
+for part in [places, range_lists, other_places, refusals, words, profiles, reports, bases_and_loads, large]:
     part()
 print(f"{passed} passed, {failed} failed")
 sys.exit(failed > 0)

@@ -106,10 +106,10 @@ def abbreviations(n):
     return binary(table, unit(b"".join(uleb(code) for code in codes[:1000])), 0x1000)
 
 
-def shared_table(n):
-    """n units, and one table of n abbreviations that each of them refers to."""
+def shared_table(n, units=None):
+    """n units, or so many, and one table of n abbreviations that each of them refers to."""
     table = b"".join(abbreviation(code, 0x11, 0) for code in range(1, n + 1)) + b"\0"
-    return binary(table, unit(b"\x01") * n, 0x1000)
+    return binary(table, unit(b"\x01") * (units or n), 0x1000)
 
 
 def tails_of_a_table(n):

@@ -20,10 +20,10 @@ DONE, BAD_WORDS, REFUSED = 0, 2, 4
 ONE = make.small(1)
 TWO = make.small(2)
 
-# A unit of version 4 and one of version 5: `lo` from line 10, with its ranges in `.debug_ranges`, and `hi` from line 20,
-# with name, base address and ranges by indexes.
-MIXED = make.elf(
-    [
+def mixed(pairs, entries):
+    """A unit of version 4 and one of version 5: `lo` from line 10, with these pairs in `.debug_ranges`, and `hi` from
+    line 20, with name, base address and ranges by indexes, and with these entries of `.debug_rnglists`."""
+    sections = [
         # A unit and a function for version 4, and the same for version 5.
         (b".debug_abbrev", bytes.fromhex(
             "01110110171101 0000 022e0003083b0b5517 0000 00"
@@ -36,15 +36,18 @@ MIXED = make.elf(
             "40000000 0400 14000000 01 01 01 fb 0e 0d 000101010100000001000001 00 00"
             "0009021010400000000000 030a 01 0210 000101 0009021020400000000000 0314 01 0210 000101")),
         (b".debug_str", b"ab\0hi\0"),
-        # Where text 0 begins, and that address 0 is 0x402000.
+        # Where text 0 begins, and that address 0 is 0x402000, and address 1 0x402020.
         (b".debug_str_offsets", bytes.fromhex("08000000 0500 0000 03000000")),
-        (b".debug_addr", bytes.fromhex("0c000000 0500 08 00 0020400000000000")),
-        # From 0x10 up to 0x20 behind the base of the unit, and the same behind address 0.
-        (b".debug_ranges", bytes.fromhex("1000000000000000 2000000000000000") + bytes(16)),
-        (b".debug_rnglists", bytes.fromhex("12000000 0500 08 00 01000000 04000000 01 00 04 10 20 00")),
-    ],
-    0x2000,
-)
+        (b".debug_addr", bytes.fromhex("14000000 0500 08 00 0020400000000000 2020400000000000")),
+        (b".debug_ranges", bytes.fromhex(pairs) + bytes(16)),
+        (b".debug_rnglists", bytes.fromhex("20000000 0500 08 00 01000000 04000000" + entries + "00")),
+    ]
+    return make.elf(sections, 0x2000)
+
+
+# From 0x10 up to 0x20 behind the base of the unit, and the same behind address 0.
+PAIR, ENTRY = "1000000000000000 2000000000000000", "01 00 04 10 20"
+MIXED = mixed(PAIR, ENTRY)
 
 # Three units with `a`, `b` and `c` from lines 10, 20 and 30, of which the first and the last name one line program: it
 # has line 11 for `a` and 31 for `c`. That of `b` has line 22 for it, and line 41 for the addresses of `c`.
@@ -64,6 +67,24 @@ SHARED = make.elf(
     0x30,
 )
 
+# A function `f` from line 5, with a call of itself inlined whose discriminator is 2^32 + 1, as is that of its row in line
+# 10.
+LONG_DISCRIMINATORS = make.binary(
+    make.ROOT_WITH_LINES + make.abbreviation(2, 0x2E, 1, *make.FUNCTION)
+    + bytes.fromhex("03 1d 00 3113 1101 1206 5905 b64207 0000 00"),
+    make.unit(bytes.fromhex(
+        "01 00000000 02 6600 05 0010400000000000 40000000"
+        "03 10000000 1010400000000000 10000000 0700 0100000001000000 00 00")),
+    0x40,
+    line=make.line_program(bytes.fromhex("0009020010400000000000 0309 000604 8180808010 01 0240 000101")),
+)
+
+# The nine sections, in the file the last of them first, and the offset of the header of each.
+NINE = [b"abbrev", b"info", b"line", b"str", b"line_str", b"str_offsets", b"addr", b"ranges", b"rnglists"]
+FILLED = {b"abbrev": ONE[120:166], b"info": ONE[166:229], b"line": ONE[229:286]}
+ALL_SECTIONS = make.elf([(b".debug_" + name, FILLED.get(name, b"")) for name in reversed(NINE)], 0x40)
+HEADERS = [int.from_bytes(ALL_SECTIONS[40:48], "little") + 64 * (9 - k) for k in range(9)]
+
 passed = failed = 0
 
 
@@ -79,7 +100,8 @@ def judge(title, wanted, words, **files):
         passed += 1
     else:
         failed += 1
-        print(f"FAILED: {title}: {ran.returncode} {ran.stdout!r} {ran.stderr!r}, wanted {wanted}")
+        status, out, said = wanted
+        print(f"FAILED: {title}: {ran.returncode} {ran.stdout[:500]} {ran.stderr}, wanted {status} {out[:500]} {said}")
 
 
 def place(title, binary, address, line, *options):
@@ -130,11 +152,36 @@ def places():
         place("units that share a line program", SHARED, address, line)
 
 
+def range_lists():
+    # Where `lo` and `hi` are by other lists: rows begin 16 bytes behind the base of either, and end 16 bytes further on.
+    first_pair = mixed("0000000000000000 2000000000000000", ENTRY)
+    for address, line in [
+        ("400fff", b"outside\n"), ("401000", b"noline\n"), ("40100f", b"noline\n"), ("401010", b"lo 1\n"),
+        ("40101f", b"lo 1\n"), ("401020", b"outside\n"),
+    ]:
+        place("a pair from 0", first_pair, address, line)
+    for entries, before in [
+        ("02 00 01", b"noline\n"),
+        ("03 00 20", b"noline\n"),
+        ("05 0020400000000000 04 10 20", b"outside\n"),
+        ("06 1020400000000000 2020400000000000", b"outside\n"),
+        ("07 1020400000000000 10", b"outside\n"),
+    ]:
+        listed = mixed(PAIR, entries)
+        for address, line in [("40200f", before), ("402010", b"hi 1\n"), ("40201f", b"hi 1\n"), ("402020", b"outside\n")]:
+            place(f"the entry {entries}", listed, address, line)
+
+
 def other_places():
     low_line = (271, 271, 0x7F), (274, 274, 0x82)
     place("a line of 0", changed(ONE, *low_line), "401000", b"noline\n")
     place("a line before the function's", changed(ONE, *low_line), "401008", b"f0000 65527\n")
-    place("a name with a #", changed(ONE, (187, 187, 0x23)), "401008", b"nameless\n")
+    for at, byte in [(187, 0x23), (187, 0x21), (187, 0x37), (189, 0x20), (189, 0x09), (189, 0x7F), (189, 0x3A)]:
+        place(f"a name with byte {byte:x}", changed(ONE, (at, at, byte)), "401008", b"nameless\n")
+    place("a name with a ! and a # behind its first", changed(ONE, (188, 188, 0x21), (189, 189, 0x23)), "401008", b"f!#00 1\n")
+    for options, line, inlined in [([], b"f 5.1\n", b"f 2.1 f 5.1\n"), (["--base"], b"f 5\n", b"f 2 f 5\n")]:
+        place("a discriminator of 2^32 + 1", LONG_DISCRIMINATORS, "401000", line, *options)
+        place("a discriminator of 2^32 + 1", LONG_DISCRIMINATORS, "401014", inlined, *options)
     place("a discarded function", changed(ONE, (195, 202, 0), (262, 269, 0)), "401008", b"outside\n")
     over = changed(TWO, (237, 237, 0))
     place("two functions over one another", over, "401008", b"f0000 1\n")
@@ -171,6 +218,29 @@ DAMAGE = [
     (285, 285, 0x03, 286, b"NoEnd"),
 ]
 
+# Two changes that are refused each, and where: where both are made, the first one is.
+IN_ORDER = [
+    # The file header, the section headers, the nine sections, the units, the line programs, and pieces and names.
+    (ONE, (62, 62, 0x05), (62, b"BadHeader"), (423, 430, 0xFF), (399, b"SectionPastEnd")),
+    (ONE, (591, 591, 0xFF), (591, b"NameBad"), (408, 408, 0x08), (399, b"Compressed")),
+    (ONE, (536, 536, 0x08), (527, b"Compressed"), (170, 170, 0x06), (170, b"BadVersion")),
+    (ONE, (227, 227, 0x09), (227, b"UnknownAbbrev"), (233, 233, 0x06), (233, b"BadVersion")),
+    (ONE, (271, 271, 0x76), (270, b"LineOverflow"), (208, 208, 0x11), (208, b"BadReference")),
+    # Of a unit its header, its abbreviations and its entries, then the next unit; and all units before the programs.
+    (ONE, (176, 176, 0x04), (176, b"BadAddressSize"), (122, 122, 0x02), (122, b"BadChildren")),
+    (ONE, (127, 127, 0x01), (127, b"CodeTwice"), (177, 177, 0x09), (177, b"UnknownAbbrev")),
+    (SHARED, (157, 157, 0x09), (157, b"UnknownAbbrev"), (178, 178, 0x06), (178, b"BadVersion")),
+    (SHARED, (223, 223, 0x09), (223, b"UnknownAbbrev"), (244, 244, 0x06), (244, b"BadVersion")),
+    # Of a program its header and its operations, then the program of the next unit.
+    (SHARED, (244, 244, 0x06), (244, b"BadVersion"), (282, 282, 0x76), (281, b"LineOverflow")),
+    (SHARED, (282, 282, 0x76), (281, b"LineOverflow"), (312, 312, 0x06), (312, b"BadVersion")),
+    (SHARED, (312, 312, 0x06), (312, b"BadVersion"), (219, 222, 0xFF), (219, b"PastSection")),
+    # Of a unit its base address and its entries, then the next unit; and of an entry its ranges and its name.
+    (MIXED, (197, 200, 0xFF), (197, b"PastSection"), (231, 231, 0x05), (231, b"PastSection")),
+    (MIXED, (231, 231, 0x05), (231, b"PastSection"), (235, 235, 0x09), (235, b"PastSection")),
+    (MIXED, (235, 235, 0x09), (235, b"PastSection"), (233, 233, 0x07), (233, b"PastSection")),
+]
+
 # The root, the function that is inlined, and one that calls it; and a call that is inlined, below which others stand.
 FUNCTION = bytes.fromhex("01 00000000 02 6700 05 03 6600 0a 0000104000000000 0040000000")
 CALL = bytes.fromhex("04 10000000 1010400000000000 10000000 0c 00 01")
@@ -184,9 +254,22 @@ def with_entries(entries):
     return bytes(made) + (size - 4).to_bytes(4, "little") + bytes([4, 0, 0, 0, 0, 0, 8]) + entries
 
 
+def flagged(*compressed):
+    """The file of all sections, with these of the nine said to be compressed."""
+    return changed(ALL_SECTIONS, *((HEADERS[k] + 9, HEADERS[k] + 9, 0x08) for k in compressed))
+
+
 def refusals():
     for first, last, byte, at, kind in DAMAGE:
         refused(f"bytes {first} to {last} set to {byte}", changed(ONE, (first, last, byte)), at, kind)
+    for binary, first, its_place, second, other_place in IN_ORDER:
+        refused(f"{first} of two", changed(binary, first), *its_place)
+        refused(f"{second} of two", changed(binary, second), *other_place)
+        refused(f"{first} and {second}", changed(binary, first, second), *its_place)
+    for k, header in enumerate(HEADERS):
+        refused(f"{NINE[k]} compressed", flagged(k), header, b"Compressed")
+        for other in range(k + 1, 9):
+            refused(f"{NINE[k]} and {NINE[other]} compressed", flagged(k, other), header, b"Compressed")
     for size in range(len(ONE)):
         at, kind = (0, b"NotElf") if size < 64 else (32, b"BadHeader") if size < 120 else (40, b"BadHeader")
         refused(f"the first {size} bytes", ONE[:size], at, kind)
@@ -203,8 +286,14 @@ def words():
         "where", "where bin", "where bin xyz", "where bin 0x", "where bin 0X1", "where bin 00000000000401000",
         "where --base --base bin 401000", "where --bases bin 401000", "where -- bin 401000", "where bin --base 401000",
         "where bin 401000 --base", "profile", "profile bin", "make 1 bin", "build bin perf perf",
+        "where --base bin 401000 x", "where --base bin 401000 x y", "where --base bin 401000 x y z",
+        "profile --map=/x --base bin perf x", "profile --map=/x --base bin perf x y", "profile bin perf x y z v",
+        "profile --map=/x --base --base bin perf", "profile --map=/x --base --base --map=/y bin perf",
+        "counts perf x y z u", "counts perf x y z u v",
     ]:
-        judge(spelled, (BAD_WORDS, b"", USAGE), spelled.split(), bin=ONE)
+        judge(spelled, (BAD_WORDS, b"", USAGE), spelled.split(), bin=ONE, perf=b"")
+    for options in [["--map=/x", "--base"], ["--base", "--map=/x"]]:
+        profile("five words", ONE, b"", b"# branches 0\n# entries 0\n# inside 0\n", 0, *options)
     judge("an empty address", (BAD_WORDS, b"", USAGE), ["where", "bin", ""], bin=ONE)
 
 
@@ -219,10 +308,10 @@ PERF_LINE = (
 LOAD = b"x 7 PERF_RECORD_MMAP2 7/7: [0x7f0000000000(0x1000) @ 0 08:02 5 0]: r-xp /bin/x\n"
 
 
-def profile(title, binary, text, lines, ran, *options, reversed=0, outside=0, crossing=0):
-    """The profile with its report up to the ranges, and the numbers of ranges behind it."""
+def profile(title, binary, text, lines, ran, *options, reversed=0, outside=0, crossing=0, units=1):
+    """The profile with its report up to the ranges, and the numbers of ranges and units behind it."""
     numbers = b"# ranges ran %d\n# ranges reversed %d\n# ranges outside %d\n# ranges crossing %d\n"
-    wanted = lines + numbers % (ran, reversed, outside, crossing) + b"# units read 1 passed 0\n"
+    wanted = lines + numbers % (ran, reversed, outside, crossing) + b"# units read %d passed 0\n" % units
     judge(title, (DONE, wanted, b""), ["profile", *options, "bin", "perf"], bin=binary, perf=text)
 
 
@@ -263,6 +352,26 @@ def profiles():
     )
 
 
+def reports():
+    # `f0000` has no line up to 0x401008, and the function from 0x401040 on no name.
+    partly = changed(TWO, (229, 229, 0x23), (313, 313, 0x7F), (316, 316, 0x82))
+    profile(
+        "each reason", partly,
+        b"0x401008/0x401050\n0x401008/0x401040\n0x401008/0x9\n0x401004/0x401008\n0x401050/0x9\n0x9/0x401008\n"
+        b"0x9/0x401000\n0x401008/0x401004\n0x9/0x401008\n",
+        b"f0000:0:1\n# branches 9\n# entries 1\n# inside 1\n"
+        b"# unmapped FromOutside 0x9 0x401008 2\n# unmapped FromNameless 0x401050 0x9 1\n"
+        b"# unmapped FromNoLine 0x401004 0x401008 1\n# unmapped ToOutside 0x401008 0x9 1\n"
+        b"# unmapped ToNameless 0x401008 0x401040 1\n# unmapped ToNameless 0x401008 0x401050 1\n", 0,
+    )
+    profile(
+        "ranges from outside and to outside", ONE, b"0x401004/0x9 0x9/0x400ff0\n0x401050/0x9 0x9/0x401030\n",
+        b"# branches 4\n# entries 0\n# inside 0\n# unmapped FromOutside 0x9 0x400ff0 1\n"
+        b"# unmapped FromOutside 0x9 0x401030 1\n# unmapped FromOutside 0x401050 0x9 1\n"
+        b"# unmapped ToOutside 0x401004 0x9 1\n", 0, outside=2,
+    )
+
+
 def bases_and_loads():
     # Discriminator 17 has base 0, by which hits count four times.
     copied = changed(ONE, (278, 278, 0x11))
@@ -283,10 +392,41 @@ def bases_and_loads():
         "a moved range between foreign ends", ONE, LOAD + b"0x7f0000000004/0x9 0x9/0x7f0000000000",
         b"f0000:1:1\n 0: 1\n# branches 2\n# entries 1\n# inside 0\n# unmapped ToOutside 0x401004 0x0 1\n", 1, "--map=/bin/x",
     )
+    profile(
+        "a moved range of which the newer end is foreign", ONE, LOAD + b"0x9/0x7f0000000004 0x7f0000000004/0x7f0000000008",
+        b"# branches 2\n# entries 0\n# inside 1\n# unmapped FromOutside 0x0 0x401004 1\n", 0, "--map=/bin/x", outside=1,
+    )
+    profile(
+        "a moved range of which the older end is foreign", ONE, LOAD + b"0x7f0000000004/0x7f0000000008 0x7f0000000004/0x9",
+        b"# branches 2\n# entries 0\n# inside 1\n# unmapped ToOutside 0x401004 0x0 1\n", 0, "--map=/bin/x", outside=1,
+    )
+
+
+def large():
+    # More functions than 16 bits number, with two lines each. Function k calls the next three from its line 11 + 2 k,
+    # and itself begins in line 5. The three branches of a sample have two ranges between them, which go back to that
+    # function but for those of the last two samples that begin in function 0 or 1.
+    count = 70000
+    lines = []
+    for name, k in sorted((b"f%d" % k, k) for k in range(count)):
+        called = sorted(b"f%d" % ((k + d) % count) for d in (1, 2, 3))
+        lines.append(b"%s:0:3\n %d: 0 %s:1 %s:1 %s:1\n" % (name, (6 + 2 * k) % 65536, *called))
+    report = b"# branches %d\n# entries %d\n# inside 0\n" % (3 * count, 3 * count)
+    profile(
+        "70,000 functions", make.lined_functions(count), make.calls_of_each(count), b"".join(lines) + report, 0,
+        reversed=2 * count - 3, crossing=3,
+    )
+    shared = make.shared_table(2000, 4000)
+    profile("4,000 units with one table", shared, b"", b"# branches 0\n# entries 0\n# inside 0\n", 0, units=4000)
+    count = 1600000
+    judge(
+        "1.6 million branches", (DONE, b"".join(b"0x%x 0x%x 1\n" % (k, k + 9) for k in range(count)) + b"# branches %d\n" % count, b""),
+        ["counts", "perf"], perf=b"".join(b"0x%x/0x%x\n" % (k, k + 9) for k in range(count)),
+    )
 
 
 PROGRAM = os.path.abspath(sys.argv[1])
-for part in [places, other_places, refusals, words, profiles, bases_and_loads]:
+for part in [places, range_lists, other_places, refusals, words, profiles, reports, bases_and_loads, large]:
     part()
 print(f"{passed} passed, {failed} failed")
 sys.exit(failed > 0)

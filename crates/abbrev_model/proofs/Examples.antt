@@ -3,7 +3,7 @@ use Rattle.std.proofs.Common.{◌≡◌, pos, negsuc, true, false, [], ◌∷◌
 use Rattle.refusal.specs.declared.kind.Kind.TheVariants.{BadChildren, CodeTwice, Short}
 use Rattle.refusal.specs.Place.{in_binary}
 use Rattle.abbrev_model.specs.Abbrev.{Abbrev, find_code}
-use Rattle.abbrev_model.specs.Table.{table, next_abbrev, abbrev_behind, abbrev_of, children_byte, attrs, next_attr, implicit}
+use Rattle.abbrev_model.specs.Table.{max_abbrevs, table, next_abbrev, abbrev_behind, abbrev_of, children_byte, attrs, next_attr, implicit}
 use Rattle.placed_view.specs.Reader.{Read, uleb, sleb, field}
 use Rattle.byte_view.specs.Reading.{uleb_at, sleb_at, field_at}
 use Rattle.std.proofs.Common.{List, ℕ}
@@ -41,3 +41,21 @@ same_code = refl
 not_ended : read 7 (1 ∷ 0x11 ∷ 0 ∷ 0 ∷ 0 ∷ []) ≡ Err (in_binary 12 Short)
 unfolding read find_code table next_abbrev abbrev_behind abbrev_of children_byte attrs next_attr implicit uleb sleb field uleb_at sleb_at field_at
 not_ended = refl
+
+-- a name or a form of 0 alone ends no list, and the value of DW_FORM_implicit_const belongs to its attribute
+zeros_apart : read 0 (1 ∷ 0x11 ∷ 0 ∷ 0 ∷ 8 ∷ 3 ∷ 0 ∷ 0 ∷ 0x21 ∷ 5 ∷ 0 ∷ 0 ∷ 0 ∷ [])
+    ≡ Ok (
+      record {
+        code = 1;
+        tag = 0x11;
+        children = false;
+        attrs = record { name = 0; form = 8; implicit = pos 0 } ∷ record { name = 3; form = 0; implicit = pos 0 } ∷ record { name = 0; form = 0x21; implicit = pos 5 } ∷ [];
+      }
+          ∷ [],
+      record { at = 13; left = [] },
+    )
+unfolding read find_code table next_abbrev abbrev_behind abbrev_of children_byte attrs next_attr implicit uleb sleb field uleb_at sleb_at field_at
+zeros_apart = refl
+
+most_abbreviations : max_abbrevs ≡ 1048576
+most_abbreviations = refl

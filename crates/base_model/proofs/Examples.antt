@@ -69,3 +69,17 @@ without_base = record { name = 0x11; at = 125; value = addr_index 0 } ∷ []
 an_index_without_a_base : base_address sections (three without_base second) 0 ≡ Err (in_binary 125 NoBase)
 unfolding base_address bases_of_unit root_of address_of field_at
 an_index_without_a_base = refl
+
+-- a first entry that is no root says nothing
+abbrev without_root : Units
+without_root = record (three first second) {
+  units = record { at = 100; end = 150; version = 5; wide = false; first = 1; count = 1 } ∷ [];
+  entries = record { at = 112; depth = 0; tag = 0x11; unit = 0; found = first }
+      ∷ record { at = 130; depth = 0; tag = 0x2e; unit = 0; found = first }
+      ∷ [];
+}
+
+no_root : (bases_of_unit without_root 0 ≡ record { wide = false; str_offsets = None; addr = None; rnglists = None })
+    × (base_address sections without_root 0 ≡ Ok 0)
+unfolding base_address bases_of_unit root_of address_of field_at
+no_root = (refl, refl)

@@ -1,12 +1,14 @@
 -- The definitions computed on a small file: one segment of code and, behind header 0, four sections.
-use Rattle.std.proofs.Common.{◌≡◌, ℕ, true, false, List, [], ◌∷◌, map, take, set, None, Some, refl}
+use Rattle.std.proofs.Common.{◌≡◌, ℕ, true, false, List, [], ◌∷◌, map, take, set, Option, None, Some, refl}
 use Rattle.std.specs.Prelude.{codes}
-use Rattle.refusal.specs.declared.kind.Kind.TheVariants.{BadHeader, Compressed}
-use Rattle.refusal.specs.Place.{first_bad}
+use Rattle.refusal.specs.declared.kind.Kind.{Kind}
+use Rattle.refusal.specs.declared.kind.Kind.TheVariants.{BadHeader, BadType, Compressed, NameBad, NotElf, NotElf64Little, SectionPastEnd}
+use Rattle.refusal.specs.declared.place.Place.{Place}
+use Rattle.refusal.specs.Place.{first_bad, in_binary}
 use Rattle.elf_model.specs.Fields.{number_at}
 use Rattle.elf_model.specs.Tables.{section_headers}
 use Rattle.elf_model.specs.Sections.{name_of, section, sections, start, file_size}
-use Rattle.elf_model.specs.Segments.{is_live}
+use Rattle.elf_model.specs.Segments.{code_loads, is_live}
 use Rattle.elf_model.specs.Items.{items, lookup_item}
 
 abbrev small_file : List ℕ
@@ -114,3 +116,90 @@ no_bytes = refl
 twins : section (set small_file 527 15) (codes ".debug_info") ≡ section small_file (codes ".debug_info")
 unfolding number_at section items lookup_item is_live
 twins = refl
+
+-- The file with other bytes, each by its place.
+abbrev changed : List (ℕ × ℕ) → List ℕ
+changed [] = small_file
+changed (change ∷ more) = set (changed more) change.0 change.1
+
+abbrev places : List ℕ → List ℕ
+places file = map (λ h. h.at) (sections file)
+
+-- header 0 is no section, whatever its type and its name say
+header_0_is_no_section : (places (changed ((335, 15) ∷ (339, 1) ∷ [])) ≡ 399 ∷ 463 ∷ 527 ∷ 591 ∷ [])
+    × (section (changed ((335, 15) ∷ (339, 1) ∷ [])) (codes ".debug_info") ≡ section small_file (codes ".debug_info"))
+    × (first_bad (items (changed ((335, 255) ∷ (339, 1) ∷ (367, 255) ∷ (374, 255) ∷ []))) ≡ None)
+unfolding number_at section items lookup_item is_live
+header_0_is_no_section = (refl, refl, refl)
+
+-- nor is a header of type 0, of which neither name nor extent is judged
+a_header_of_type_0 : (places (changed ((467, 0) ∷ [])) ≡ 399 ∷ 527 ∷ 591 ∷ [])
+    × (first_bad (items (changed ((467, 0) ∷ (463, 255) ∷ (494, 255) ∷ []))) ≡ None)
+unfolding number_at section items lookup_item is_live
+a_header_of_type_0 = (refl, refl)
+
+abbrev bad_with : List (ℕ × ℕ) → Option Place
+bad_with changes = first_bad (items (changed changes))
+
+abbrev bad : ℕ → Kind → Option Place
+bad at kind = Some (in_binary at kind)
+
+-- each cause of the file header, and with it the next one in order
+header_in_order :
+    map bad_with (
+    ((0, 0) ∷ (4, 1) ∷ []) ∷ ((4, 1) ∷ (16, 1) ∷ []) ∷ ((5, 2) ∷ []) ∷ ((16, 1) ∷ (56, 255) ∷ (57, 255) ∷ [])
+    ∷ ((56, 255) ∷ (57, 255) ∷ (54, 55) ∷ []) ∷ ((54, 55) ∷ (33, 255) ∷ []) ∷ ((33, 255) ∷ (58, 63) ∷ [])
+    ∷ ((58, 63) ∷ (41, 255) ∷ []) ∷ ((41, 255) ∷ (62, 5) ∷ []) ∷ ((62, 5) ∷ (622, 255) ∷ []) ∷ [])
+    ≡ bad 0 NotElf ∷ bad 4 NotElf64Little ∷ bad 4 NotElf64Little ∷ bad 16 BadType
+    ∷ bad 56 BadHeader ∷ bad 54 BadHeader ∷ bad 32 BadHeader
+    ∷ bad 58 BadHeader ∷ bad 40 BadHeader ∷ bad 62 BadHeader ∷ []
+unfolding number_at section items lookup_item is_live
+header_in_order = refl
+
+-- the extent of the names first of all, then at each header its extent before its name
+sections_in_order :
+    map bad_with (
+    ((622, 255) ∷ (430, 255) ∷ []) ∷ ((430, 255) ∷ (399, 255) ∷ []) ∷ ((399, 255) ∷ (494, 255) ∷ []) ∷ ((494, 255) ∷ (591, 255) ∷ []) ∷ [])
+    ≡ bad 591 SectionPastEnd ∷ bad 399 SectionPastEnd ∷ bad 399 NameBad ∷ bad 463 SectionPastEnd ∷ []
+unfolding number_at section items lookup_item is_live
+sections_in_order = refl
+
+-- a section may end where the file does, and no byte behind it
+up_to_the_end : map bad_with (((431, 0x17) ∷ (432, 2) ∷ []) ∷ ((431, 0x18) ∷ (432, 2) ∷ []) ∷ []) ≡ None ∷ bad 399 SectionPastEnd ∷ []
+unfolding number_at section items lookup_item is_live
+up_to_the_end = refl
+
+-- a section without bytes is compressed all the same, and one without the flag is not
+compressed_without_bytes : map (λ changes. lookup_item (changed changes) (codes ".debug_info"))
+    (((467, 8) ∷ (472, 8) ∷ []) ∷ ((472, 4) ∷ []) ∷ ((471, 255) ∷ (472, 0xf7) ∷ []) ∷ [])
+    ≡ bad 463 Compressed ∷ None ∷ None ∷ []
+unfolding number_at section items lookup_item is_live
+compressed_without_bytes = refl
+
+-- a segment is code where it is loaded and may be executed, and the range does not begin at 0
+only_code_is_live : map (λ changes. is_live (changed changes) 0x401000 0x401040) (((64, 2) ∷ []) ∷ ((68, 6) ∷ []) ∷ ((68, 1) ∷ []) ∷ [])
+    ≡ false ∷ false ∷ true ∷ []
+unfolding number_at section items lookup_item is_live
+only_code_is_live = refl
+
+not_at_0 : map (λ lo. is_live (changed ((81, 0) ∷ (82, 0) ∷ [])) lo 0x40) (0 ∷ 1 ∷ []) ≡ false ∷ true ∷ []
+unfolding number_at section items lookup_item is_live
+not_at_0 = refl
+
+segments_of_code : (code_loads (changed ((72, 16) ∷ (104, 0) ∷ (105, 2) ∷ [])) ≡ record { offset = 16; vaddr = 0x401000; size = 0x200 } ∷ [])
+    × (code_loads (changed ((68, 6) ∷ [])) ≡ [])
+unfolding number_at section items lookup_item is_live code_loads
+segments_of_code = (refl, refl)
+
+-- Without section headers there is no section, and without program headers their size says nothing. Their place does.
+without_tables : (first_bad (items (changed ((40, 0) ∷ (41, 0) ∷ (58, 0) ∷ (62, 9) ∷ []))) ≡ None)
+    × (sections (changed ((40, 0) ∷ (41, 0) ∷ [])) ≡ [])
+    × (map bad_with (((56, 0) ∷ (54, 0) ∷ []) ∷ ((56, 0) ∷ (33, 255) ∷ []) ∷ []) ≡ None ∷ bad 32 BadHeader ∷ [])
+unfolding number_at section items lookup_item is_live
+without_tables = (refl, refl, refl)
+
+-- A count in header 0 needs that header within the file, and a count of 0 has no header for the names.
+a_count_in_header_0 : map bad_with (((60, 0) ∷ (40, 0x50) ∷ (41, 2) ∷ []) ∷ ((60, 0) ∷ (62, 0) ∷ []) ∷ ((60, 0) ∷ (367, 6) ∷ []) ∷ [])
+    ≡ bad 40 BadHeader ∷ bad 62 BadHeader ∷ bad 40 BadHeader ∷ []
+unfolding number_at section items lookup_item is_live
+a_count_in_header_0 = refl

@@ -100,3 +100,19 @@ one_piece_too_many = refl
 no_piece_is_never_too_many : pieces_behind (2 ^ 26) (size ∷ []) ≡ Ok []
 unfolding pieces spelled_ranges address_of is_live number_at
 no_piece_is_never_too_many = refl
+
+a_start_alone : pieces_behind 0 (low ∷ []) ≡ Ok []
+unfolding pieces spelled_ranges address_of is_live number_at
+a_start_alone = refl
+
+-- an end that is not above its start, as it is, as a size of 0, or because the sum goes round at 2^64
+no_range : (spelled_ranges of_unit (entry (low ∷ record { name = 0x12; at = 203; value = addr 0x401000 } ∷ [])) ≡ Ok [])
+    × (spelled_ranges of_unit (entry (low ∷ record { name = 0x12; at = 203; value = const 0 } ∷ [])) ≡ Ok [])
+    × (spelled_ranges of_unit (entry (record { name = 0x11; at = 195; value = addr (2 ^ 64 - 16) } ∷ size ∷ [])) ≡ Ok [])
+unfolding spelled_ranges address_of
+no_range = (refl, refl, refl)
+
+-- a range that goes past the segment is no piece, not even in part
+past_the_segment : pieces_behind 0 (low ∷ record { name = 0x12; at = 203; value = const 0x2001 } ∷ []) ≡ Ok []
+unfolding pieces spelled_ranges address_of is_live number_at
+past_the_segment = refl

@@ -1,11 +1,11 @@
 -- Texts, addresses and range lists on worked bytes.
 use Rattle.std.proofs.Common.{◌≡◌, ℕ, false, List, [], ◌∷◌, ◌++◌, None, Some, Ok, Err, refl}
-use Rattle.refusal.specs.declared.kind.Kind.TheVariants.{Short, PastSection, NoSection, BadRangeEntry}
+use Rattle.refusal.specs.declared.kind.Kind.TheVariants.{Short, PastSection, NoSection, BadRangeEntry, TooManyRanges}
 use Rattle.byte_view.specs.Reading.{field_at, text_at, uleb_at}
 use Rattle.value_model.specs.Value.{str_index, addr_index, range_index, offset}
 use Rattle.range_model.specs.Texts.{Bases, Sections, text_of, address_of}
-use Rattle.range_model.specs.Entries.{coded_entry_at, pair_entry_at}
-use Rattle.range_model.specs.Lists.{RangeSections, bad_range, ranges_of}
+use Rattle.range_model.specs.Entries.{coded_entry_at, from_base, pair_entry_at, sets_base}
+use Rattle.range_model.specs.Lists.{RangeSections, bad_range, entry_item, ranges_of}
 
 abbrev zeros : List ℕ
 zeros = 0 ∷ 0 ∷ 0 ∷ 0 ∷ 0 ∷ 0 ∷ 0 ∷ 0 ∷ []
@@ -83,3 +83,68 @@ no_section = refl
 good : bad_range 7 5 (with_list (4 ∷ 0x10 ∷ 0x20 ∷ 0 ∷ [])) bases (range_index 0) ≡ None
 unfolding bad_range address_of coded_entry_at pair_entry_at field_at uleb_at
 good = refl
+
+-- the same with two addresses: 0x402000 and 0x402020
+abbrev with_two : List ℕ → RangeSections
+with_two list = record (with_list list) {
+  texts = record sections { addr = Some (zeros ++ 0 ∷ 0x20 ∷ 0x40 ∷ 0 ∷ 0 ∷ 0 ∷ 0 ∷ 0 ∷ 0x20 ∷ 0x20 ∷ 0x40 ∷ 0 ∷ 0 ∷ 0 ∷ 0 ∷ 0 ∷ []) };
+}
+
+by_two_indexes : ranges_of 5 0x401000 (with_two (2 ∷ 0 ∷ 1 ∷ 0 ∷ [])) bases (range_index 0) ≡ (0x402000, 0x402020) ∷ []
+unfolding ranges_of address_of coded_entry_at pair_entry_at field_at uleb_at
+by_two_indexes = refl
+
+from_a_base_that_stands_there : meant (5 ∷ 0 ∷ 0x30 ∷ 0x40 ∷ 0 ∷ 0 ∷ 0 ∷ 0 ∷ 0 ∷ 4 ∷ 0x10 ∷ 0x20 ∷ 0 ∷ []) ≡ (0x403010, 0x403020) ∷ []
+unfolding ranges_of address_of coded_entry_at pair_entry_at field_at uleb_at
+from_a_base_that_stands_there = refl
+
+by_start_and_end : meant (6 ∷ 0 ∷ 0x30 ∷ 0x40 ∷ 0 ∷ 0 ∷ 0 ∷ 0 ∷ 0 ∷ 5 ∷ 0x30 ∷ 0x40 ∷ 0 ∷ 0 ∷ 0 ∷ 0 ∷ 0 ∷ 0 ∷ []) ≡ (0x403000, 0x403005) ∷ []
+unfolding ranges_of address_of coded_entry_at pair_entry_at field_at uleb_at
+by_start_and_end = refl
+
+-- sums go round at 2^64
+round_the_end : (meant (4 ∷ 0x80 ∷ 0xe0 ∷ 0xff ∷ 0xff ∷ 0xff ∷ 0xff ∷ 0xff ∷ 0xff ∷ 0xff ∷ 1 ∷ 0x10 ∷ 0 ∷ []) ≡ (0x400000, 0x401010) ∷ [])
+    × (meant (7 ∷ 0xf0 ∷ 0xff ∷ 0xff ∷ 0xff ∷ 0xff ∷ 0xff ∷ 0xff ∷ 0xff ∷ 0x20 ∷ 0 ∷ []) ≡ [])
+unfolding ranges_of address_of coded_entry_at pair_entry_at field_at uleb_at
+round_the_end = (refl, refl)
+
+-- all operands of an entry are read before its first index is resolved, and then the first one is tried first
+operands_first : (bad_range 7 5 (with_list (2 ∷ 9 ∷ 0x80 ∷ [])) bases (range_index 0) ≡ Some (record { file = 1; at = 116; kind = Short }))
+    × (bad_range 7 5 (with_list (2 ∷ 0 ∷ 1 ∷ 8 ∷ [])) bases (range_index 0) ≡ Some (record { file = 1; at = 116; kind = PastSection }))
+unfolding bad_range address_of coded_entry_at pair_entry_at field_at uleb_at
+operands_first = (refl, refl)
+
+-- pairs, of which the base is 0x401000
+abbrev pairs : List ℕ → RangeSections
+pairs list = record (with_list []) { ranges = Some (record { at = 200; bytes = list }) }
+
+abbrev meant_by_pairs : List ℕ → List (ℕ × ℕ)
+meant_by_pairs list = ranges_of 4 0x401000 (pairs list) bases (offset 0)
+
+abbrev pair : ℕ → ℕ → List ℕ
+pair low high = (low ∷ 0 ∷ 0 ∷ 0 ∷ 0 ∷ 0 ∷ 0 ∷ 0 ∷ []) ++ (high ∷ 0 ∷ 0 ∷ 0 ∷ 0 ∷ 0 ∷ 0 ∷ 0 ∷ [])
+
+-- only a pair of zeros ends a list, and what stands behind it is none of it
+a_pair_from_0 : (meant_by_pairs (pair 0 0x20 ++ pair 0 0) ≡ (0x401000, 0x401020) ∷ [])
+    × (meant_by_pairs (pair 0x20 0 ++ pair 0x10 0x20 ++ pair 0 0 ++ pair 1 2) ≡ (0x401010, 0x401020) ∷ [])
+unfolding ranges_of address_of coded_entry_at pair_entry_at field_at uleb_at
+a_pair_from_0 = (refl, refl)
+
+a_pair_that_sets_the_base : meant_by_pairs ((0xff ∷ 0xff ∷ 0xff ∷ 0xff ∷ 0xff ∷ 0xff ∷ 0xff ∷ 0xff ∷ 0 ∷ 0x20 ∷ 0x40 ∷ 0 ∷ 0 ∷ 0 ∷ 0 ∷ 0 ∷ []) ++ pair 0x10 0x20 ++ pair 0 0) ≡ (0x402010, 0x402020) ∷ []
+unfolding ranges_of address_of coded_entry_at pair_entry_at field_at uleb_at
+a_pair_that_sets_the_base = refl
+
+-- a pair that is cut off, and a list that goes on at the end of its section
+no_end_of_pairs : (bad_range 7 4 (pairs (pair 1 2 ++ zeros)) bases (offset 0) ≡ Some (record { file = 1; at = 216; kind = Short }))
+    × (bad_range 7 4 (pairs (pair 1 2)) bases (offset 17) ≡ Some (record { file = 1; at = 7; kind = PastSection }))
+    × (bad_range 7 4 (pairs (pair 1 2)) bases (offset 16) ≡ Some (record { file = 1; at = 216; kind = Short }))
+unfolding bad_range address_of coded_entry_at pair_entry_at field_at uleb_at
+no_end_of_pairs = (refl, refl, refl)
+
+-- the last entry that a list may have, and one more; one that means nothing is refused for that first
+most_entries :
+    (entry_item (address_of sections bases) 65535 (record { at = 9; entry = from_base 1 2 }) ≡ None)
+    × (entry_item (address_of sections bases) 65536 (record { at = 9; entry = from_base 1 2 }) ≡ Some (record { file = 1; at = 9; kind = TooManyRanges }))
+    × (entry_item (address_of sections bases) 65536 (record { at = 9; entry = sets_base (addr_index 1) }) ≡ Some (record { file = 1; at = 9; kind = PastSection }))
+unfolding address_of field_at
+most_entries = (refl, refl, refl)

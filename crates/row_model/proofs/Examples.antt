@@ -1,7 +1,9 @@
 -- The row of an address on worked tables.
 use Rattle.std.proofs.Common.{◌≡◌, ℕ, true, false, Bool, List, [], ◌∷◌, ◌++◌, length, map, Option, Some, None, refl}
 use Rattle.line_model.specs.declared.row.Row.{Row}
-use Rattle.row_model.specs.Rows.{Sequence, sequences_of, addresses_of, never_fall, row_among}
+use Rattle.elf_model.specs.Fields.{number_at}
+use Rattle.elf_model.specs.Segments.{is_live}
+use Rattle.row_model.specs.Rows.{Sequence, sequences_of, addresses_of, live_sequences, never_fall, row_among, row_at}
 
 abbrev row : ℕ → ℕ → Row
 row address line = record { address = address; line = line; disc = 0; ends = false }
@@ -41,3 +43,28 @@ behind_all = refl
 
 fallen : never_fall (16 ∷ 20 ∷ 19 ∷ []) ≡ false
 fallen = refl
+
+-- a file with one segment of code, from 16 up to 48
+abbrev file : List ℕ
+file =
+    127 ∷ 69 ∷ 76 ∷ 70 ∷ 2 ∷ 1 ∷ 1 ∷ 0 ∷ 0 ∷ 0 ∷ 0 ∷ 0 ∷ 0 ∷ 0 ∷ 0 ∷ 0 ∷ 2 ∷ 0 ∷ 62 ∷ 0 ∷
+    1 ∷ 0 ∷ 0 ∷ 0 ∷ 0 ∷ 0 ∷ 0 ∷ 0 ∷ 0 ∷ 0 ∷ 0 ∷ 0 ∷ 64 ∷ 0 ∷ 0 ∷ 0 ∷ 0 ∷ 0 ∷ 0 ∷ 0 ∷
+    0 ∷ 0 ∷ 0 ∷ 0 ∷ 0 ∷ 0 ∷ 0 ∷ 0 ∷ 0 ∷ 0 ∷ 0 ∷ 0 ∷ 64 ∷ 0 ∷ 56 ∷ 0 ∷ 1 ∷ 0 ∷ 64 ∷ 0 ∷
+    0 ∷ 0 ∷ 0 ∷ 0 ∷ 1 ∷ 0 ∷ 0 ∷ 0 ∷ 5 ∷ 0 ∷ 0 ∷ 0 ∷ 0 ∷ 0 ∷ 0 ∷ 0 ∷ 0 ∷ 0 ∷ 0 ∷ 0 ∷
+    16 ∷ 0 ∷ 0 ∷ 0 ∷ 0 ∷ 0 ∷ 0 ∷ 0 ∷ 16 ∷ 0 ∷ 0 ∷ 0 ∷ 0 ∷ 0 ∷ 0 ∷ 0 ∷ 0 ∷ 0 ∷ 0 ∷ 0 ∷
+    0 ∷ 0 ∷ 0 ∷ 0 ∷ 32 ∷ 0 ∷ 0 ∷ 0 ∷ 0 ∷ 0 ∷ 0 ∷ 0 ∷ 0 ∷ 0 ∷ 0 ∷ 0 ∷ 0 ∷ 0 ∷ 0 ∷ 0 ∷ []
+
+-- Of sequences that have no rows, begin before the code, end behind it, fall, come back to where they began, or hold the
+-- code to its last byte, the last alone is live.
+some_sequences : List Row
+some_sequences =
+    end 32 ∷ row 15 1 ∷ end 32 ∷ row 16 2 ∷ end 49 ∷ row 16 3 ∷ row 24 3 ∷ row 23 3 ∷ end 32 ∷ row 16 4 ∷ end 16
+    ∷ row 16 5 ∷ row 16 6 ∷ row 40 7 ∷ end 48 ∷ row 17 8 ∷ []
+
+live : map addresses_of (live_sequences file some_sequences) ≡ (16 ∷ 16 ∷ 40 ∷ 48 ∷ []) ∷ []
+unfolding some_sequences is_live number_at
+live = refl
+
+in_the_file : map (row_at file some_sequences) (15 ∷ 16 ∷ 39 ∷ 47 ∷ 48 ∷ []) ≡ None ∷ Some (row 16 6) ∷ Some (row 16 6) ∷ Some (row 40 7) ∷ None ∷ []
+unfolding some_sequences is_live number_at
+in_the_file = refl

@@ -41,8 +41,9 @@ unfolding lines_of ended_lines_of fields_of number_of prefixed_of address_of is_
 second_line_bad = refl
 
 not_samples : (is_sample (codes "# 0x1/0x2") ≡ false) × (is_sample (codes " 1 PERF_RECORD_MMAP2 2") ≡ false) × (is_sample (codes " \t") ≡ false) × (is_sample (codes " # 0x1/0x2") ≡ true)
+    × (is_sample (codes "PERF_RECORD_ 0x1/0x2") ≡ false) × (is_sample (codes "PERF_RECORD 0x1/0x2") ≡ true)
 unfolding is_sample fields_of
-not_samples = (refl, refl, refl, refl)
+not_samples = (refl, refl, refl, refl, refl, refl)
 
 entries : (entry_of (codes "0x1/0xfF") ≡ Some (1, 255)) × (entry_of (codes "0x1/0x2/P/-\r") ≡ Some (1, 2)) × (entry_of (codes "0x1") ≡ None) × (entry_of (codes "1/0x2") ≡ None)
     × (entry_of (codes "0x1/0x2\r") ≡ None) × (entry_of (codes "0x1/0x10000000000000000") ≡ None)
@@ -65,9 +66,9 @@ as_perf_prints = (refl, refl, refl)
 ip_in_front_alone : (cause_of_line 0 (codes "401036") ≡ None) × (cause_of_line 0 (codes "0x") ≡ Some BadLine)
     × (cause_of_line 0 (codes "0x1/0x2 401036") ≡ Some BadLine) × (cause_of_line 0 (codes "1 2") ≡ Some BadLine)
     × (cause_of_line 0 (codes "00000000000000001 0x1/0x2") ≡ None) × (cause_of_line 0 (codes "10000000000000000 0x1/0x2") ≡ Some BadLine)
-    × (cause_of_line 0 (codes "0X1 0x1/0x2") ≡ Some BadLine)
+    × (cause_of_line 0 (codes "0X1 0x1/0x2") ≡ Some BadLine) × (cause_of_line 0 (codes "PERF_RECORD 0x1/0x2") ≡ Some BadLine)
 unfolding fields_of number_of prefixed_of address_of is_ip entry_of is_sample is_well_formed branches_of_line cause_of_line
-ip_in_front_alone = (refl, refl, refl, refl, refl, refl, refl)
+ip_in_front_alone = (refl, refl, refl, refl, refl, refl, refl, refl)
 
 slashes : (entry_of (codes "0x1/0x2/") ≡ Some (1, 2)) × (entry_of (codes "0x1/0x2/P//-") ≡ Some (1, 2)) × (entry_of (codes "0x1//0x2") ≡ None)
     × (entry_of (codes "/0x1/0x2") ≡ None) × (entry_of (codes "0x1/") ≡ None) × (entry_of (codes "0x1/0x2P") ≡ None)
@@ -178,3 +179,19 @@ moved_samples :
     × (ranges_by (Some (record x_loaded { name = codes "/bin/y" })) (lines_of moved_text) ≡ (0, 0) ∷ (0, 0) ∷ [])
 unfolding moved_text x_loaded segments lines_of fields_of number_of prefixed_of address_of is_ip entry_of is_sample branches_of_line load_line_of extent_of offset_of behind_at name_in move_of address_of_offset moved_ranges
 moved_samples = (refl, refl, refl, refl)
+
+-- The newer end of a range alone is foreign, then the older one, then neither.
+half_foreign : List ℕ
+half_foreign =
+    codes "1 PERF_RECORD_MMAP2 7/7: [0x5000(0x1000) @ 0x1000 08:02 5 0]: r-xp /bin/x\n"
+    ++ codes "0x9/0x5004 0x5004/0x5008\n0x5004/0x5008 0x5004/0x9\n0x5008/0x9 0x9/0x5004\n"
+
+foreign_by_one_end :
+    ranges_by (Some x_loaded) (lines_of half_foreign) ≡ (0, 0) ∷ (0, 0) ∷ (0x401004, 0x401008) ∷ []
+unfolding half_foreign x_loaded segments lines_of fields_of number_of prefixed_of address_of is_ip entry_of is_sample branches_of_line load_line_of extent_of offset_of behind_at name_in move_of address_of_offset moved_ranges
+foreign_by_one_end = refl
+
+-- a byte more than a text may have
+largest_text : first_bad_of_piece 1 [] 0 (codes "#") ≡ Some (record { file = 1; at = 0x10000000000; kind = FileTooLarge })
+unfolding lines_of ended_lines_of fields_of number_of prefixed_of address_of is_ip entry_of is_sample is_well_formed branches_of_line cause_of_line items_of_lines
+largest_text = refl

@@ -2,3 +2,4 @@ pub mod EntryLemmas
 mod Examples
 pub mod JudgingLemmas
 pub mod PairLemmas
+pub mod MoveLemmas

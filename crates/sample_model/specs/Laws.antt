@@ -1,11 +1,15 @@
 -- Laws that tie the definitions to a second way of saying them.
-use Rattle.std.specs.Prelude.{◌≡◌, ◌≤◌, ◌⊎◌, ◌↔◌, ℕ, ◌-◌, Bool, true, List, [], ◌∷◌, ◌++◌, length, codes, Some}
+use Rattle.std.specs.Prelude.{◌≡◌, ◌≤◌, ◌⊎◌, ◌↔◌, ℕ, ◌-◌, Bool, true, ◌||◌, List, [], ◌∷◌, ◌++◌, length, map, codes, Option, Some, is_none, if◌then◌else◌}
 use Rattle.std.specs.List.{AllByRecursion, list_any}
 use Rattle.refusal.specs.declared.place.Place.{Place}
+use Rattle.load_model.specs.declared.load_segment.LoadSegment.{LoadSegment}
+use Rattle.sample_model.specs.declared.load.Load.{Load}
 use Rattle.sample_model.specs.Judging.{first_bad_of_piece, first_bad_of_text}
 use Rattle.sample_model.specs.Limits.{max_text_bytes}
 use Rattle.sample_model.specs.Line.{address_of, entry_of}
+use Rattle.sample_model.specs.Moves.{move_of, moved_branch, moved_ranges, or_0}
 use Rattle.sample_model.specs.Pairs.{same_pair, pair_lt, distinct_pairs}
+use Rattle.sample_model.specs.Samples.{ranges_between}
 
 -- Each pair stands below all pairs behind it.
 abbrev pub IsAscending : List (ℕ × ℕ) → Type 0
@@ -55,3 +59,15 @@ BadPlacesStay =
     (file : ℕ) (text piece rest : List ℕ) (place : Place) → length text ≤ max_text_bytes
     → first_bad_of_piece file text (max_text_bytes - length text) piece ≡ Some place
     → first_bad_of_text file (text ++ (piece ++ rest)) ≡ Some place
+
+-- A range by its two ends: both moved, and from 0 to 0 where one of them is foreign.
+abbrev pub moved_by_ends : (ℕ → Option ℕ) → ℕ × ℕ → ℕ × ℕ
+moved_by_ends move range =
+    if is_none (move range.0) || is_none (move range.1) then (0, 0) else (or_0 (move range.0), or_0 (move range.1))
+
+-- The moved ranges of a sample are its ranges as they stand, each moved by its two ends.
+abbrev pub RangesMoveByTheirEnds : Type 0
+RangesMoveByTheirEnds =
+    (segments : List LoadSegment) (loads : List Load) (branches : List (ℕ × ℕ))
+    → moved_ranges (map (moved_branch segments loads) branches)
+    ≡ map (moved_by_ends (move_of segments loads)) (ranges_between branches)

@@ -12,6 +12,7 @@ mod pair;
 
 pub use laws::{
     bad_places_stay, distinct_pairs_are_unique, distinct_pairs_ascend, entries_are_spelled,
+    ranges_move_by_their_ends,
 };
 pub use load::Load;
 pub use pair::Pair;

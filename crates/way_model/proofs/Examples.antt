@@ -1,5 +1,5 @@
 -- Ways through two units, and what they say.
-use Rattle.std.proofs.Common.{◌≡◌, ℕ, false, List, [], ◌∷◌, None, Some, Ok, Err, refl}
+use Rattle.std.proofs.Common.{◌≡◌, ℕ, zero, suc, ◌+◌, ◌-◌, true, false, List, [], ◌∷◌, map, None, Some, Ok, Err, refl}
 use Rattle.std.specs.Prelude.{codes, Result}
 use Rattle.refusal.specs.declared.kind.Kind.TheVariants.{BadReference, NoBase, OriginTooLong}
 use Rattle.refusal.specs.declared.place.Place.{Place}
@@ -10,7 +10,7 @@ use Rattle.unit_model.specs.Values.{Found}
 use Rattle.unit_model.specs.Entries.{Entry}
 use Rattle.base_model.specs.Bases.{bases_of_unit, root_of}
 use Rattle.way_model.specs.Way.{Info, next_on_way, way}
-use Rattle.way_model.specs.Origin.{Origin, origin}
+use Rattle.way_model.specs.Origin.{Origin, is_name, origin}
 
 abbrev found : ℕ → ℕ → Value → Found
 found name at value = record { name = name; at = at; value = value }
@@ -103,3 +103,40 @@ a_digit_behind = refl
 empty : nameless [] ≡ Ok (record { name = None; line = 0 })
 unfolding nameless origin way next_on_way text_of
 empty = refl
+
+-- each byte that no name has, and each that none begins with, beside those that are near to it
+no_names : map is_name (codes "a b" ∷ codes "a\t" ∷ (97 ∷ 0 ∷ []) ∷ (97 ∷ 0x7f ∷ []) ∷ codes ":" ∷ codes "!a" ∷ codes "#a" ∷ codes "0a" ∷ codes "9" ∷ [] ∷ [])
+    ≡ false ∷ false ∷ false ∷ false ∷ false ∷ false ∷ false ∷ false ∷ false ∷ false ∷ []
+no_names = refl
+
+names : map is_name (codes "a!" ∷ codes "a#" ∷ codes "a0" ∷ codes "/" ∷ codes ";" ∷ codes "~" ∷ codes "$a" ∷ codes "\"" ∷ (0x80 ∷ 0xff ∷ []) ∷ [])
+    ≡ true ∷ true ∷ true ∷ true ∷ true ∷ true ∷ true ∷ true ∷ true ∷ []
+names = refl
+
+-- the linkage name counts before that of MIPS, wherever both stand
+a_linkage_name_first : said (entry 190 0 (found 0x2007 191 (text (codes "_m")) ∷ found 0x6e 195 (text (codes "_l")) ∷ []))
+    ≡ Ok (record { name = Some (codes "_l"); line = 0 })
+unfolding origin way next_on_way text_of
+a_linkage_name_first = refl
+
+-- a unit that was passed over goes up to its end, which is no place of it
+the_end_of_a_unit_passed_over :
+    (said (entry 190 0 (found 0x31 191 (ref_info 239) ∷ [])) ≡ Ok (record { name = None; line = 0 }))
+    × (said (entry 190 0 (found 0x31 191 (ref_info 240) ∷ [])) ≡ Err (in_binary 191 BadReference))
+unfolding origin way next_on_way text_of
+the_end_of_a_unit_passed_over = (refl, refl)
+
+-- so many entries that lead to the one before each, from an offset on, and one at 100 that has a name
+abbrev chain : ℕ → List Entry
+chain zero = entry 100 0 (found 0x03 101 (text (codes "n")) ∷ []) ∷ []
+chain (suc more) = entry (101 + more) 0 (found 0x31 101 (ref more) ∷ []) ∷ chain more
+
+abbrev said_in_chain : ℕ → Result Origin Place
+said_in_chain steps =
+    origin (record { str = None; line_str = None; str_offsets = None; addr = None })
+    (record info { units = record info.units { entries = chain steps } })
+    (entry (100 + steps) 0 (found 0x31 101 (ref (steps - 1)) ∷ []))
+
+sixteen_steps : (said_in_chain 16 ≡ Ok (record { name = Some (codes "n"); line = 0 })) × (said_in_chain 17 ≡ Err (in_binary 117 OriginTooLong))
+unfolding origin way next_on_way text_of
+sixteen_steps = (refl, refl)

@@ -1,4 +1,4 @@
--- What a piece comes to, and the end of a text, and a text as one piece.
+-- What a piece comes to, and the end of a text.
 use Rattle.std.proofs.Common.{◌≡◌, ℕ, ◌+◌, ◌<◌, ◌≤◌, nat_lt, Bool, true, false, List, [], ◌∷◌, ◌++◌, length, take, min, Option, None, Some, Result, Ok, Err, refl, sym, ap, subst, ◌∙◌, arith}
 use Rattle.std.specs.Prelude.{filter, OnErr}
 use Rattle.std.specs.List.{flat_map}
@@ -16,14 +16,14 @@ use Rattle.refusal.proofs.PlaceLemmas.{first_bad-append}
 use Rattle.text_model.specs.Fields.{is_filled}
 use Rattle.text_model.specs.Laws.{ended}
 use Rattle.text_model.specs.Lines.{lines_of, ended_lines_of}
-use Rattle.sample_model.specs.Judging.{items_of_lines, first_bad_of_lines, first_bad_of_piece, first_bad_of_text, judged_lines_of, lines_before_bad, lines_ended_by}
+use Rattle.sample_model.specs.Judging.{items_of_lines, first_bad_of_lines, lines_ended_by}
 use Rattle.sample_model.specs.Limits.{max_line_bytes, max_text_bytes}
 use Rattle.sample_model.specs.Moves.{LoadMap}
-use Rattle.sample_model.proofs.JudgingLemmas.{next_item, bad_places_stay, first_bad_of_piece-within, first_bad_of_text-within, judged_lines_of-cut, judged_lines_of-whole, lines_before_bad-all, lines_before_bad-more, lines_before_bad-some, lines_of-ended_first}
+use Rattle.sample_model.proofs.JudgingLemmas.{next_item, first_bad_of_piece-within, lines_before_bad-all}
 use Rattle.branch_stacks.specs.Loads.{AddsLine}
-use Rattle.branch_stacks.specs.Reader.{Reading, HasRead, behind_line, new_reading, new_reading_by, held_of, room_of, ended_text, Feeds, Finishes, ReadsMore}
+use Rattle.branch_stacks.specs.Reader.{Reading, HasRead, behind_line, new_reading_by, held_of, room_of, ended_text, Feeds, Finishes, ReadsMore}
 use Rattle.branch_counts.specs.Tally.{Tally, Tells, TellsOf}
-use Rattle.branch_stacks.specs.Text.{item_of_counted, TellsBefore, TellsLinesBefore}
+use Rattle.branch_stacks.specs.Text.{item_of_counted, TellsBefore}
 use Rattle.branch_stacks.proofs.ReaderLemmas.{HasRead-ended, HasRead-sized, item_is, line_stop, text_ended}
 use Rattle.branch_stacks.proofs.TextLemmas.{Tells-nothing}
 
@@ -174,7 +174,7 @@ Finishes-line old new before after (Err stop) some judged same text has =
     subst (λ (o : Option Place). JudgesUnlessNoMemory {T = Unit {0}} o (Err stop) P) (held_item text old before has) judged in
     line_stop old.loading old.file (ended_lines_of text) [] (lines_of text) has.rest before after stop P (λ _. Tells old.loading (lines_of text) after × HasRead (ended_text text) new after) has.good has.tells lines same item
 
--- ---- a text as one piece
+-- ---- before the first piece
 
 pub HasRead-start : (loading : Option LoadMap) (file : ℕ) (tally : Tally) → TellsOf [] tally → HasRead [] (new_reading_by loading file) tally
 unfolding lines_of ended_lines_of items_of_lines
@@ -198,88 +198,3 @@ HasRead-start (Some loading) file tally tells = record {
   good = refl;
   tells = Tells-nothing (Some loading) tally tells;
 }
-
-pub HasRead-nothing : (file : ℕ) (tally : Tally) → TellsOf [] tally → HasRead [] (new_reading file) tally
-HasRead-nothing file tally tells = HasRead-start None file tally tells
-
--- a text that was fed whole stops where it stops
-judged_first : (text : List ℕ) → (later : List (List ℕ)) × (judged_lines_of text ≡ lines_ended_by [] max_text_bytes text ++ later) × (max_text_bytes < length text → later ≡ [])
-judged_first text =
-    elim (nat_lt max_text_bytes (length text)) as (λ b. nat_lt max_text_bytes (length text) ≡ b → (later : List (List ℕ)) × (judged_lines_of text ≡ lines_ended_by [] max_text_bytes text ++ later) × (max_text_bytes < length text → later ≡ [])) [
-      | true ↦ λ is.
-          let over : max_text_bytes < length text = grind (arith, nat_tests) in
-          ([], judged_lines_of-cut text over ∙ sym (append-nil (lines_ended_by [] max_text_bytes text)), λ _. refl)
-      | false ↦ λ is.
-          let within : length text ≤ max_text_bytes = grind (arith, nat_tests) in
-          let (later, lines) = lines_of-ended_first text in (
-            later,
-            judged_lines_of-whole text within ∙ lines ∙ ap (λ (t : List ℕ). ended_lines_of t ++ later) (sym (take_all max_text_bytes text within)),
-            λ over. absurd (omega (arith, over)),
-          )
-    ] refl
-
-fed_first : (file : ℕ) (text : List ℕ) (new : Reading) (before after : Tally) (stop : Stop) (P : Unit {0} → Type 0) → TellsOf [] before → Feeds (new_reading file) before text (Err stop) new after
-    → JudgesUnlessNoMemory {T = Unit {0}} (first_bad_of_text file text) (Err stop) P × TellsLinesBefore {T = Unit {0}} file (judged_lines_of text) (Err stop) after
-fed_first file text new before after (Refused place) P tells feeds =
-    let read = feeds [] (HasRead-nothing file before tells) in
-    let stays = bad_places_stay file [] text [] place (omega arith) read.0 in
-    (ap (first_bad_of_text file) (sym (append-nil text)) ∙ stays, subst (λ (ls : List (List ℕ)). TellsOf ls after) (sym (same_before file text place read.0)) read.1)
-  where
-    same_before : (file : ℕ) (text : List ℕ) (place : Place) → first_bad_of_piece file [] max_text_bytes text ≡ Some place → lines_before_bad file (judged_lines_of text) ≡ lines_before_bad file (lines_ended_by [] max_text_bytes text)
-    same_before file text place bad =
-        let (later, lines, none) = judged_first text in
-        elim (nat_lt max_text_bytes (length text)) as (λ b. nat_lt max_text_bytes (length text) ≡ b → lines_before_bad file (judged_lines_of text) ≡ lines_before_bad file (lines_ended_by [] max_text_bytes text)) [
-          | true ↦ λ is.
-              let over : max_text_bytes < length text = grind (arith, nat_tests) in
-              ap (lines_before_bad file) (lines ∙ ap (λ (ls : List (List ℕ)). lines_ended_by [] max_text_bytes text ++ ls) (none over) ∙ append-nil (lines_ended_by [] max_text_bytes text))
-          | false ↦ λ is.
-              let within : length text ≤ max_text_bytes = grind (arith, nat_tests) in
-              let whole : take max_text_bytes text ≡ text = take_all max_text_bytes text within in
-              let first : first_bad_of_lines file (lines_ended_by [] max_text_bytes text) ≡ Some place =
-              ap (λ (t : List ℕ). first_bad_of_lines file (ended_lines_of t)) whole ∙ sym (first_bad_of_piece-within file [] max_text_bytes text within) ∙ bad in
-              ap (lines_before_bad file) lines ∙ lines_before_bad-more file (lines_ended_by [] max_text_bytes text) later place first
-        ] refl
-fed_first file text new before after NoMemory P tells feeds =
-    let read = feeds [] (HasRead-nothing file before tells) in
-    let (later, lines, none) = judged_first text in
-    let some = lines_before_bad-some file (lines_ended_by [] max_text_bytes text) later read.1.0 in
-    (tt, (some.0, subst (λ (ls : List (List ℕ)). TellsOf ls after) (sym (ap (λ (ls : List (List ℕ)). take some.0 (lines_before_bad file ls)) lines ∙ some.1)) read.1.1))
-
--- or where its end does,
-finished_last : (file : ℕ) (text : List ℕ) (fed new : Reading) (before between after : Tally) (result : Result (Unit {0}) Stop) → TellsOf [] before → Feeds (new_reading file) before text (Ok tt) fed between → fed.file ≡ file → fed.loading ≡ None → length text ≤ max_text_bytes
-    → Finishes fed between result new after
-    → JudgesUnlessNoMemory (first_bad_of_text file text) result (λ _. TellsOf (lines_of text) after) × TellsLinesBefore file (judged_lines_of text) result after
-finished_last file text fed new before between after (Ok done) tells feeds same stays within finishes =
-    let read = feeds [] (HasRead-nothing file before tells) in
-    let end = finishes text read.0.1 in
-    ((first_bad_of_text-within file text within ∙ ap (λ (n : ℕ). first_bad_of_lines n (lines_of text)) (sym same) ∙ end.0.0, subst (λ (l : Option LoadMap). Tells l (lines_of text) after) stays end.0.1.0), tt)
-finished_last file text fed new before between after (Err (Refused place)) tells feeds same stays within finishes =
-    let read = feeds [] (HasRead-nothing file before tells) in
-    let end = finishes text read.0.1 in (
-      first_bad_of_text-within file text within ∙ ap (λ (n : ℕ). first_bad_of_lines n (lines_of text)) (sym same) ∙ end.0,
-      subst (λ (ls : List (List ℕ)). TellsOf (lines_before_bad file ls) after) (sym (judged_lines_of-whole text within))
-          (subst (λ (n : ℕ). TellsOf (lines_before_bad n (lines_of text)) after) same (subst (λ (l : Option LoadMap). Tells l (lines_before_bad fed.file (lines_of text)) after) stays end.1)),
-    )
-finished_last file text fed new before between after (Err NoMemory) tells feeds same stays within finishes =
-    let read = feeds [] (HasRead-nothing file before tells) in
-    let end = finishes text read.0.1 in (
-      tt,
-      (
-        end.1.0,
-        subst (λ (ls : List (List ℕ)). TellsOf (take end.1.0 (lines_before_bad file ls)) after) (sym (judged_lines_of-whole text within))
-            (subst (λ (n : ℕ). TellsOf (take end.1.0 (lines_before_bad n (lines_of text))) after) same
-            (subst (λ (l : Option LoadMap). Tells l (take end.1.0 (lines_before_bad fed.file (lines_of text))) after) stays end.1.1)),
-      ),
-    )
-
--- by a reader that is new
-pub text_fed : (file : ℕ) (text : List ℕ) (start new : Reading) (before after : Tally) (stop : Stop) (P : Unit {0} → Type 0) → TellsOf [] before → start ≡ new_reading file → Feeds start before text (Err stop) new after
-    → JudgesUnlessNoMemory {T = Unit {0}} (first_bad_of_text file text) (Err stop) P × TellsLinesBefore {T = Unit {0}} file (judged_lines_of text) (Err stop) after
-text_fed file text start new before after stop P tells is feeds = fed_first file text new before after stop P tells (subst (λ (r : Reading). Feeds r before text (Err stop) new after) is feeds)
-
-pub text_finished : (file : ℕ) (text : List ℕ) (start fed new : Reading) (before between after : Tally) (result : Result (Unit {0}) Stop) → TellsOf [] before → start ≡ new_reading file → Feeds start before text (Ok tt) fed between
-    → (fed.file ≡ start.file) × (fed.loading ≡ start.loading) × (fed.size ≡ start.size + length text) × (fed.size ≤ max_text_bytes) → Finishes fed between result new after
-    → JudgesUnlessNoMemory (first_bad_of_text file text) result (λ _. TellsOf (lines_of text) after) × TellsLinesBefore file (judged_lines_of text) result after
-text_finished file text start fed new before between after result tells is feeds goes_on finishes =
-    finished_last file text fed new before between after result tells (subst (λ (r : Reading). Feeds r before text (Ok tt) fed between) is feeds)
-    (goes_on.0 ∙ ap (λ (r : Reading). r.file) is) (goes_on.1 ∙ ap (λ (r : Reading). r.loading) is) (omega (arith, goes_on.2, goes_on.3, ap (λ (r : Reading). r.size) is)) finishes

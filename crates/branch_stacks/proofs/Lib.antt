@@ -1,4 +1,5 @@
 pub mod FeedLemmas
 pub mod LoadLemmas
+pub mod PieceLemmas
 pub mod ReaderLemmas
 pub mod TextLemmas

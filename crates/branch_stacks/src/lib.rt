@@ -2,14 +2,17 @@
 //! two branches.
 //!
 //! The layer above makes `Counts`, reads a branch text into it, as one piece by `read_text` or in
-//! any pieces by a `Reader`, and takes its pairs out. The text is what `perf script -F ip,brstack`
-//! prints (perf-script(1), "brstack").
+//! any pieces by a `Reader`, and takes its pairs out. `read_pieces` feeds a list of pieces to a
+//! reader, and says that it is the same as reading them joined. The text is what
+//! `perf script -F ip,brstack` prints (perf-script(1), "brstack").
 #![tactic(auto)]
 
 mod loads;
+mod pieces;
 mod reader;
 mod text;
 
 pub use branch_counts::{Counts, CountsStop};
+pub use pieces::read_pieces;
 pub use reader::Reader;
 pub use text::read_text;

@@ -12,6 +12,7 @@ ghost use Rattle.branch_stacks.specs.Text.{item_of_counted, TellsLinesBefore};
 ghost use Rattle.branch_lines.specs.declared.line.TheConstants.{MAX_KEPT};
 
 use crate::loads::Loads;
+use crate::pieces::read_pieces;
 use crate::reader::Reader;
 use branch_counts::{Counts, CountsStop};
 use branch_lines::read_line;
@@ -37,8 +38,7 @@ pub fn read_text(text: &[u8], file: u8, counts: &mut Counts) -> Result<(), Stop>
 {
     counts.keeps();
     let mut reader = Reader::new(counts.allocator(), file)?;
-    reader.feed(text, counts)?;
-    reader.finish(counts)
+    read_pieces(&mut reader, &[text], counts)
 }
 
 /// Counts the branches and ranges of one line, moved by the loads, or takes the load that the line

@@ -1,15 +1,15 @@
 -- The addresses of sequences, between which nothing changes.
-use Rattle.std.proofs.Common.{◌≡◌, ℕ, ◌<◌, ◌≤◌, Bool, true, false, List, [], ◌∷◌, ◌++◌, None, Some, refl, sym, ap, ◌∙◌, arith, map, reverse, ◌⊎◌, inl, inr, eqb}
+use Rattle.std.proofs.Common.{◌≡◌, ℕ, ◌+◌, ◌<◌, ◌≤◌, Bool, true, false, List, [], ◌∷◌, ◌++◌, None, Some, refl, sym, ap, ◌∙◌, arith, map, reverse, length, cond, ◌⊎◌, inl, inr, eqb}
 use Rattle.std.specs.Prelude.{◌&&◌, nat_le, nat_lt, find, Contains, if◌then◌else◌}
 use Rattle.std.specs.Option.{option_or, option_map, option_and_then}
-use Rattle.std.specs.List.{AllByRecursion, flat_map, dedup}
+use Rattle.std.specs.List.{AllByRecursion, flat_map, dedup, dedup_from}
 use Rattle.std.specs.List.Sorted.{IsSorted, IsPermutation}
 use Rattle.std.specs.Ordering.{nat_cmp}
 use Rattle.std.proofs.lemmas.Bool.Decides.{nat_tests}
 use Rattle.std.proofs.lemmas.List.{reverse-append}
 use Rattle.std.proofs.lemmas.List.Folds.{find-append}
 use Rattle.std.proofs.lemmas.List.Elements.{Contains-append_left, Contains-append_right}
-use Rattle.std.proofs.lemmas.List.Sorted.{Contains-permutation}
+use Rattle.std.proofs.lemmas.List.Sorted.{Contains-permutation, length_permutation}
 use Rattle.std.proofs.lemmas.List.Kept.{Contains-dedup_nat}
 use Rattle.std.proofs.lemmas.Map.Keys.{IsStrictlyIncreasing-dedup}
 use Rattle.line_model.specs.declared.row.Row.{Row}
@@ -32,12 +32,27 @@ all_of cuts (s ∷ sequences) within = (
   all_of cuts sequences (λ a is. within a (Contains-append_right (addresses_of s) (flat_map addresses_of sequences) a is)),
 )
 
+-- leaving out repeated ones makes a list no longer
+shorter_from : (k : ℕ) (xs : List ℕ) → length (dedup_from eqb k xs) ≤ 1 + length xs
+shorter_from k [] = omega arith
+shorter_from k (x ∷ xs) = by_test (eqb x k) (shorter_from k xs) (shorter_from x xs)
+  where
+    by_test : (t : Bool) → length (dedup_from eqb k xs) ≤ 1 + length xs → length (dedup_from eqb x xs) ≤ 1 + length xs
+        → length (cond t (dedup_from eqb k xs) (k ∷ dedup_from eqb x xs)) ≤ 1 + length (x ∷ xs)
+    by_test true here later = omega (arith, here)
+    by_test false here later = omega (arith, later)
+
+shorter : (xs : List ℕ) → length (dedup eqb xs) ≤ length xs
+shorter [] = omega arith
+shorter (x ∷ xs) = omega (arith, shorter_from x xs)
+
 -- sorted, and each once, they are all there
 pub have_addresses : (sequences : List Sequence) (addresses sorted cuts : List ℕ) → addresses ≡ flat_map addresses_of sequences → IsPermutation addresses sorted → IsSorted nat_cmp sorted → cuts ≡ dedup eqb sorted
     → HaveAddresses sequences cuts
 have_addresses sequences addresses sorted cuts are permuted in_order is = rw is (record {
   ascending = IsStrictlyIncreasing-dedup sorted in_order;
   all = all_of (dedup eqb sorted) sequences (λ a within. Contains-dedup_nat sorted a (Contains-permutation addresses sorted a permuted (rw are within)));
+  few = omega (arith, shorter sorted, length_permutation addresses sorted permuted, ap (λ (l : List ℕ). length l) are);
 })
 
 -- the addresses of a sequence are its rows' and its end's

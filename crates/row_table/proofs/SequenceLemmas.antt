@@ -1,11 +1,13 @@
 -- The sequences of rows, one row after another, and the rows of a sequence.
-use Rattle.std.proofs.Common.{◌≡◌, ℕ, zero, suc, true, false, List, [], ◌∷◌, ◌++◌, refl, sym, ap, ◌∙◌, arith, append_assoc, append-nil, map, filter, drop}
-use Rattle.std.specs.Prelude.{All}
-use Rattle.std.specs.List.{AllByRecursion, slice_split, zip}
+use Rattle.std.proofs.Common.{◌≡◌, ℕ, zero, suc, ◌+◌, ◌≤◌, Bool, true, false, List, [], ◌∷◌, ◌++◌, length, refl, sym, ap, subst, ◌∙◌, arith, append_assoc, append-nil, length-append, map, filter, drop}
+use Rattle.std.specs.Prelude.{All, if◌then◌else◌}
+use Rattle.std.specs.List.{AllByRecursion, flat_map, slice_split, zip}
+use Rattle.std.proofs.lemmas.List.{length-map}
 use Rattle.std.proofs.lemmas.List.Elements.{filter-append}
 use Rattle.std.proofs.lemmas.List.Splits.{slice_split_at, slice_split_none}
 use Rattle.line_model.specs.declared.row.Row.{Row}
-use Rattle.row_model.specs.Rows.{Sequence, ends, sequences_of, is_live_sequence, live_sequences}
+use Rattle.row_model.specs.Rows.{Sequence, addresses_of, ends, sequences_of, is_live_sequence, live_sequences}
+use Rattle.row_table.specs.Told.{row_count}
 
 -- rows that end no sequence
 abbrev pub AreBegun : List Row → Type 0
@@ -75,3 +77,42 @@ LiveSoFar-all file rows i sequences begun so_far none =
     ∙ ap (λ (ss : List Sequence). sequences ++ filter (is_live_sequence file) ss) (sym (sequences_of-begun begun so_far.are_begun))
     ∙ ap (λ (rs : List Row). sequences ++ live_sequences file rs) (sym (append-nil begun) ∙ ap (λ (rs : List Row). begun ++ rs) (sym none))
     ∙ so_far.so_far
+
+-- No more rows stand in the sequences than there are: each sequence has some of them.
+rows_behind : (begun rest : List Row) → AreBegun begun → row_count (sequences_of (begun ++ rest)) ≤ length begun + length rest
+rows_behind begun [] are_begun =
+    subst (λ (rows : List Row). row_count (sequences_of rows) ≤ length begun + 0) (sym (append-nil begun))
+    (subst (λ (ss : List Sequence). row_count ss ≤ length begun + 0) (sym (sequences_of-begun begun are_begun)) (omega arith))
+rows_behind begun (row ∷ rest) are_begun =
+    by_end row.ends refl (rows_behind [] rest tt) (λ is. rows_behind (begun ++ row ∷ []) rest (AreBegun-more begun row are_begun is))
+  where
+    by_end : (b : Bool) → row.ends ≡ b → row_count (sequences_of rest) ≤ 0 + length rest
+        → (row.ends ≡ false → row_count (sequences_of ((begun ++ row ∷ []) ++ rest)) ≤ length (begun ++ row ∷ []) + length rest)
+        → row_count (sequences_of (begun ++ row ∷ rest)) ≤ length begun + length (row ∷ rest)
+    by_end true is behind more =
+        let one : Sequence = record { rows = begun; end = row } in
+        subst (λ (ss : List Sequence). row_count ss ≤ length begun + length (row ∷ rest)) (sym (sequences_of-ended begun row rest are_begun is))
+        (omega (
+          arith,
+          behind,
+          length-append (addresses_of one) (flat_map addresses_of (sequences_of rest)),
+          length-map (begun ++ row ∷ []) (λ (r : Row). r.address),
+          length-append begun (row ∷ []),
+        ))
+    by_end false is behind more =
+        subst (λ (rows : List Row). row_count (sequences_of rows) ≤ length begun + length (row ∷ rest)) (append_assoc begun (row ∷ []) rest)
+        (omega (arith, more is, length-append begun (row ∷ [])))
+
+-- and of them only the live ones are kept
+fewer : (p : Sequence → Bool) (sequences : List Sequence) → row_count (filter p sequences) ≤ row_count sequences
+fewer p [] = omega arith
+fewer p (s ∷ sequences) = by_test (p s) (fewer p sequences)
+  where
+    by_test : (t : Bool) → row_count (filter p sequences) ≤ row_count sequences
+        → row_count (if t then s ∷ filter p sequences else filter p sequences) ≤ row_count (s ∷ sequences)
+    by_test true less =
+        omega (arith, less, length-append (addresses_of s) (flat_map addresses_of (filter p sequences)), length-append (addresses_of s) (flat_map addresses_of sequences))
+    by_test false less = omega (arith, less, length-append (addresses_of s) (flat_map addresses_of sequences))
+
+pub few_rows : (file : List ℕ) (rows : List Row) → row_count (live_sequences file rows) ≤ length rows
+few_rows file rows = omega (arith, fewer (is_live_sequence file) (sequences_of rows), rows_behind [] rows tt)

@@ -1,4 +1,4 @@
-ghost use Rattle.std.specs.Prelude.{◌≡◌, ℕ, IfOk, position};
+ghost use Rattle.std.specs.Prelude.{◌≡◌, ◌≤◌, ℕ, IfOk, length, position};
 ghost use Rattle.address_spans.specs.Spans.{owner_at as owner_of};
 ghost use Rattle.row_model.specs.Rows.{holds, live_sequences};
 ghost use Rattle.row_table.specs.Index.{IsIndex};
@@ -40,7 +40,7 @@ impl Model for RowTable {
 }
 
 impl RowTable {
-    ghost use Rattle.row_table.specs.Told.{AreCuts, told};
+    ghost use Rattle.row_table.specs.Told.{AreCuts, row_count, told};
 
     /// The table of a unit's rows. Only live sequences are kept: those that have rows, whose
     /// addresses never fall, and whose range is code of the file.
@@ -48,7 +48,8 @@ impl RowTable {
     /// # Errors
     /// `NoMemory`.
     pub fn make(alloc: Global, rows: &[Row], elf: &Elf<'_>) -> Result<RowTable, NoMemory>
-        ensures { IfOk result (λ table. table ≡ live_sequences elf.now rows.now) }
+        ensures live { IfOk result (λ table. table ≡ live_sequences elf.now rows.now) }
+        ensures few { IfOk result (λ table. row_count table ≤ length rows.now) }
     {
         let sequences = live(alloc, rows, elf)?;
         let spans = index_of(alloc, &sequences)?;
@@ -87,9 +88,11 @@ impl RowTable {
     }
 
     /// Ascending addresses: from one up to below the next `row_at` has one answer. It has none
-    /// below the first and from the last one on.
+    /// below the first and from the last one on. They are at most as many as the rows of the live
+    /// sequences, which are at most those that `make` was given.
     pub fn cuts(&self) -> &[u64]
-        ensures { AreCuts (told self.now) result.now }
+        ensures cuts { AreCuts (told self.now) result.now }
+        ensures few { length result.now ≤ row_count self.now }
     {
         &self.cuts
     }

@@ -9,7 +9,7 @@ use Rattle.part_segments.proofs.cuts.cuts_between.Goals as goal
 pub returns : goal.returns
 returns c =
     let cuts = c.cuts-cuts.result.now in
-    let are = c.cuts-cuts.ensures in
+    let are = c.cuts-cuts.ensures.cuts in
     let i = c.partition_point-first.result in
     let k = c.partition_point-count.result in
     let rise = non_decreasing cuts are.ascending in

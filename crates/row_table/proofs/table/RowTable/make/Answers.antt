@@ -1,8 +1,10 @@
-use Rattle.std.proofs.Common.{List, subst, sym}
+use Rattle.std.proofs.Common.{◌≤◌, List, length, subst, sym}
 use Rattle.std.specs.List.{AllByRecursion}
 use Rattle.row_model.specs.Rows.{Sequence}
 use Rattle.row_table.specs.Index.{IsRising, IsIndex, HaveAddresses}
+use Rattle.row_table.specs.Told.{row_count}
 use Rattle.row_table.proofs.IndexLemmas.{live_rise}
+use Rattle.row_table.proofs.SequenceLemmas.{few_rows}
 use Rattle.row_table.proofs.table.RowTable.make.Goals as goal
 
 pub invariant_of-result : goal.invariant_of-result
@@ -11,3 +13,7 @@ invariant_of-result c = (
   subst (λ (ss : List Sequence). IsIndex ss c.in_ok-spans.spans.items) c.deref.ensures.value c.in_ok-spans.ensures,
   subst (λ (ss : List Sequence). HaveAddresses ss c.in_ok-cuts.cuts.items) c.deref-2.ensures.value c.in_ok-cuts.ensures,
 )
+
+pub returns-clause-few : goal.returns-clause-few
+returns-clause-few c =
+    subst (λ (ss : List Sequence). row_count ss ≤ length c.args.rows.now) (sym c.in_ok-sequences.ensures) (few_rows c.args.elf.now c.args.rows.now)

@@ -1,5 +1,5 @@
 -- The samples of a binary, and what is written of both.
-use Rattle.std.proofs.Common.{◌≡◌, ℕ, Bool, true, List, Option, None, Some, Result, Ok, Err, Bor, refl, sym, ap, subst, ◌∙◌}
+use Rattle.std.proofs.Common.{◌≡◌, ℕ, Bool, true, List, [], Option, None, Some, Result, Ok, Err, Bor, refl, sym, ap, subst, ◌∙◌}
 use Rattle.std.specs.Prelude.{IfSome}
 use Rattle.std.specs.Option.{option_map}
 use Rattle.std.specs.Result.{IsErrAnd}
@@ -19,7 +19,7 @@ use Rattle.pgo_run.specs.Output.{EndsAt, OpensFile}
 use Rattle.pgo_run.specs.BranchText.{JudgesText}
 use Rattle.pgo_run.specs.Samples.{Sampled, SamplesFile}
 use Rattle.pgo_run.specs.declared.halt.Halt.{Halt}
-use Rattle.pgo_run.proofs.ReachedLemmas.{judged-at}
+use Rattle.pgo_run.proofs.ReachedLemmas.{IsGood, judged-at}
 
 -- what moves the addresses is told by the binary's own segments
 same-loading : (map : Option (Bor (List ℕ))) (loads : List LoadSegment) (bytes : List ℕ) → loads ≡ code_loads bytes
@@ -27,15 +27,16 @@ same-loading : (map : Option (Bor (List ℕ))) (loads : List LoadSegment) (bytes
 same-loading None loads bytes same = refl
 same-loading (Some name) loads bytes same = ap (λ segments. Some (record { name = name.now; segments = segments })) same
 
-pub written : (bytes : List ℕ) (base : Bool) (binary : Binary) (map : Option (Bor (List ℕ))) (loads : List LoadSegment) (counts : Tally) (out : List ℕ)
+-- The output of a binary and of what was counted of a branch text.
+pub written : (bytes : List ℕ) (base : Bool) (binary : Binary) (map : Option (Bor (List ℕ))) (loads : List LoadSegment) (counts : Tally) (text out : List ℕ)
     → IsBinary bytes base binary → loads ≡ binary.loads.items
     → ((file : List ℕ) (base : Bool) (loading : Option LoadMap) (lines : List (List ℕ)) → IsBinary file base binary → counts.with_ranges ≡ true → Tells loading lines counts
     → out ≡ output_text (program_of file base) (sampled_by loading file lines))
-    → (file : Option (List ℕ)) (sampled : Sampled file (option_map (λ name. record { name = name.now; segments = loads }) map) counts)
-    → out ≡ profile_output (option_map (λ name. name.now) map) base bytes sampled.text
-written bytes base binary map loads counts out is same made file sampled =
-    made bytes base (option_map (λ name. record { name = name.now; segments = loads }) map) (lines_of sampled.text) is sampled.ranged sampled.tells
-    ∙ ap (λ l. output_text (program_of bytes base) (sampled_by l bytes (lines_of sampled.text))) (same-loading map loads bytes (same ∙ is.loads_are))
+    → counts.with_ranges ≡ true → Tells (option_map (λ name. record { name = name.now; segments = loads }) map) (lines_of text) counts
+    → out ≡ profile_output (option_map (λ name. name.now) map) base bytes text
+written bytes base binary map loads counts text out is same made ranged tells =
+    made bytes base (option_map (λ name. record { name = name.now; segments = loads }) map) (lines_of text) is ranged tells
+    ∙ ap (λ l. output_text (program_of bytes base) (sampled_by l bytes (lines_of text))) (same-loading map loads bytes (same ∙ is.loads_are))
 
 -- ---- the text, opened and judged
 
@@ -47,6 +48,22 @@ text-ends None name left k loading h tally opens is = tt
 text-ends (Some files) name left k loading h tally opens is =
     let judged : JudgesText loading k opens.0 (Err h) tally = subst (λ l. IfSome l (λ text. JudgesText loading k text (Err h) tally)) opens.2 is in
     judged-at k (files name) opens.0 (first_bad_of_text k) h opens.1 judged
+
+-- what a branch text that was opened and counted says
+pub counted-text : (store : Option Store) (name : List ℕ) (left : Option (List ℕ)) (k : ℕ) (loading : Option LoadMap) (tally : Tally)
+    → IfSome store (λ files. OpensFile (files name) k (Ok tt) left) → IfSome left (λ text. JudgesText loading k text (Ok tt) tally)
+    → (text : List ℕ) × IsGood store name (first_bad_of_text k) text × IfSome store (λ files. Tells loading (lines_of text) tally)
+counted-text None name left k loading tally opens is = ([], tt, tt)
+counted-text (Some files) name left k loading tally opens is =
+    let judged : JudgesText loading k opens.0 (Ok tt) tally = subst (λ l. IfSome l (λ text. JudgesText loading k text (Ok tt) tally)) opens.2 is in
+    (opens.0, (opens.1, judged.0), judged.1)
+
+-- what samples that were counted say
+pub sampled-text : (store : Option Store) (name : List ℕ) (loading : Option LoadMap) (tally : Tally)
+    → IfSome store (λ files. SamplesFile (files name) loading (Ok tally))
+    → (text : List ℕ) × IsGood store name (first_bad_of_text 2) text × IfSome store (λ files. (tally.with_ranges ≡ true) × Tells loading (lines_of text) tally)
+sampled-text None name loading tally samples = ([], tt, tt)
+sampled-text (Some files) name loading tally samples = (samples.text, (samples.there, samples.good), (samples.ranged, samples.tells))
 
 pub stopped-samples : (store : Option Store) (name : List ℕ) (loading : Option LoadMap) (h : Halt) (r : Result Tally Halt)
     → IfSome store (λ files. IfAnswers h (EndsAt 2 (files name) (first_bad_of_text 2))) → IsErrAnd r (λ x. x ≡ h)

@@ -1,21 +1,21 @@
 -- A command's files, one behind the other: what was reached, and what comes of each end.
-use Rattle.std.proofs.Common.{◌≡◌, ◌+◌, ◌-◌, ◌≤◌, ◌<◌, ℕ, zero, suc, List, [], ◌∷◌, ◌++◌, length, take, Option, None, Some, Result, Ok, Err, refl, sym, ap, subst, ◌∙◌, arith}
+use Rattle.std.proofs.Common.{◌≡◌, ◌+◌, ◌-◌, ℕ, suc, List, [], ◌∷◌, ◌++◌, length, take, Option, None, Some, Result, Ok, Err, refl, sym, ap, subst, ◌∙◌, arith}
 use Rattle.std.specs.Prelude.{IfSome, cond}
 use Rattle.std.specs.Global.{Vec}
 use Rattle.std.specs.Result.{IsErrAnd}
-use Rattle.std.proofs.lemmas.List.{length-append, take_all}
+use Rattle.std.proofs.lemmas.List.{length-append}
 use Rattle.std.proofs.lemmas.List.Sums.{sum_by-cons}
 use Rattle.refusal.specs.declared.place.Place.{Place}
 use Rattle.refusal.specs.declared.place.Stop.{Stop}
 use Rattle.refusal.specs.declared.place.Stop.TheVariants as stop
 use Rattle.io_edge.specs.Faults.{HasCauseWhere, raised}
 use Rattle.io_edge.specs.Inputs.{Store}
-use Rattle.command_model.specs.Answer.{Answer, answer_behind, answer_of_command, answer_of_good, bytes_of, in_file, no_such_file, unless_bad, with_file, writes}
+use Rattle.command_model.specs.Answer.{Answer, answer_behind, answer_of_command, answer_of_good, in_file, no_such_file, unless_bad, with_file}
 use Rattle.command_model.specs.Command.{Command}
-use Rattle.command_model.specs.Files.{Asked, IsOutput, Source, failed_line, files_of, named}
+use Rattle.command_model.specs.Files.{Asked, IsOutput, failed_line, files_of, named}
 use Rattle.command_model.specs.Good.{AreGood, AreGoodBefore}
 use Rattle.refusal.specs.Place.{JudgesUnlessNoMemory}
-use Rattle.pgo_run.specs.Halt.{IfAnswers, judged_in}
+use Rattle.pgo_run.specs.Halt.{IfAnswers, answer_in, judged_in}
 use Rattle.pgo_run.specs.Opens.{HasOpened, Reaches, is_named, opens_behind, opens_of}
 use Rattle.pgo_run.specs.Output.{Carries, EndsAt, EndsJudged, HasFileCause, IfReadFault, IsOfFile, Makes, ReadsFile, tells_read_fault}
 use Rattle.pgo_run.specs.declared.halt.Halt.{Halt}
@@ -224,6 +224,7 @@ Reached-no-memory command store before rest r opens opens_now faults faults_afte
     nothing : (store : Option Store) → IfSome store (λ files. Makes files command (Err NoMemory))
     nothing None = tt
     nothing (Some files) = tt
+
     nothing-unread : (store : Option Store) → IfSome store (λ files. IfReadFault {A = Vec ℕ} (Err NoMemory) (AreGoodBefore files command))
     nothing-unread None = tt
     nothing-unread (Some files) = tt
@@ -242,6 +243,7 @@ Reached-all command store before text opens opens_now faults faults_after so_far
     all-made : (store : Option Store) → IfSome store (λ files. answer_of_command files command ≡ answer_behind files (answer_of_good command) before []) → IfSome store (λ files. IsOutput command before text.items) → IfSome store (λ files. Makes files command (Ok text))
     all-made None answer is = tt
     all-made (Some files) answer is = (before, answer, is)
+
     unread : (store : Option Store) → IfSome store (λ files. IfReadFault {A = Vec ℕ} (Ok text) (AreGoodBefore files command))
     unread None = tt
     unread (Some files) = tt
@@ -302,6 +304,26 @@ Reached-judged {T} command store before name judge rest k bytes judged P h r ope
     Reached-stop T command store before name judge rest k h r opens opens_now opens_after faults faults_after so_far is rose
     (there-ends store name bytes k (judge before) h there (judged-ends k (judge before bytes) judged P h judges told))
     (judged-cause k judged h faults faults_after told same) stops
+
+missing-by : (told : Option Answer) (k : ℕ) (file : Option (List ℕ)) (judge : List ℕ → Option Place)
+    → IfSome told (λ a. (file ≡ None) × (a ≡ no_such_file k)) → IfSome told (EndsAt k file judge)
+missing-by None k file judge is = tt
+missing-by (Some a) k file judge is = λ next. ap (λ f. with_file k f judge next) is.0 ∙ sym is.1
+
+-- A file that was not opened is missing, if the files are what ends the command.
+pub missing-ends : (store : Option Store) (name : List ℕ) (k : ℕ) (judge : List ℕ → Option Place) (h : Halt)
+    → IfSome store (λ files. IfAnswers h (λ a. (files name ≡ None) × (a ≡ no_such_file k))) → IfSome store (λ files. IfAnswers h (EndsAt k (files name) judge))
+missing-ends None name k judge h is = tt
+missing-ends (Some files) name k judge h is = missing-by (answer_in h) k (files name) judge is
+
+-- What holds of any store, and what one says of a store leads to.
+pub any-store : {P : Type 0} (store : Option Store) → P → IfSome store (λ files. P)
+any-store None p = tt
+any-store (Some files) p = p
+
+pub where-told : {P Q : Store → Type 0} (store : Option Store) → IfSome store P → ((files : Store) → P files → Q files) → IfSome store Q
+where-told None is leads = tt
+where-told (Some files) is leads = leads files is
 
 -- A file that was read is there.
 pub is-there : (store : Option Store) (name : List ℕ) (k limit : ℕ) (bytes : Vec ℕ) (now : List ℕ)

@@ -5,7 +5,7 @@ use Rattle.refusal.specs.declared.place.Place.{Place}
 use Rattle.refusal.specs.Place.{first_bad, size_item}
 use Rattle.io_edge.specs.Inputs.{Store}
 use Rattle.binary_model.specs.Binary.{first_bad_of_binary, items_behind_size, max_binary_bytes}
-use Rattle.command_model.specs.Answer.{Answer, fails_check, unless_bad, usage, with_file}
+use Rattle.command_model.specs.Answer.{Answer, fails_check, unless_bad, usage}
 use Rattle.pgo_run.specs.Halt.{IfAnswers, answer_in}
 use Rattle.pgo_run.specs.Output.{EndsAt}
 use Rattle.pgo_run.specs.declared.halt.Halt.{Halt}
@@ -18,6 +18,7 @@ ends-wider k (Some bytes) judge wider a more ends = by (judge bytes) refl
   where
     leads : (next : List ℕ → Answer) → judge bytes ≡ None → next bytes ≡ a
     leads next good = ap (λ b. unless_bad k b (next bytes)) (sym good) ∙ ends next
+
     by : (bad : Option Place) → judge bytes ≡ bad → EndsAt k (Some bytes) wider a
     by None good = let one : usage ≡ fails_check 0 = leads (λ b. usage) good ∙ sym (leads (λ b. fails_check 0) good) in absurd cc
     by (Some place) bad = λ next. ap (λ b. unless_bad k b (next bytes)) (more bytes place bad) ∙ sym (ap (λ b. unless_bad k b (next bytes)) bad) ∙ ends next

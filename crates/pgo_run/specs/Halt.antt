@@ -1,5 +1,5 @@
 -- What ends a command before its output is made, as an answer and as a status.
-use Rattle.std.specs.Prelude.{◌≡◌, ℕ, ⊤, Option, None, Some, IfSome, Result, Ok, Err}
+use Rattle.std.specs.Prelude.{ℕ, Option, None, Some, IfSome, Result, Ok, Err}
 use Rattle.refusal.specs.declared.place.Stop.{Stop}
 use Rattle.refusal.specs.declared.place.Stop.TheVariants as stop
 use Rattle.command_model.specs.Answer.{Answer, in_file, no_such_file, refused}

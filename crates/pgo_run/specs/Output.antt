@@ -12,7 +12,7 @@ use Rattle.command_model.specs.Good.{AreGoodBefore}
 use Rattle.pgo_run.specs.Halt.{IfAnswers}
 use Rattle.pgo_run.specs.Opens.{HasOpened}
 use Rattle.pgo_run.specs.declared.halt.Halt.{Halt}
-use Rattle.pgo_run.specs.declared.halt.Halt.TheVariants.{NoSuchFile, Refused, ReadFault, NoMemory}
+use Rattle.pgo_run.specs.declared.halt.Halt.TheVariants.{NoSuchFile, Refused, ReadFault}
 
 -- Whatever comes behind the k-th file, of which this place is the first bad one, if there is one: the answer is this.
 abbrev pub EndsJudged : ℕ → Option Place → Answer → Type 0

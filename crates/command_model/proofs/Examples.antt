@@ -12,9 +12,11 @@ use Rattle.sample_model.specs.Judging.{cause_of_line, items_of_lines, judged_lin
 use Rattle.io_edge.specs.Inputs.{Store}
 use Rattle.command_model.specs.Answer.{answer_of}
 use Rattle.command_model.specs.Answer.Answer.{usage, no_such_file, refused, writes}
+use Rattle.command_model.specs.Files.{IsOutput}
 use Rattle.profile_model.specs.Ways.{to_function, to_body, to_call}
 use Rattle.binary_model.specs.Places.{outside, nameless, no_line, at_way}
-use Rattle.command_model.specs.Command.{address_of as address_asked, command_of, counts, where_, profile, map_name, sampling_of}
+use Rattle.command_model.specs.Command.{address_of as address_asked, command_of, counts, where_, profile}
+use Rattle.command_model.specs.Options.{Options, map_name, options_of}
 use Rattle.command_model.specs.Counts.{counts_text}
 use Rattle.command_model.specs.Where.{where_text}
 
@@ -39,26 +41,33 @@ words : (command_of (codes "counts" ∷ codes "a.txt" ∷ []) ≡ Some (counts (
 unfolding command_of
 words = (refl, refl, refl, refl, refl)
 
+abbrev plain : Options
+plain = record { map = None; base = false }
+
+abbrev based : Options
+based = record { map = None; base = true }
+
 -- an option stands in front, once
-words_of_where : (command_of (codes "where" ∷ codes "a" ∷ codes "0x1F" ∷ []) ≡ Some (where_ false (codes "a") 0x1f))
-    × (command_of (codes "where" ∷ codes "--base" ∷ codes "a" ∷ codes "1f" ∷ []) ≡ Some (where_ true (codes "a") 0x1f))
+words_of_where : (command_of (codes "where" ∷ codes "a" ∷ codes "0x1F" ∷ []) ≡ Some (where_ plain (codes "a") 0x1f))
+    × (command_of (codes "where" ∷ codes "--base" ∷ codes "a" ∷ codes "1f" ∷ []) ≡ Some (where_ based (codes "a") 0x1f))
     × (command_of (codes "where" ∷ codes "a" ∷ codes "--base" ∷ codes "1f" ∷ []) ≡ None)
     × (command_of (codes "where" ∷ codes "--base" ∷ codes "--base" ∷ codes "a" ∷ codes "1f" ∷ []) ≡ None)
     × (command_of (codes "where" ∷ codes "--bases" ∷ codes "a" ∷ codes "1f" ∷ []) ≡ None)
+    × (command_of (codes "where" ∷ codes "--map=y" ∷ codes "a" ∷ codes "1f" ∷ []) ≡ None)
     × (command_of (codes "where" ∷ codes "a" ∷ codes "xyz" ∷ []) ≡ None)
-unfolding command_of address_asked number_of
-words_of_where = (refl, refl, refl, refl, refl, refl)
+unfolding command_of options_of map_name address_asked number_of
+words_of_where = (refl, refl, refl, refl, refl, refl, refl)
 
 -- options in any order, each once, and a name that is not empty
-words_of_profile : (command_of (codes "profile" ∷ codes "a" ∷ codes "p" ∷ []) ≡ Some (profile None false (codes "a") (codes "p")))
-    × (command_of (codes "profile" ∷ codes "--base" ∷ codes "--map=/bin/x" ∷ codes "a" ∷ codes "p" ∷ []) ≡ Some (profile (Some (codes "/bin/x")) true (codes "a") (codes "p")))
-    × (command_of (codes "profile" ∷ codes "--map=y" ∷ codes "a" ∷ codes "p" ∷ []) ≡ Some (profile (Some (codes "y")) false (codes "a") (codes "p")))
+words_of_profile : (command_of (codes "profile" ∷ codes "a" ∷ codes "p" ∷ []) ≡ Some (profile plain (codes "a") (codes "p")))
+    × (command_of (codes "profile" ∷ codes "--base" ∷ codes "--map=/bin/x" ∷ codes "a" ∷ codes "p" ∷ []) ≡ Some (profile (record { map = Some (codes "/bin/x"); base = true }) (codes "a") (codes "p")))
+    × (command_of (codes "profile" ∷ codes "--map=y" ∷ codes "a" ∷ codes "p" ∷ []) ≡ Some (profile (record { map = Some (codes "y"); base = false }) (codes "a") (codes "p")))
     × (command_of (codes "profile" ∷ codes "--map=" ∷ codes "a" ∷ codes "p" ∷ []) ≡ None)
     × (command_of (codes "profile" ∷ codes "--map=y" ∷ codes "--map=y" ∷ codes "a" ∷ codes "p" ∷ []) ≡ None)
     × (command_of (codes "profile" ∷ codes "--base" ∷ codes "--base" ∷ codes "a" ∷ codes "p" ∷ []) ≡ None)
     × (command_of (codes "profile" ∷ codes "--edges" ∷ codes "a" ∷ codes "p" ∷ []) ≡ None)
     × (command_of (codes "profile" ∷ codes "a" ∷ []) ≡ None)
-unfolding command_of map_name sampling_of
+unfolding command_of options_of map_name
 words_of_profile = (refl, refl, refl, refl, refl, refl, refl, refl)
 
 -- one to sixteen digits
@@ -85,9 +94,14 @@ two_files name =
     if bytes_eq name (codes "good") then Some (codes "401036 0x7/0x8 0x5/0x6\n")
     else (if bytes_eq name [] then Some (codes "\nzz") else None)
 
-answers : (answer_of two_files (codes "counts" ∷ codes "good" ∷ []) ≡ writes (codes "0x5 0x6 1\n0x7 0x8 1\n# branches 2\n"))
+answers : (answer_of two_files (codes "counts" ∷ codes "good" ∷ []) ≡ writes (counts (codes "good")) (codes "401036 0x7/0x8 0x5/0x6\n" ∷ []))
     × (answer_of two_files (codes "counts" ∷ [] ∷ []) ≡ refused (record { file = 1; at = 2; kind = BadLine }))
     × (answer_of two_files (codes "counts" ∷ codes "none" ∷ []) ≡ no_such_file 1)
     × (answer_of two_files (codes "counts" ∷ codes "good" ∷ codes "good" ∷ []) ≡ usage) × (answer_of two_files [] ≡ usage)
-unfolding command_of two_files counts_text hex_text digits lines_of ended_lines_of fields_of number_of prefixed_of address_of is_ip entry_of is_sample is_well_formed branches_of_line cause_of_line items_of_lines judged_lines_of
+unfolding command_of two_files lines_of ended_lines_of fields_of number_of prefixed_of address_of is_ip entry_of is_sample is_well_formed branches_of_line cause_of_line items_of_lines judged_lines_of
 answers = (refl, refl, refl, refl, refl)
+
+-- and what is written then
+written : IsOutput (counts (codes "good")) (codes "401036 0x7/0x8 0x5/0x6\n" ∷ []) (codes "0x5 0x6 1\n0x7 0x8 1\n# branches 2\n")
+unfolding counts_text hex_text digits lines_of ended_lines_of fields_of number_of prefixed_of address_of is_ip entry_of is_sample is_well_formed branches_of_line
+written = refl

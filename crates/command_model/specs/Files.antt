@@ -1,29 +1,49 @@
--- The files of a command, and which of them are good.
-use Rattle.std.specs.Prelude.{◌≡◌, ℕ, List, [], ◌∷◌, Option, None, Some}
-use Rattle.std.specs.List.{AllByRecursion}
+-- The files of a command, each with what makes it bad, and what the command makes of good ones.
+use Rattle.std.specs.Prelude.{◌≡◌, ℕ, List, [], ◌∷◌, Option, None, slice_get, unwrap_or}
 use Rattle.refusal.specs.declared.place.Place.{Place}
-use Rattle.io_edge.specs.Inputs.{Store}
 use Rattle.sample_model.specs.Judging.{first_bad_of_text}
+use Rattle.sample_model.specs.Samples.{branches_of}
 use Rattle.binary_model.specs.Binary.{first_bad_of_binary}
+use Rattle.binary_model.specs.Places.{place_of_address}
+use Rattle.sampled_profile.specs.Output.{profile_output}
 use Rattle.command_model.specs.Command.{Command, counts, where_, profile}
+use Rattle.command_model.specs.Counts.{counts_text}
+use Rattle.command_model.specs.Where.{where_text}
 
--- A file that a command asks for: its name, and its first bad place by what it has to be.
+-- Where the bytes of a file come from.
+pub data Source : Type 0 where
+  -- The store's file of this name.
+  named : List ℕ → Source
+  -- The program itself, which makes these bytes.
+  made : List ℕ → Source
+
+-- A file that a command asks for: where it comes from, and its first bad place, behind the bytes of the files before it.
 pub record Asked : Type 0 where
-  pub name : List ℕ
-  pub judge : List ℕ → Option Place
+  pub source : Source
+  pub judge : List (List ℕ) → List ℕ → Option Place
 
--- The files of a command, in the order of its words.
+-- A file of this name whose goodness hangs on no other file.
+abbrev pub alone : List ℕ → (List ℕ → Option Place) → Asked
+alone name judge = record { source = named name; judge = λ before. judge }
+
+-- The files of a command, in order.
 abbrev pub files_of : Command → List Asked
-files_of (counts perf) = record { name = perf; judge = first_bad_of_text 1 } ∷ []
-files_of (where_ base bin address) = record { name = bin; judge = first_bad_of_binary } ∷ []
-files_of (profile map base bin perf) =
-    record { name = bin; judge = first_bad_of_binary } ∷ record { name = perf; judge = first_bad_of_text 2 } ∷ []
+files_of (counts perf) = alone perf (first_bad_of_text 1) ∷ []
+files_of (where_ options bin address) = alone bin first_bad_of_binary ∷ []
+files_of (profile options bin perf) = alone bin first_bad_of_binary ∷ alone perf (first_bad_of_text 2) ∷ []
 
--- The store has the file, and no place of it is bad.
-pub record IsGood (files : Store) (asked : Asked) : Type 0 where
-  pub bytes : List ℕ
-  pub there : files asked.name ≡ Some bytes
-  pub good : asked.judge bytes ≡ None
+-- The bytes of a file among those of all files, by its number from 0.
+abbrev pub file_at : ℕ → List (List ℕ) → List ℕ
+file_at n contents = unwrap_or (slice_get contents n) []
 
-abbrev pub AreGood : Store → List Asked → Type 0
-AreGood files asked = AllByRecursion (IsGood files) asked
+-- The line that is the first to fail a check, all files being good, with these bytes. No command has a check yet.
+abbrev pub failed_line : Command → List (List ℕ) → Option ℕ
+failed_line command contents = None
+
+-- The texts that a command may write, all files being good, with these bytes, and no line failing a check.
+abbrev pub IsOutput : Command → List (List ℕ) → List ℕ → Type 0
+IsOutput (counts perf) contents text = text ≡ counts_text (branches_of (file_at 0 contents))
+IsOutput (where_ options bin address) contents text =
+    text ≡ where_text (place_of_address (file_at 0 contents) options.base address)
+IsOutput (profile options bin perf) contents text =
+    text ≡ profile_output options.map options.base (file_at 0 contents) (file_at 1 contents)

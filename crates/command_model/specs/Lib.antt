@@ -2,4 +2,6 @@ pub mod Answer
 pub mod Command
 pub mod Counts
 pub mod Files
+pub mod Good
+pub mod Options
 pub mod Where

@@ -9,7 +9,7 @@ use Rattle.std.specs.Str.Parse.{AllDigits, digits_value}
 use Rattle.std.proofs.lemmas.Int.Digits.{digits_value-lt}
 use Rattle.std.proofs.lemmas.Bool.{lt-ltb, ltb-true}
 use Rattle.text_model.specs.Numbers.{hex_of, is_numeral, number_of}
-use Rattle.command_model.specs.Command.{is_option, option_count}
+use Rattle.command_model.specs.Options.{is_option, option_count}
 use Rattle.command_words.specs.Words.{texts_of}
 use Rattle.text_scan.specs.Numbers.{within}
 use Rattle.text_scan.specs.declared.read.NumberFault.{NumberFault}

@@ -1,169 +1,96 @@
--- The options of a sampled program, one behind the other.
-use Rattle.std.proofs.Common.{◌≡◌, ◌<◌, ◌≤◌, ◌+◌, ◌&&◌, ◌||◌, ℕ, Bool, true, false, nat_lt, List, [], ◌∷◌, ◌++◌, drop, take, length, map, Option, None, Some, refl, sym, ap, subst, ◌∙◌, arith, get_or}
-use Rattle.std.specs.Prelude.{codes, cond, count_by, filter_map, is_some, option_and_then, slice_get, if◌then◌else◌}
-use Rattle.std.specs.List.{cons_option, list_all, list_any}
+-- Options among words, one word behind the other.
+use Rattle.std.proofs.Common.{◌≡◌, ◌<◌, ◌≤◌, ◌+◌, ◌&&◌, ℕ, Bool, true, false, List, [], ◌∷◌, drop, length, Option, None, Some, refl, sym, ap, ◌∙◌, arith, get_or}
+use Rattle.std.specs.Prelude.{cond, count_by, filter_map, slice_get}
+use Rattle.std.specs.List.{cons_option, list_all}
 use Rattle.std.specs.Global.{Vec}
-use Rattle.std.specs.Cmp.Lexicographic.{bytes_decides}
-use Rattle.std.proofs.lemmas.Bool.{ltb-true}
-use Rattle.std.proofs.lemmas.List.{map-append, map_push, take-append-drop, take_more}
+use Rattle.std.proofs.lemmas.List.{drop_all}
 use Rattle.std.proofs.lemmas.List.Sums.{sum_by-cons}
-use Rattle.command_model.specs.Command.{Sampling, is_base, is_map, map_name, sampling_of}
+use Rattle.command_model.specs.Options.{first_map, map_name}
 use Rattle.command_words.specs.Words.{texts_of}
+use Rattle.command_words.proofs.CommandLemmas.{drop-item}
 
-abbrev both : Bool → ℕ → ℕ → Sampling → Option Sampling
-both known bases maps said = if known && (nat_lt bases 2 && nat_lt maps 2) then Some said else None
+-- the words from a place on, by the word there
+from : (words : List (Vec ℕ)) (n : ℕ) (word : Vec ℕ) → n < length words → word ≡ get_or words n word
+    → texts_of (drop n words) ≡ word.items ∷ texts_of (drop (n + 1) words)
+from words n word within is = ap texts_of (drop-item words n word within is)
 
-abbrev first_of : Option (List ℕ) → Option (List ℕ) → Option (List ℕ)
-first_of None name = name
-first_of (Some name) other = Some name
+-- no word is left
+ended : (words : List (Vec ℕ)) (n : ℕ) → length words ≤ n → texts_of (drop n words) ≡ []
+ended words n past = ap texts_of (drop_all n words past)
 
--- What words say behind others that said this.
-abbrev pub sampling_behind : Sampling → List (List ℕ) → Option Sampling
-sampling_behind said words = both
-    (list_all (λ word. is_base word || is_map word) words)
-    (count_by is_base words + cond said.base 1 0)
-    (count_by is_map words + cond (is_some said.map) 1 0)
-    (record { map = first_of said.map (slice_get (filter_map map_name words) 0); base = said.base || list_any is_base words })
+-- All words hold exactly where those from a place on do.
+pub record HoldSoFar (holds : List ℕ → Bool) (words : List (Vec ℕ)) (n : ℕ) : Type 0 where
+  pub same : list_all holds (texts_of words) ≡ list_all holds (texts_of (drop n words))
 
--- what a word and those behind it say, by what they are, behind words that said this
-abbrev shape : Bool → Option (List ℕ) → Option (List ℕ) → Bool → Bool → ℕ → ℕ → List (List ℕ) → Bool → Option Sampling
-shape b m map base all bases maps names any = both ((b || is_some m) && all)
-    (cond b 1 0 + bases + cond base 1 0) (cond (is_some m) 1 0 + maps + cond (is_some map) 1 0)
-    (record { map = first_of map (slice_get (cons_option m names) 0); base = base || (b || any) })
+pub HoldSoFar-start : (holds : List ℕ → Bool) (words : List (Vec ℕ)) → HoldSoFar holds words 0
+HoldSoFar-start holds words = record { same = refl }
 
-same : (k : Bool) (s : Sampling) (b b' m m' : ℕ) → b ≡ b' → m ≡ m' → both k b m s ≡ both k b' m' s
-same k s b b' m m' p q = ap (λ n. both k n m s) p ∙ ap (λ n. both k b' n s) q
+pub HoldSoFar-more : (holds : List ℕ → Bool) (words : List (Vec ℕ)) (n : ℕ) (word : Vec ℕ) → HoldSoFar holds words n → n < length words
+    → word ≡ get_or words n word → holds word.items ≡ true → HoldSoFar holds words (n + 1)
+HoldSoFar-more holds words n word so_far within is here = record {
+  same = so_far.same ∙ ap (list_all holds) (from words n word within is) ∙ ap (λ b. b && list_all holds (texts_of (drop (n + 1) words))) here;
+}
 
-not-below : (n : ℕ) → 2 ≤ n → nat_lt n 2 ≡ false
-not-below n many = elim (nat_lt n 2) as (λ b. nat_lt n 2 ≡ b → b ≡ false) [
-  | true ↦ λ is. let few : n < 2 = ltb-true n 2 is in absurd (omega (arith, few))
-  | false ↦ λ is. refl
-] refl
+pub HoldSoFar-stop : (holds : List ℕ → Bool) (words : List (Vec ℕ)) (n : ℕ) (word : Vec ℕ) → HoldSoFar holds words n → n < length words
+    → word ≡ get_or words n word → holds word.items ≡ false → false ≡ list_all holds (texts_of words)
+HoldSoFar-stop holds words n word so_far within is here =
+    sym (so_far.same ∙ ap (list_all holds) (from words n word within is) ∙ ap (λ b. b && list_all holds (texts_of (drop (n + 1) words))) here)
 
-no_bases : (k : Bool) (s : Sampling) (b m : ℕ) → 2 ≤ b → both k b m s ≡ None
-no_bases true s b m many = ap (λ t. if t && nat_lt m 2 then Some s else None) (not-below b many)
-no_bases false s b m many = refl
+pub HoldSoFar-end : (holds : List ℕ → Bool) (words : List (Vec ℕ)) (n : ℕ) → HoldSoFar holds words n → length words ≤ n
+    → true ≡ list_all holds (texts_of words)
+HoldSoFar-end holds words n so_far past = sym (so_far.same ∙ ap (list_all holds) (ended words n past))
 
-and-false : (t : Bool) → t && false ≡ false
-and-false true = refl
-and-false false = refl
+-- So many words were counted, and those from a place on are to come.
+pub record CountedSoFar (counts : List ℕ → Bool) (words : List (Vec ℕ)) (n count : ℕ) : Type 0 where
+  pub all : count_by counts (texts_of words) ≡ count + count_by counts (texts_of (drop n words))
+  pub few : count ≤ n
 
-no_maps : (k : Bool) (s : Sampling) (b m : ℕ) → 2 ≤ m → both k b m s ≡ None
-no_maps true s b m many = ap (λ t. if nat_lt b 2 && t then Some s else None) (not-below m many) ∙ ap (λ t. if t then Some s else None) (and-false (nat_lt b 2))
-no_maps false s b m many = refl
+pub CountedSoFar-start : (counts : List ℕ → Bool) (words : List (Vec ℕ)) → CountedSoFar counts words 0 0
+CountedSoFar-start counts words = record { all = omega arith; few = omega arith }
 
--- one word more, by what it is
-abbrev with_by : Bool → Option (List ℕ) → Option (List ℕ) → Bool → Option Sampling
-with_by b m map base =
-    if b then (if base then None else Some (record { map = map; base = true }))
-    else option_and_then (λ name. if is_some map then None else Some (record { map = Some name; base = base })) m
+here_counted : (counts : List ℕ → Bool) (words : List (Vec ℕ)) (n : ℕ) (word : Vec ℕ) (b : Bool) → n < length words → word ≡ get_or words n word
+    → counts word.items ≡ b → count_by counts (texts_of (drop n words)) ≡ cond b 1 0 + count_by counts (texts_of (drop (n + 1) words))
+here_counted counts words n word b within is here =
+    ap (count_by counts) (from words n word within is)
+    ∙ sum_by-cons (λ w. cond (counts w) 1 0) word.items (texts_of (drop (n + 1) words))
+    ∙ ap (λ c. cond c 1 0 + count_by counts (texts_of (drop (n + 1) words))) here
 
-abbrev behind_by : Bool → ℕ → ℕ → List (List ℕ) → Bool → Sampling → Option Sampling
-behind_by all bases maps names any said = both all (bases + cond said.base 1 0) (maps + cond (is_some said.map) 1 0)
-    (record { map = first_of said.map (slice_get names 0); base = said.base || any })
+pub CountedSoFar-more : (counts : List ℕ → Bool) (words : List (Vec ℕ)) (n count : ℕ) (word : Vec ℕ) → CountedSoFar counts words n count → n < length words
+    → word ≡ get_or words n word → counts word.items ≡ true → CountedSoFar counts words (n + 1) (count + 1)
+CountedSoFar-more counts words n count word so_far within is here =
+    let all = so_far.all in let few = so_far.few in let one = here_counted counts words n word true within is here in
+    record { all = omega (arith, all, one); few = omega (arith, few) }
 
-next-shape : (b : Bool) (m map : Option (List ℕ)) (base all : Bool) (bases maps : ℕ) (names : List (List ℕ)) (any : Bool) → (b ≡ true → m ≡ None)
-    → shape b m map base all bases maps names any ≡ option_and_then (behind_by all bases maps names any) (with_by b m map base)
-next-shape true (Some name) map base all bases maps names any bare = let none = bare refl in absurd cc
-next-shape true None map true all bases maps names any bare = no_bases all _ (1 + bases + 1) (0 + maps + cond (is_some map) 1 0) (omega arith)
-next-shape true None map false all bases maps names any bare =
-    same all (record { map = first_of map (slice_get names 0); base = true }) (1 + bases + 0) (bases + 1) (0 + maps + cond (is_some map) 1 0) (maps + cond (is_some map) 1 0) (omega arith) (omega arith)
-next-shape false None map base all bases maps names any bare = refl
-next-shape false (Some name) (Some other) base all bases maps names any bare = no_maps all _ (0 + bases + cond base 1 0) (1 + maps + 1) (omega arith)
-next-shape false (Some name) None base all bases maps names any bare =
-    same all (record { map = Some name; base = base || any }) (0 + bases + cond base 1 0) (bases + cond base 1 0) (1 + maps + 0) (maps + 1) (omega arith) (omega arith)
+pub CountedSoFar-pass : (counts : List ℕ → Bool) (words : List (Vec ℕ)) (n count : ℕ) (word : Vec ℕ) → CountedSoFar counts words n count → n < length words
+    → word ≡ get_or words n word → counts word.items ≡ false → CountedSoFar counts words (n + 1) count
+CountedSoFar-pass counts words n count word so_far within is here =
+    let all = so_far.all in let few = so_far.few in let one = here_counted counts words n word false within is here in
+    record { all = omega (arith, all, one); few = omega (arith, few) }
 
--- `--base` has no name
-base-name : (word : List ℕ) → is_base word ≡ true → map_name word ≡ None
-unfolding map_name
-base-name word is = let word_is : word ≡ codes "--base" = (bytes_decides word (codes "--base")).0 is in subst (λ w. map_name w ≡ None) (sym word_is) refl
+pub CountedSoFar-end : (counts : List ℕ → Bool) (words : List (Vec ℕ)) (n count : ℕ) → CountedSoFar counts words n count → length words ≤ n
+    → count ≡ count_by counts (texts_of words)
+CountedSoFar-end counts words n count so_far past =
+    let all = so_far.all in let none = ap (count_by counts) (ended words n past) in omega (arith, all, none)
 
-by-shape : (said : Sampling) (word : List ℕ) (words : List (List ℕ)) → sampling_behind said (word ∷ words)
-    ≡ shape (is_base word) (map_name word) said.map said.base (list_all (λ w. is_base w || is_map w) words) (count_by is_base words) (count_by is_map words) (filter_map map_name words) (list_any is_base words)
-by-shape said word words = same
-    ((is_base word || is_map word) && list_all (λ w. is_base w || is_map w) words)
-    (record { map = first_of said.map (slice_get (cons_option (map_name word) (filter_map map_name words)) 0); base = said.base || (is_base word || list_any is_base words) })
-    (count_by is_base (word ∷ words) + cond said.base 1 0) (cond (is_base word) 1 0 + count_by is_base words + cond said.base 1 0)
-    (count_by is_map (word ∷ words) + cond (is_some said.map) 1 0) (cond (is_map word) 1 0 + count_by is_map words + cond (is_some said.map) 1 0)
-    (ap (λ n. n + cond said.base 1 0) (sum_by-cons (λ w. cond (is_base w) 1 0) word words))
-    (ap (λ n. n + cond (is_some said.map) 1 0) (sum_by-cons (λ w. cond (is_map w) 1 0) word words))
+-- No word before a place has a name.
+pub record UnnamedSoFar (words : List (Vec ℕ)) (n : ℕ) : Type 0 where
+  pub same : first_map (texts_of words) ≡ first_map (texts_of (drop n words))
 
--- One word more, unless it is no option or the second one of its kind.
-abbrev pub with_word : Sampling → List ℕ → Option Sampling
-with_word said word = with_by (is_base word) (map_name word) said.map said.base
+pub UnnamedSoFar-start : (words : List (Vec ℕ)) → UnnamedSoFar words 0
+UnnamedSoFar-start words = record { same = refl }
 
--- Words say what the first of them says with those behind it.
-pub next-option : (said : Sampling) (word : List ℕ) (words : List (List ℕ))
-    → sampling_behind said (word ∷ words) ≡ option_and_then (λ more. sampling_behind more words) (with_word said word)
-next-option said word words =
-    by-shape said word words
-    ∙ next-shape (is_base word) (map_name word) said.map said.base _ _ _ _ _ (base-name word)
+here_named : (words : List (Vec ℕ)) (n : ℕ) (word : Vec ℕ) (name : Option (List ℕ)) → n < length words → word ≡ get_or words n word
+    → map_name word.items ≡ name → first_map (texts_of (drop n words)) ≡ slice_get (cons_option name (filter_map map_name (texts_of (drop (n + 1) words)))) 0
+here_named words n word name within is here =
+    ap first_map (from words n word within is) ∙ ap (λ m. slice_get (cons_option m (filter_map map_name (texts_of (drop (n + 1) words)))) 0) here
 
-pub all-said : (said : Sampling) → sampling_behind said [] ≡ Some said
-all-said said = by said.map said.base
-  where
-    by : (map : Option (List ℕ)) (base : Bool) → sampling_behind (record { map = map; base = base }) [] ≡ Some (record { map = map; base = base })
-    by None true = refl
-    by None false = refl
-    by (Some name) true = refl
-    by (Some name) false = refl
+pub UnnamedSoFar-more : (words : List (Vec ℕ)) (n : ℕ) (word : Vec ℕ) → UnnamedSoFar words n → n < length words
+    → word ≡ get_or words n word → None ≡ map_name word.items → UnnamedSoFar words (n + 1)
+UnnamedSoFar-more words n word so_far within is here = record { same = so_far.same ∙ here_named words n word None within is (sym here) }
 
-pub from-start : (words : List (List ℕ)) → sampling_behind (record { map = None; base = false }) words ≡ sampling_of words
-unfolding sampling_of
-from-start words = same (list_all (λ word. is_base word || is_map word) words) _ (count_by is_base words + 0) (count_by is_base words) (count_by is_map words + 0) (count_by is_map words) (omega arith) (omega arith)
+pub UnnamedSoFar-stop : (words : List (Vec ℕ)) (n : ℕ) (word : Vec ℕ) (name : List ℕ) → UnnamedSoFar words n → n < length words
+    → word ≡ get_or words n word → Some name ≡ map_name word.items → Some name ≡ first_map (texts_of words)
+UnnamedSoFar-stop words n word name so_far within is here = sym (so_far.same ∙ here_named words n word (Some name) within is (sym here))
 
--- What is said behind some words is what all of them say; where these say nothing, nothing is.
-behind-all : (words rest : List (List ℕ)) (before said : Sampling) → sampling_behind before words ≡ Some said
-    → sampling_behind before (words ++ rest) ≡ sampling_behind said rest
-behind-all [] rest before said is =
-    let both_are : Some before ≡ Some said = sym (all-said before) ∙ is in
-    let same_are : before ≡ said = cc in
-    ap (λ s. sampling_behind s rest) same_are
-behind-all (word ∷ words) rest before said is = by_step (λ more. behind-all words rest more said) (with_word before word) refl
-  where
-    by_step : ((more : Sampling) → sampling_behind more words ≡ Some said → sampling_behind more (words ++ rest) ≡ sampling_behind said rest) → (o : Option Sampling) → with_word before word ≡ o → sampling_behind before (word ∷ words ++ rest) ≡ sampling_behind said rest
-    by_step later None none =
-        let e : None ≡ Some said = sym (ap (option_and_then (λ m. sampling_behind m words)) none) ∙ sym (next-option before word words) ∙ is in absurd cc
-    by_step later (Some more) step =
-        next-option before word (words ++ rest) ∙ ap (option_and_then (λ m. sampling_behind m (words ++ rest))) step
-        ∙ later more (sym (ap (option_and_then (λ m. sampling_behind m words)) step) ∙ sym (next-option before word words) ∙ is)
-
-none-behind : (words rest : List (List ℕ)) (before : Sampling) → sampling_behind before words ≡ None → sampling_behind before (words ++ rest) ≡ None
-none-behind [] rest before is = let e : Some before ≡ None = sym (all-said before) ∙ is in absurd cc
-none-behind (word ∷ words) rest before is = by_step (none-behind words rest) (with_word before word) refl
-  where
-    by_step : ((more : Sampling) → sampling_behind more words ≡ None → sampling_behind more (words ++ rest) ≡ None) → (o : Option Sampling) → with_word before word ≡ o → sampling_behind before (word ∷ words ++ rest) ≡ None
-    by_step later None none = next-option before word (words ++ rest) ∙ ap (option_and_then (λ m. sampling_behind m (words ++ rest))) none
-    by_step later (Some more) step =
-        next-option before word (words ++ rest) ∙ ap (option_and_then (λ m. sampling_behind m (words ++ rest))) step
-        ∙ later more (sym (ap (option_and_then (λ m. sampling_behind m words)) step) ∙ sym (next-option before word words) ∙ is)
-
-nothing_behind : (o : Option Sampling) → option_and_then (λ m. sampling_behind m []) o ≡ o
-nothing_behind None = refl
-nothing_behind (Some said) = all-said said
-
-abbrev nothing_said : Sampling
-nothing_said = record { map = None; base = false }
-
-pub no-words : sampling_of [] ≡ Some (record { map = None; base = false })
-no-words = sym (from-start []) ∙ all-said nothing_said
-
--- One word more.
-pub one_more : (said : Sampling) (word : List ℕ) (words : List (List ℕ)) (r : Option Sampling) → r ≡ with_word said word
-    → sampling_of words ≡ Some said → r ≡ sampling_of (words ++ word ∷ [])
-one_more said word words r is all =
-    is ∙ sym (nothing_behind (with_word said word)) ∙ sym (next-option said word [])
-    ∙ sym (behind-all words (word ∷ []) nothing_said said (from-start words ∙ all)) ∙ from-start (words ++ word ∷ [])
-
--- Words that say nothing say nothing with more behind them.
-pub none_more : (words rest : List (List ℕ)) → sampling_of words ≡ None → sampling_of (words ++ rest) ≡ None
-none_more words rest none = sym (from-start (words ++ rest)) ∙ none-behind words rest nothing_said (from-start words ∙ none)
-
--- The words up to a place, by the last of them.
-pub words_up_to : (words : List (Vec ℕ)) (n : ℕ) (word : Vec ℕ) → n < length words → word ≡ get_or words n word
-    → texts_of (take (n + 1) words) ≡ texts_of (take n words) ++ word.items ∷ []
-words_up_to words n word within is =
-    ap texts_of (take_more words n word within ∙ ap (λ (w : Vec ℕ). take n words ++ w ∷ []) (sym is)) ∙ map_push (λ w. w.items) (take n words) word
-
-pub all_words : (words : List (Vec ℕ)) (n : ℕ) → texts_of words ≡ texts_of (take n words) ++ texts_of (drop n words)
-all_words words n = ap texts_of (sym (take-append-drop n words)) ∙ map-append (λ (w : Vec ℕ). w.items) (take n words) (drop n words)
+pub UnnamedSoFar-end : (words : List (Vec ℕ)) (n : ℕ) → UnnamedSoFar words n → length words ≤ n → None ≡ first_map (texts_of words)
+UnnamedSoFar-end words n so_far past = sym (so_far.same ∙ ap first_map (ended words n past))

@@ -3,24 +3,25 @@ use Rattle.std.specs.Prelude.{ℕ, List, map}
 use Rattle.std.specs.Option.{option_map}
 use Rattle.std.specs.Global.{Vec}
 use Rattle.command_model.specs.Command as model
+use Rattle.command_model.specs.Options as options
 use Rattle.command_words.specs.declared.command.Command.{Command}
 use Rattle.command_words.specs.declared.command.Command.TheVariants.{Counts, Where, Profile}
-use Rattle.command_words.specs.declared.options.Sampling.{Sampling}
+use Rattle.command_words.specs.declared.options.Has.{Has}
+use Rattle.command_words.specs.declared.options.Options.{Options}
 
 -- The bytes of each word.
 abbrev pub texts_of : List (Vec ℕ) → List (List ℕ)
 texts_of words = map (λ w. w.items) words
 
 -- What options say, apart from where the words lie.
-abbrev pub told_sampling : Sampling → model.Sampling
-told_sampling sampling = record { map = option_map (λ name. name.now) sampling.map; base = sampling.base }
+abbrev pub told_options : Options → options.Options
+told_options said = record { map = option_map (λ name. name.now) said.map; base = said.base }
 
--- The profile that is asked for of a binary and a branch text.
-abbrev pub profile_asked : Sampling → List ℕ → List ℕ → model.Command
-profile_asked sampling binary perf = model.profile (told_sampling sampling).map sampling.base binary perf
+abbrev pub told_has : Has → options.Has
+told_has has = record { map = has.map; base = has.base }
 
 -- What is asked for, apart from where the words lie.
 abbrev pub meaning_of : Command → model.Command
 meaning_of (Counts perf) = model.counts perf.now
-meaning_of (Where base binary address) = model.where_ base binary.now address
-meaning_of (Profile sampling binary perf) = profile_asked sampling binary.now perf.now
+meaning_of (Where said binary address) = model.where_ (told_options said) binary.now address
+meaning_of (Profile said binary perf) = model.profile (told_options said) binary.now perf.now

@@ -1,29 +1,39 @@
 ghost use Rattle.std.specs.Prelude.{◌≡◌, ◌≤◌, length};
 ghost use Rattle.std.specs.Option.{option_map};
-ghost use Rattle.command_model.specs.Command.{address_of as address_told, base_asked as base_told, command_of, counts_of, digits_of as digits_told, is_option as option_told, option_count as count_told, profile_of, where_of};
+ghost use Rattle.command_model.specs.Command.{address_of as address_told, command_of, counts_of, digits_of as digits_told, profile_of, where_of};
+ghost use Rattle.command_model.specs.Options.{is_option as option_told, option_count as count_told};
 ghost use Rattle.command_words.specs.Words.{texts_of, meaning_of};
 
-use crate::options::{Sampling, is_base, sampling_of};
+use crate::options::{Has, Options, options_of};
 use text_scan::hex;
 
 /// The most digits of an address.
 const MOST_DIGITS: usize = 16;
+
+const WHERE_HAS: Has = Has {
+    map: false,
+    base: true,
+};
+
+const PROFILE_HAS: Has = Has {
+    map: true,
+    base: true,
+};
 
 /// What a user asks for.
 #[derive(Clone, Copy, Debug)]
 pub enum Command<'a> {
     /// The branches of this branch text, counted.
     Counts(&'a [u8]),
-    /// The place of an address of this binary, with bases in place of discriminators where `base`
-    /// asks for them.
+    /// The place of an address of this binary.
     Where {
-        base: bool,
+        options: Options<'a>,
         binary: &'a [u8],
         address: u64,
     },
     /// The profile of this binary and this branch text, and the report on it.
     Profile {
-        sampling: Sampling<'a>,
+        options: Options<'a>,
         binary: &'a [u8],
         perf: &'a [u8],
     },
@@ -83,13 +93,13 @@ fn parse_counts<'a>(options: &[Vec<u8>], operands: &'a [Vec<u8>]) -> Option<Comm
 }
 
 /// `where [--base] BIN HEX`
-fn parse_where<'a>(options: &[Vec<u8>], operands: &'a [Vec<u8>]) -> Option<Command<'a>>
+fn parse_where<'a>(options: &'a [Vec<u8>], operands: &'a [Vec<u8>]) -> Option<Command<'a>>
     ensures { option_map meaning_of result
         ≡ where_of (texts_of options.now) (texts_of operands.now) }
 {
     match operands {
         [binary, hex] => Some(Command::Where {
-            base: base_asked(options)?,
+            options: options_of(WHERE_HAS, options)?,
             binary,
             address: address_of(hex)?,
         }),
@@ -104,21 +114,10 @@ fn parse_profile<'a>(options: &'a [Vec<u8>], operands: &'a [Vec<u8>]) -> Option<
 {
     match operands {
         [binary, perf] => Some(Command::Profile {
-            sampling: sampling_of(options)?,
+            options: options_of(PROFILE_HAS, options)?,
             binary,
             perf,
         }),
-        _ => None,
-    }
-}
-
-/// Whether `--base` is among the options of a command that has no other option.
-fn base_asked(options: &[Vec<u8>]) -> Option<bool>
-    ensures { result ≡ base_told (texts_of options.now) }
-{
-    match options {
-        [] => Some(false),
-        [option] if is_base(option) => Some(true),
         _ => None,
     }
 }

@@ -7,4 +7,4 @@ mod command;
 mod options;
 
 pub use command::{Command, parse};
-pub use options::Sampling;
+pub use options::Options;

@@ -1,8 +1,9 @@
 -- A branch text that is read piece by piece.
-use Rattle.std.proofs.Common.{◌≡◌, ℕ, ◌+◌, ◌-◌, ◌≤◌, List, [], ◌++◌, length, Option, None, Some, Ok, Err, IfSome, refl, sym, ap, subst, ◌∙◌, arith}
+use Rattle.std.proofs.Common.{◌≡◌, ℕ, ◌+◌, ◌-◌, ◌≤◌, List, [], ◌++◌, length, Option, None, Some, Result, Ok, Err, IfOk, IfSome, refl, sym, ap, subst, ◌∙◌, arith}
 use Rattle.std.proofs.KnownBytes.{Consumes-nil, Consumes-trans}
-use Rattle.std.proofs.lemmas.List.{append-nil, append_assoc, length-append}
+use Rattle.std.proofs.lemmas.List.{append-nil, length-append}
 use Rattle.std.specs.Io.KnownBytes.{Consumes, IsAtEnd}
+use Rattle.std.specs.Result.{IsErrAnd}
 use Rattle.refusal.specs.declared.place.Stop.{Stop}
 use Rattle.refusal.specs.declared.place.Stop.TheVariants.{Refused, NoMemory}
 use Rattle.text_model.specs.Lines.{lines_of}
@@ -14,10 +15,9 @@ use Rattle.branch_stacks.specs.Reader.{Reading, HasRead, new_reading_by, Feeds, 
 use Rattle.branch_counts.specs.Tally.{Tally, Tells, TellsOf}
 use Rattle.branch_stacks.proofs.FeedLemmas.{HasRead-start}
 use Rattle.pgo_run.specs.BranchText.{FeedsText, JudgesText}
-use Rattle.pgo_run.specs.Halt.{halt_of_stop}
+use Rattle.pgo_run.specs.Halt.{halt_of_stop, judged_in}
 use Rattle.pgo_run.specs.declared.halt.Halt.{Halt}
-use Rattle.pgo_run.specs.declared.halt.Halt.TheVariants as halt
-use Rattle.pgo_run.specs.declared.halt.Halt.TheVariants.{NoSuchFile, ReadFault}
+use Rattle.pgo_run.proofs.ReachedLemmas.{bad-place, handed-on}
 
 -- This was read of what was left, and the reader goes on.
 pub record ReadSoFar (loading : Option LoadMap) (k : ℕ) (before left : Option (List ℕ)) (reader : Reading) (tally : Tally) : Type 0 where
@@ -45,7 +45,7 @@ ReadSoFar-none loading k left reader tally is tells = subst (λ (r : Reading). R
   has = HasRead-start loading k tally tells;
 })
 
-pub ReadSoFar-more : (loading : Option LoadMap) (k : ℕ) (before left next : Option (List ℕ)) (piece : List ℕ) (old new : Reading) (tally after : Tally) → ReadSoFar loading k before left old tally → Consumes left next piece
+ReadSoFar-more : (loading : Option LoadMap) (k : ℕ) (before left next : Option (List ℕ)) (piece : List ℕ) (old new : Reading) (tally after : Tally) → ReadSoFar loading k before left old tally → Consumes left next piece
     → Feeds old tally piece (Ok tt) new after → (new.file ≡ old.file) × (new.loading ≡ old.loading) × (new.size ≡ old.size + length piece) × (new.size ≤ max_text_bytes) → ReadSoFar loading k before next new after
 ReadSoFar-more loading k before left next piece old new tally after so_far consumed feeds goes_on = record {
   read = so_far.read ++ piece;
@@ -57,8 +57,8 @@ ReadSoFar-more loading k before left next piece old new tally after so_far consu
   has = (feeds so_far.read so_far.has).0.1;
 }
 
-pub ReadSoFar-stop : (loading : Option LoadMap) (k : ℕ) (before left next : Option (List ℕ)) (piece : List ℕ) (old new : Reading) (tally after : Tally) (stop : Stop) → ReadSoFar loading k before left old tally → Consumes left next piece
-    → Feeds old tally piece (Err stop) new after → IfSome before (λ text. FeedsText loading k text (Err (halt_of_stop stop)) new after)
+ReadSoFar-stop : (loading : Option LoadMap) (k : ℕ) (before left next : Option (List ℕ)) (piece : List ℕ) (old new : Reading) (tally after : Tally) (stop : Stop) → ReadSoFar loading k before left old tally → Consumes left next piece
+    → Feeds old tally piece (Err stop) new after → IfSome before (λ text. FeedsText loading k text (Err (halt_of_stop k stop)) new after)
 ReadSoFar-stop loading k None left next piece old new tally after stop so_far consumed feeds = tt
 ReadSoFar-stop loading k (Some text) None next piece old new tally after stop so_far consumed feeds = absurd so_far.consumed
 ReadSoFar-stop loading k (Some text) (Some left) None piece old new tally after stop so_far consumed feeds = absurd consumed
@@ -69,7 +69,20 @@ ReadSoFar-stop loading k (Some text) (Some left) (Some rest) piece old new tally
     let here : first_bad_of_piece k so_far.read (max_text_bytes - length so_far.read) piece ≡ Some place =
     ap (λ (n : ℕ). first_bad_of_piece k so_far.read n piece) (sym room) ∙ ap (λ (n : ℕ). first_bad_of_piece n so_far.read (max_text_bytes - old.size) piece) (sym so_far.file_is) ∙ bad in
     let whole : text ≡ so_far.read ++ (piece ++ rest) = so_far.consumed ∙ ap (λ (t : List ℕ). so_far.read ++ t) consumed in
-    ap (first_bad_of_text k) whole ∙ bad_places_stay k so_far.read piece rest place (omega (arith, so_far.size, so_far.within)) here
+    bad-place k (first_bad_of_text k text) place (ap (first_bad_of_text k) whole ∙ bad_places_stay k so_far.read piece rest place (omega (arith, so_far.size, so_far.within)) here)
+
+pub ReadSoFar-fed : (loading : Option LoadMap) (k : ℕ) (before left next : Option (List ℕ)) (piece : List ℕ) (old new : Reading) (tally after : Tally) (r : Result (Unit {0}) Stop) → ReadSoFar loading k before left old tally → Consumes left next piece
+    → Feeds old tally piece r new after → IfOk r (λ done. (new.file ≡ old.file) × (new.loading ≡ old.loading) × (new.size ≡ old.size + length piece) × (new.size ≤ max_text_bytes)) → judged_in k r ≡ Ok tt → ReadSoFar loading k before next new after
+ReadSoFar-fed loading k before left next piece old new tally after (Ok tt) so_far consumed feeds goes_on is = ReadSoFar-more loading k before left next piece old new tally after so_far consumed feeds goes_on
+ReadSoFar-fed loading k before left next piece old new tally after (Err stop) so_far consumed feeds goes_on is = absurd cc
+
+pub ReadSoFar-ends : (loading : Option LoadMap) (k : ℕ) (before left next : Option (List ℕ)) (piece : List ℕ) (old new : Reading) (tally after : Tally) (r : Result (Unit {0}) Stop) (h : Halt) (end : Result (Unit {0}) Halt) → ReadSoFar loading k before left old tally → Consumes left next piece
+    → Feeds old tally piece r new after → judged_in k r ≡ Err h → IsErrAnd end (λ x. x ≡ h) → IfSome before (λ text. FeedsText loading k text end new after)
+ReadSoFar-ends loading k before left next piece old new tally after (Ok done) h end so_far consumed feeds is ends = absurd cc
+ReadSoFar-ends loading k before left next piece old new tally after (Err stop) h end so_far consumed feeds is ends =
+    let same : halt_of_stop k stop ≡ h = cc in
+    handed-on end h (λ r. IfSome before (λ text. FeedsText loading k text r new after)) ends
+    (subst (λ x. IfSome before (λ text. FeedsText loading k text (Err x) new after)) same (ReadSoFar-stop loading k before left next piece old new tally after stop so_far consumed feeds))
 
 pub ReadSoFar-all : (loading : Option LoadMap) (k : ℕ) (before left next : Option (List ℕ)) (piece : List ℕ) (reader : Reading) (tally : Tally) → ReadSoFar loading k before left reader tally → Consumes left next piece → piece ≡ [] → IsAtEnd next
     → IfSome before (λ text. FeedsText loading k text (Ok tt) reader tally)
@@ -84,23 +97,33 @@ ReadSoFar-all loading k (Some text) (Some left) (Some rest) piece reader tally s
 -- what was fed stops the reading of a text,
 pub JudgesText-stop : (loading : Option LoadMap) (k : ℕ) (left : Option (List ℕ)) (stopped : Halt) (reader : Reading) (tally : Tally) → IfSome left (λ text. FeedsText loading k text (Err stopped) reader tally) → IfSome left (λ text. JudgesText loading k text (Err stopped) tally)
 JudgesText-stop loading k None stopped reader tally fed = tt
-JudgesText-stop loading k (Some text) (NoSuchFile j) reader tally fed = fed
-JudgesText-stop loading k (Some text) (halt.Refused place) reader tally fed = fed
-JudgesText-stop loading k (Some text) (ReadFault j) reader tally fed = tt
-JudgesText-stop loading k (Some text) halt.NoMemory reader tally fed = tt
+JudgesText-stop loading k (Some text) stopped reader tally fed = fed
 
 -- or its end does,
-pub JudgesText-end : (loading : Option LoadMap) (k : ℕ) (left : Option (List ℕ)) (old new : Reading) (before after : Tally) (stop : Stop) → IfSome left (λ text. FeedsText loading k text (Ok tt) old before) → Finishes old before (Err stop) new after
-    → IfSome left (λ text. JudgesText loading k text (Err (halt_of_stop stop)) after)
+JudgesText-end : (loading : Option LoadMap) (k : ℕ) (left : Option (List ℕ)) (old new : Reading) (before after : Tally) (stop : Stop) → IfSome left (λ text. FeedsText loading k text (Ok tt) old before) → Finishes old before (Err stop) new after
+    → IfSome left (λ text. JudgesText loading k text (Err (halt_of_stop k stop)) after)
 JudgesText-end loading k None old new before after stop fed finishes = tt
 JudgesText-end loading k (Some text) old new before after NoMemory fed finishes = tt
 JudgesText-end loading k (Some text) old new before after (Refused place) fed finishes =
-    first_bad_of_text-within k text fed.3 ∙ ap (λ (n : ℕ). first_bad_of_lines n (lines_of text)) (sym fed.1) ∙ (finishes text fed.0).0
+    bad-place k (first_bad_of_text k text) place (first_bad_of_text-within k text fed.3 ∙ ap (λ (n : ℕ). first_bad_of_lines n (lines_of text)) (sym fed.1) ∙ (finishes text fed.0).0)
 
 -- or all of it is good.
-pub JudgesText-all : (loading : Option LoadMap) (k : ℕ) (left : Option (List ℕ)) (old new : Reading) (before after : Tally) → IfSome left (λ text. FeedsText loading k text (Ok tt) old before) → Finishes old before (Ok tt) new after
+JudgesText-all : (loading : Option LoadMap) (k : ℕ) (left : Option (List ℕ)) (old new : Reading) (before after : Tally) → IfSome left (λ text. FeedsText loading k text (Ok tt) old before) → Finishes old before (Ok tt) new after
     → IfSome left (λ text. JudgesText loading k text (Ok tt) after)
 JudgesText-all loading k None old new before after fed finishes = tt
 JudgesText-all loading k (Some text) old new before after fed finishes =
     let end = (finishes text fed.0).0 in
     (first_bad_of_text-within k text fed.3 ∙ ap (λ (n : ℕ). first_bad_of_lines n (lines_of text)) (sym fed.1) ∙ end.0, subst (λ (l : Option LoadMap). Tells l (lines_of text) after) fed.2 end.1.0)
+
+pub JudgesText-passes : (loading : Option LoadMap) (k : ℕ) (left : Option (List ℕ)) (old new : Reading) (before after : Tally) (r : Result (Unit {0}) Stop) → IfSome left (λ text. FeedsText loading k text (Ok tt) old before) → Finishes old before r new after
+    → judged_in k r ≡ Ok tt → IfSome left (λ text. JudgesText loading k text (Ok tt) after)
+JudgesText-passes loading k left old new before after (Ok tt) fed finishes is = JudgesText-all loading k left old new before after fed finishes
+JudgesText-passes loading k left old new before after (Err stop) fed finishes is = absurd cc
+
+pub JudgesText-ends : (loading : Option LoadMap) (k : ℕ) (left : Option (List ℕ)) (old new : Reading) (before after : Tally) (r : Result (Unit {0}) Stop) (h : Halt) (end : Result (Unit {0}) Halt) → IfSome left (λ text. FeedsText loading k text (Ok tt) old before) → Finishes old before r new after
+    → judged_in k r ≡ Err h → IsErrAnd end (λ x. x ≡ h) → IfSome left (λ text. JudgesText loading k text end after)
+JudgesText-ends loading k left old new before after (Ok done) h end fed finishes is ends = absurd cc
+JudgesText-ends loading k left old new before after (Err stop) h end fed finishes is ends =
+    let same : halt_of_stop k stop ≡ h = cc in
+    handed-on end h (λ r. IfSome left (λ text. JudgesText loading k text r after)) ends
+    (subst (λ x. IfSome left (λ text. JudgesText loading k text (Err x) after)) same (JudgesText-end loading k left old new before after stop fed finishes))

@@ -1,5 +1,5 @@
 pub mod BranchTextLemmas
-mod Examples
+pub mod Examples
 pub mod ProfileLemmas
-pub mod StopLemmas
+pub mod ReachedLemmas
 pub mod UnreadLemmas

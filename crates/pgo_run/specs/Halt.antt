@@ -1,15 +1,17 @@
--- What ends a command before its output is made, as a status.
+-- What ends a command before its output is made, as an answer and as a status.
+use Rattle.std.specs.Prelude.{ℕ, Option, None, Some, IfSome, Result, Ok, Err}
 use Rattle.refusal.specs.declared.place.Stop.{Stop}
 use Rattle.refusal.specs.declared.place.Stop.TheVariants as stop
+use Rattle.command_model.specs.Answer.{Answer, in_file, no_such_file, refused}
 use Rattle.pgo_run.specs.declared.halt.Halt.{Halt}
 use Rattle.pgo_run.specs.declared.halt.Halt.TheVariants as halt
 use Rattle.pgo_run.specs.declared.status.Status.{Status}
 use Rattle.pgo_run.specs.declared.status.Status.TheVariants.{NoSuchFile, Refused, ReadFault, NoMemory}
 
--- A refusal of the parts as the program's.
-abbrev pub halt_of_stop : Stop → Halt
-halt_of_stop (stop.Refused place) = halt.Refused place
-halt_of_stop stop.NoMemory = halt.NoMemory
+-- What stopped the judge of the k-th file.
+abbrev pub halt_of_stop : ℕ → Stop → Halt
+halt_of_stop k (stop.Refused place) = halt.Refused (in_file k place)
+halt_of_stop k stop.NoMemory = halt.NoMemory
 
 -- The status that tells it.
 abbrev pub status_of : Halt → Status
@@ -17,3 +19,19 @@ status_of (halt.NoSuchFile k) = NoSuchFile k
 status_of (halt.Refused place) = Refused place
 status_of (halt.ReadFault k) = ReadFault k
 status_of halt.NoMemory = NoMemory
+
+-- The answer that it gives, where the files are what ends the command, and not a fault or want of memory.
+abbrev pub answer_in : Halt → Option Answer
+answer_in (halt.NoSuchFile k) = Some (no_such_file k)
+answer_in (halt.Refused place) = Some (refused place)
+answer_in (halt.ReadFault k) = None
+answer_in halt.NoMemory = None
+
+-- What holds of the answer, where there is one.
+abbrev pub IfAnswers : Halt → (Answer → Type 0) → Type 0
+IfAnswers halt P = IfSome (answer_in halt) P
+
+-- What judging the k-th file gives.
+abbrev pub judged_in : {T : Type 0} → ℕ → Result T Stop → Result T Halt
+judged_in k (Ok x) = Ok x
+judged_in k (Err stop) = Err (halt_of_stop k stop)

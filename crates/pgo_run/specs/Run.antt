@@ -1,6 +1,8 @@
 -- What a status says of the words, the files and the output.
 use Rattle.std.specs.Prelude.{◌≡◌, ◌⊎◌, ℕ, ⊤, List}
 use Rattle.command_model.specs.Answer.{Answer, writes}
+use Rattle.command_model.specs.Command.{Command}
+use Rattle.command_model.specs.Files.{IsOutput}
 use Rattle.pgo_run.specs.declared.status.Status.{Status}
 use Rattle.pgo_run.specs.declared.status.Status.TheVariants.{Done, ReadFault, WriteFault, NoMemory}
 
@@ -15,9 +17,10 @@ IsCutShort _ = ⊥
 abbrev pub ComesExactly : Status → Status → Type 0 → Type 0
 ComesExactly result status cause = (result ≡ status → cause) × (cause → (result ≡ status) ⊎ IsCutShort result)
 
--- The answer has an output, and it was written in this way.
+-- The answer is that an output is written, and one was, in this way.
 abbrev pub HasWritten : Answer → (List ℕ → Type 0) → Type 0
-HasWritten answer Written = (text : List ℕ) × (answer ≡ writes text) × Written text
+HasWritten answer Written = (command : Command) × (contents : List (List ℕ)) × (text : List ℕ)
+    × (answer ≡ writes command contents) × IsOutput command contents text × Written text
 
 -- No output was begun.
 abbrev pub IsWithoutOutput : Status → Type 0

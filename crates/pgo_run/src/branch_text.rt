@@ -6,7 +6,7 @@ ghost use Rattle.sample_model.specs.Moves.{LoadMap};
 ghost use Rattle.pgo_run.specs.BranchText.{FeedsText, JudgesText};
 ghost use Rattle.pgo_run.specs.Output.{HasFileCause};
 
-use crate::halt::Halt;
+use crate::halt::{Halt, in_file};
 use branch_stacks::{Counts, Reader};
 use io_edge::Inputs;
 
@@ -35,7 +35,7 @@ pub(crate) fn count_text<I: Inputs>(
     ensures cause { HasFileCause k (I.faults inputs.old) (I.faults inputs.new) result }
 {
     feed_all(inputs, k, &mut reader, counts)?;
-    reader.finish(counts)?;
+    in_file(k, reader.finish(counts))?;
     Ok(())
 }
 
@@ -63,6 +63,6 @@ fn feed_all<I: Inputs>(
         if n == 0 {
             return Ok(());
         }
-        reader.feed(&piece[..n], counts)?;
+        in_file(k, reader.feed(&piece[..n], counts))?;
     }
 }

@@ -1,10 +1,7 @@
 // `counts`: the branches of a branch text, each with how often it was taken.
-ghost use Rattle.std.specs.Prelude.{◌≡◌, IfSome};
-ghost use Rattle.io_edge.specs.Faults.{HasCauseWhere};
-ghost use Rattle.command_model.specs.Answer.{answer_of_command};
+ghost use Rattle.std.specs.Prelude.{◌≡◌};
 ghost use Rattle.command_model.specs.Command.{counts as counts_command};
-ghost use Rattle.pgo_run.specs.Opens.{HasOpened};
-ghost use Rattle.pgo_run.specs.Output.{AreGoodBefore, IfReadFault, Makes, tells_read_fault};
+ghost use Rattle.pgo_run.specs.Output.{Carries};
 
 use crate::branch_text::count_text;
 use crate::halt::Halt;
@@ -19,15 +16,9 @@ use std::alloc::Global;
 /// # Errors
 /// Those of reading file 1, and the first bad place of the text.
 pub(crate) fn output<I: Inputs>(alloc: Global, perf: &[u8], inputs: &mut I) -> Result<Vec<u8>, Halt>
-    ensures makes { IfSome (I.store inputs.old)
-        (λ files. Makes (answer_of_command files (counts_command perf.now)) result) }
+    ensures carried { Carries (counts_command perf.now) (I.store inputs.old) result
+        (I.opens inputs.old) (I.opens inputs.new) (I.faults inputs.old) (I.faults inputs.new) }
     ensures store { I.store inputs.new ≡ I.store inputs.old }
-    ensures cause { HasCauseWhere tells_read_fault
-        (I.faults inputs.old) (I.faults inputs.new) result }
-    ensures opened { HasOpened (counts_command perf.now) result
-        (I.opens inputs.old) (I.opens inputs.new) }
-    ensures good_before { IfSome (I.store inputs.old) (λ files. IfReadFault result
-        (AreGoodBefore files (counts_command perf.now))) }
 {
     open_file(inputs, 1, perf)?;
     let reader = Reader::new(alloc, 1)?;

@@ -1,5 +1,5 @@
 ghost use Rattle.std.specs.Prelude.{◌≡◌};
-ghost use Rattle.pgo_run.specs.Halt.{halt_of_stop, status_of};
+ghost use Rattle.pgo_run.specs.Halt.{judged_in, status_of};
 ghost use Rattle.pgo_run.specs.declared.halt.Halt.TheVariants.{NoMemory as no_memory};
 
 use crate::status::Status;
@@ -16,17 +16,6 @@ pub(crate) enum Halt {
     ReadFault(u8),
     /// Memory was refused.
     NoMemory,
-}
-
-impl From<Stop> for Halt {
-    ghost from_gives = { λ stop halt. halt ≡ halt_of_stop stop };
-
-    fn from(stop: Stop) -> Self {
-        match stop {
-            Stop::Refused(place) => Halt::Refused(place),
-            Stop::NoMemory => Halt::NoMemory,
-        }
-    }
 }
 
 impl From<NoMemory> for Halt {
@@ -47,5 +36,16 @@ impl From<Halt> for Status {
             Halt::ReadFault(file) => Status::ReadFault(file),
             Halt::NoMemory => Status::NoMemory,
         }
+    }
+}
+
+/// What judging the k-th file came to: a bad place is one of that file.
+pub(crate) fn in_file<T>(k: u8, judged: Result<T, Stop>) -> Result<T, Halt>
+    ensures { result ≡ judged_in k judged }
+{
+    match judged {
+        Ok(value) => Ok(value),
+        Err(Stop::Refused(place)) => Err(Halt::Refused(Place { file: k, ..place })),
+        Err(Stop::NoMemory) => Err(Halt::NoMemory),
     }
 }

@@ -10,6 +10,7 @@ mod halt;
 mod order;
 mod profile;
 mod program;
+mod samples;
 mod status;
 mod where_;
 

@@ -1,13 +1,14 @@
 ghost use Rattle.std.specs.Prelude.{◌≡◌, ◌⊎◌, ◌↔◌, ℕ, List, true, false, None, IfSome, IsSomeAnd};
 ghost use Rattle.std.specs.Io.KnownBytes.{Appends};
-ghost use Rattle.io_edge.specs.Faults.{HasCauseWhere, Rises};
+ghost use Rattle.io_edge.specs.Faults.{Rises};
 ghost use Rattle.io_edge.specs.Sink.{AppendsPrefix};
 ghost use Rattle.refusal.specs.declared.place.Place.{Place};
-ghost use Rattle.command_model.specs.Answer.{answer_of, answer_of_command, fails_check, no_such_file, refused, writes};
-ghost use Rattle.command_model.specs.Command.{command_of};
+ghost use Rattle.command_model.specs.Answer.{answer_of, fails_check, no_such_file, refused, writes};
+ghost use Rattle.command_model.specs.Command.{Command as TheCommand, command_of};
+ghost use Rattle.command_model.specs.Good.{AreGoodBefore};
 ghost use Rattle.pgo_run.specs.Run.{ComesExactly, HasWritten, IsWithoutFault, IsWithoutOutput};
-ghost use Rattle.pgo_run.specs.Opens.{AgreesWithOpens, HasOpened, Reaches};
-ghost use Rattle.pgo_run.specs.Output.{AreGoodBefore, IfReadFault, Makes, tells_read_fault};
+ghost use Rattle.pgo_run.specs.Opens.{AgreesWithOpens, Reaches};
+ghost use Rattle.pgo_run.specs.Output.{Carries};
 ghost use Rattle.command_words.specs.Words.{meaning_of, texts_of};
 
 use crate::halt::Halt;
@@ -50,8 +51,9 @@ pub fn run<I: Inputs, O: Sink>(
         HasWritten (answer_of files (texts_of words.now))
         (Appends (O.written out.old) (O.written out.new))) }
     ensures finished { result ≡ Status.Done → O.finished out.new ≡ true }
-    ensures complete { IfSome (I.store inputs.old) (λ files. (text : List ℕ) →
-        answer_of files (texts_of words.now) ≡ writes text →
+    ensures complete { IfSome (I.store inputs.old) (λ files.
+        (command : TheCommand) (contents : List (List ℕ)) →
+        answer_of files (texts_of words.now) ≡ writes command contents →
         ¬ Rises (I.faults inputs.old) (I.faults inputs.new) →
         ¬ Rises (O.faults out.old) (O.faults out.new) →
         (result ≡ Status.Done) ⊎ (result ≡ Status.NoMemory)) }
@@ -95,27 +97,21 @@ pub fn run<I: Inputs, O: Sink>(
 
 /// What a command writes.
 fn output<I: Inputs>(alloc: Global, command: Command<'_>, inputs: &mut I) -> Result<Vec<u8>, Halt>
-    ensures makes { IfSome (I.store inputs.old)
-        (λ files. Makes (answer_of_command files (meaning_of command.entry)) result) }
+    ensures carried { Carries (meaning_of command.entry) (I.store inputs.old) result
+        (I.opens inputs.old) (I.opens inputs.new) (I.faults inputs.old) (I.faults inputs.new) }
     ensures store { I.store inputs.new ≡ I.store inputs.old }
-    ensures cause { HasCauseWhere tells_read_fault
-        (I.faults inputs.old) (I.faults inputs.new) result }
-    ensures opened { HasOpened (meaning_of command.entry) result
-        (I.opens inputs.old) (I.opens inputs.new) }
-    ensures good_before { IfSome (I.store inputs.old) (λ files. IfReadFault result
-        (AreGoodBefore files (meaning_of command.entry))) }
 {
     match command {
         Command::Counts(perf) => counts::output(alloc, perf, inputs),
         Command::Where {
-            base,
+            options,
             binary,
             address,
-        } => where_::output(alloc, base, binary, address, inputs),
+        } => where_::output(alloc, options, binary, address, inputs),
         Command::Profile {
-            sampling,
+            options,
             binary,
             perf,
-        } => profile::output(alloc, sampling, binary, perf, inputs),
+        } => profile::output(alloc, options, binary, perf, inputs),
     }
 }

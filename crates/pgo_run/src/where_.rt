@@ -1,19 +1,18 @@
 // `where`: the place of an address of a binary.
-ghost use Rattle.std.specs.Prelude.{◌≡◌, ◌≤◌, length, IfSome};
-ghost use Rattle.io_edge.specs.Faults.{HasCauseWhere};
+ghost use Rattle.std.specs.Prelude.{◌≡◌, ◌≤◌, length};
 ghost use Rattle.refusal.specs.Place.{JudgesUnlessNoMemory};
 ghost use Rattle.binary_model.specs.Binary.{first_bad_of_binary, max_binary_bytes};
 ghost use Rattle.binary_model.specs.Places.{place_of_address};
-ghost use Rattle.command_model.specs.Answer.{answer_of_command};
 ghost use Rattle.command_model.specs.Command.{where_ as where_command};
 ghost use Rattle.command_model.specs.Where.{where_text};
-ghost use Rattle.pgo_run.specs.Opens.{HasOpened};
-ghost use Rattle.pgo_run.specs.Output.{AreGoodBefore, IfReadFault, Makes, tells_read_fault};
+ghost use Rattle.command_words.specs.Words.{told_options};
+ghost use Rattle.pgo_run.specs.Output.{Carries};
 
-use crate::halt::Halt;
+use crate::halt::{Halt, in_file};
 use crate::order::{MAX_BINARY, read_file};
 use answer_text::place_line;
 use binary_places::read;
+use command_words::Options;
 use io_edge::Inputs;
 use key_types::Places;
 use refusal::Stop;
@@ -25,23 +24,18 @@ use std::alloc::Global;
 /// Those of reading file 1, and the first bad place of the binary.
 pub(crate) fn output<I: Inputs>(
     alloc: Global,
-    base: bool,
+    options: Options<'_>,
     binary: &[u8],
     address: u64,
     inputs: &mut I,
 ) -> Result<Vec<u8>, Halt>
-    ensures makes { IfSome (I.store inputs.old) (λ files.
-        Makes (answer_of_command files (where_command base binary.now address)) result) }
+    ensures carried { Carries (where_command (told_options options.entry) binary.now address) (I.store inputs.old) result
+        (I.opens inputs.old) (I.opens inputs.new) (I.faults inputs.old) (I.faults inputs.new) }
     ensures store { I.store inputs.new ≡ I.store inputs.old }
-    ensures cause { HasCauseWhere tells_read_fault
-        (I.faults inputs.old) (I.faults inputs.new) result }
-    ensures opened { HasOpened (where_command base binary.now address) result
-        (I.opens inputs.old) (I.opens inputs.new) }
-    ensures good_before { IfSome (I.store inputs.old) (λ files. IfReadFault result
-        (AreGoodBefore files (where_command base binary.now address))) }
 {
     let file = read_file(alloc, inputs, 1, binary, MAX_BINARY)?;
-    Ok(line_of(alloc, &file, base, address)?)
+    let line = in_file(1, line_of(alloc, &file, options.base, address))?;
+    Ok(line)
 }
 
 /// The line of an address of a binary.

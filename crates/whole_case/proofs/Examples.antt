@@ -6,7 +6,9 @@ use Rattle.refusal.specs.declared.kind.Kind.TheVariants.{BadHeader, BadLine}
 use Rattle.io_edge.specs.Inputs.{Store}
 use Rattle.sampled_profile.specs.Output.{loading_of, output_text, sampled_by}
 use Rattle.command_model.specs.Answer.{Answer, answer_of, no_such_file, refused, usage, writes}
-use Rattle.command_model.specs.Command.{address_of as address_asked, command_of, map_name, sampling_of}
+use Rattle.command_model.specs.Command.{address_of as address_asked, command_of}
+use Rattle.command_model.specs.Files.{IsOutput}
+use Rattle.command_model.specs.Options.{map_name, options_of}
 use Rattle.command_model.specs.Counts.{counts_text}
 use Rattle.std.specs.Fmt.{digits}
 use Rattle.std.specs.List.{range_with_len}
@@ -142,19 +144,24 @@ files name =
 answer : List ℕ → List (List ℕ) → List ℕ → List ℕ → Answer
 answer name options first second = answer_of files (name ∷ (options ++ first ∷ second ∷ []))
 
+-- The answer is that this may be written.
+Writes : Answer → List ℕ → Type 0
+Writes (writes command contents) text = IsOutput command contents text
+Writes other text = ⊥
+
 -- From words to what is written, or why nothing is.
-answers : (answer (codes "where") [] (codes "b") (codes "401010") ≡ writes (codes "f0000 2.1 g 1\n"))
-    × (answer (codes "where") [] (codes "b") (codes "0x401020") ≡ writes (codes "f0000 2.2\n"))
-    × (answer (codes "where") (codes "--base" ∷ []) (codes "b") (codes "401014") ≡ writes (codes "f0000 2 g 1\n"))
-    × (answer (codes "where") [] (codes "b") (codes "401040") ≡ writes (codes "outside\n"))
+answers : Writes (answer (codes "where") [] (codes "b") (codes "401010")) (codes "f0000 2.1 g 1\n")
+    × Writes (answer (codes "where") [] (codes "b") (codes "0x401020")) (codes "f0000 2.2\n")
+    × Writes (answer (codes "where") (codes "--base" ∷ []) (codes "b") (codes "401014")) (codes "f0000 2 g 1\n")
+    × Writes (answer (codes "where") [] (codes "b") (codes "401040")) (codes "outside\n")
     × (answer (codes "where") [] (codes "b") (codes "-1") ≡ usage)
     × (answer (codes "profile") [] (codes "cut") (codes "p") ≡ refused (record { file = 1; at = 40; kind = BadHeader }))
     × (answer (codes "profile") [] (codes "b") (codes "b") ≡ refused (record { file = 2; at = 1; kind = BadLine }))
     × (answer (codes "profile") [] (codes "b") (codes "q") ≡ no_such_file 2)
-    × (answer_of files (codes "counts" ∷ codes "p" ∷ [])
-    ≡ writes (codes "0x401004 0x401010 1\n0x40100c 0x401020 1\n0x401034 0x401000 1\n0x401038 0x401036 2\n# branches 5\n"))
-    × (answer (codes "profile") [] (codes "b") (codes "p") ≡ writes (output_text (program_of (binary 1) false) sampled))
-unfolding answer files sampled digits address_asked command_of counts_text map_name sampling_of place_of_address place_among abstract_kind binary count_fields debug_abbrev debug_info debug_line e_ident empty_header extended file_header for_each_function front function_entry function_kind header_fields inlined_kind name program_fields program_header section_header section_headers sequence u16_bytes u32_bytes u64_bytes unit_kind abbrev_behind abbrev_of abbrevs_at meant_address address_size attrs bad_range base_address bases_of_unit children_byte code_at code_loads coded_entry_at entries unit_entry_of entry_of_code extended_at field field_at find_code first_bad_of_binary header header_4 header_5 header_5_behind header_at implicit is_live items lengths_at lookup_item members members_read next_abbrev next_attr next_call next_unit_entry next_tree_entry next_function next_on_way next_unit_read next_tree_unit next_value number_at opcodes_at operand_of operation_at operations_at origin pair_entry_at pieces program_at ranges_of root_of rows_at rows_in rows_of_unit rows_of_units rows_read run_at section section_at sized sizes_at sleb sleb_at spelled_ranges table text_at text_of uleb uleb_at ulebs_at unit_at unit_body unit_length units units_read value value_at values version_at wanted way branch branch_text often_sample once_sample samples_of entry_address behind_at branches_of_line cause_of_line ended_lines_of spelled_entry extent_of fields_of hex_text is_ip is_sample is_well_formed items_of_lines judged_lines_of text_lines load_line_of move_of moved_ranges name_in number_of offset_of prefixed_of ranges_between profile_lines report_text split text_of_lines
+    × Writes (answer_of files (codes "counts" ∷ codes "p" ∷ []))
+    (codes "0x401004 0x401010 1\n0x40100c 0x401020 1\n0x401034 0x401000 1\n0x401038 0x401036 2\n# branches 5\n")
+    × Writes (answer (codes "profile") [] (codes "b") (codes "p")) (output_text (program_of (binary 1) false) sampled)
+unfolding Writes answer files sampled digits address_asked command_of counts_text map_name options_of place_of_address place_among abstract_kind binary count_fields debug_abbrev debug_info debug_line e_ident empty_header extended file_header for_each_function front function_entry function_kind header_fields inlined_kind name program_fields program_header section_header section_headers sequence u16_bytes u32_bytes u64_bytes unit_kind abbrev_behind abbrev_of abbrevs_at meant_address address_size attrs bad_range base_address bases_of_unit children_byte code_at code_loads coded_entry_at entries unit_entry_of entry_of_code extended_at field field_at find_code first_bad_of_binary header header_4 header_5 header_5_behind header_at implicit is_live items lengths_at lookup_item members members_read next_abbrev next_attr next_call next_unit_entry next_tree_entry next_function next_on_way next_unit_read next_tree_unit next_value number_at opcodes_at operand_of operation_at operations_at origin pair_entry_at pieces program_at ranges_of root_of rows_at rows_in rows_of_unit rows_of_units rows_read run_at section section_at sized sizes_at sleb sleb_at spelled_ranges table text_at text_of uleb uleb_at ulebs_at unit_at unit_body unit_length units units_read value value_at values version_at wanted way branch branch_text often_sample once_sample samples_of entry_address behind_at branches_of_line cause_of_line ended_lines_of spelled_entry extent_of fields_of hex_text is_ip is_sample is_well_formed items_of_lines judged_lines_of text_lines load_line_of move_of moved_ranges name_in number_of offset_of prefixed_of ranges_between profile_lines report_text split text_of_lines
 answers = (refl, refl, refl, refl, refl, refl, refl, refl, refl, refl)
 
 -- That program is what functions and rows tell of each address.

@@ -1,0 +1,60 @@
+-- The options of a command.
+use Rattle.std.specs.Prelude.{ℕ, ◌+◌, Bool, ◌&&◌, ◌||◌, nat_lt, nat_eq, List, [], ◌∷◌, take, drop, length, count_by, codes, Option, None, Some, is_some, slice_get, if◌then◌else◌}
+use Rattle.std.specs.List.{filter_map, list_all, starts_with}
+use Rattle.std.specs.Str.{bytes_eq}
+
+-- A word that begins with `--`, in front of the other words of a command, is an option.
+abbrev pub is_option : List ℕ → Bool
+is_option word = starts_with nat_eq word (codes "--")
+
+abbrev pub option_count : List (List ℕ) → ℕ
+option_count [] = 0
+option_count (word ∷ words) = if is_option word then 1 + option_count words else 0
+
+abbrev pub options_in : List (List ℕ) → List (List ℕ)
+options_in words = take (option_count words) words
+
+-- What stands behind the options.
+abbrev pub operands_of : List (List ℕ) → List (List ℕ)
+operands_of words = drop (option_count words) words
+
+-- What the options of a command say. A command without one of them is carried out as where it is not given.
+pub record Options : Type 0 where
+  -- `--map=NAME`: the name of the binary in load lines, by which addresses are moved.
+  pub map : Option (List ℕ)
+  -- `--base`: bases stand in place of discriminators.
+  pub base : Bool
+
+-- Which options a command has.
+pub record Has : Type 0 where
+  pub map : Bool
+  pub base : Bool
+
+-- The name in an option `--map=NAME`, which is not empty.
+unfoldable pub map_name : List ℕ → Option (List ℕ)
+map_name word = if starts_with nat_eq word (codes "--map=") && nat_lt 6 (length word) then Some (drop 6 word) else None
+
+abbrev pub is_map : List ℕ → Bool
+is_map word = is_some (map_name word)
+
+abbrev pub is_base : List ℕ → Bool
+is_base word = bytes_eq word (codes "--base")
+
+-- The word is an option that the command has.
+abbrev pub is_of : Has → List ℕ → Bool
+is_of has word = (has.map && is_map word) || (has.base && is_base word)
+
+-- Each word is an option that the command has, and none stands twice.
+abbrev pub are_of : Has → List (List ℕ) → Bool
+are_of has words = list_all (is_of has) words && (nat_lt (count_by is_map words) 2 && nat_lt (count_by is_base words) 2)
+
+-- The name in the first of these words that has one.
+abbrev pub first_map : List (List ℕ) → Option (List ℕ)
+first_map words = slice_get (filter_map map_name words) 0
+
+-- What these words say, in any order.
+unfoldable pub options_of : Has → List (List ℕ) → Option Options
+options_of has words =
+    if are_of has words
+    then Some (record { map = first_map words; base = nat_lt 0 (count_by is_base words) })
+    else None

@@ -1,4 +1,5 @@
 mod Examples
 pub mod DecimalLemmas
+pub mod Growth
 pub mod ReadLemmas
 pub mod WriteLemmas

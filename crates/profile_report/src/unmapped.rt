@@ -40,7 +40,8 @@ fn push_unmapped_for(
     branches: &[Classed<Class>],
     reason: Reason,
 ) -> Result<(), NoMemory>
-    ensures appended { OnOk result (out.new.items ≡ out.old.items ++ lines_for branches.now reason) }
+    ensures appended { OnOk result
+        (out.new.items ≡ out.old.items ++ lines_for branches.now reason) }
     ensures grows { OnErr result (StartsWith out.new.items out.old.items) }
 {
     for Classed { row, class } in branches {

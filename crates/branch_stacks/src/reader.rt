@@ -95,8 +95,8 @@ impl Reader {
 
     /// A reader of the command's file `file` that moves addresses. The program's file has this name
     /// in load lines, and `segments` are its segments of code in the order of their headers. What
-    /// grows later are the counts, the loads that the text tells of with the spans made of them, and
-    /// the two lists that the branches of one sample and the ranges between them are moved into.
+    /// grows later are the counts, the loads that the text tells of with the spans made of them,
+    /// and the two lists that one sample's branches and the ranges between them are moved into.
     ///
     /// # Errors
     /// `NoMemory`.

@@ -1,5 +1,5 @@
 // One of the three files.
-ghost use Rattle.std.specs.Prelude.{◌≡◌, ◌++◌, ◌<◌, ◌≤◌, ◌↔◌, Err, OnOk};
+ghost use Rattle.std.specs.Prelude.{◌≡◌, ◌++◌, ◌<◌, ◌≤◌, ◌↔◌, Err, IfOk, OnErr, OnOk};
 ghost use Rattle.case_maker.specs.Case.{case_file};
 ghost use Rattle.case_maker.specs.declared.case.CaseStop.TheVariants.{NoMemory as no_memory};
 
@@ -8,6 +8,7 @@ use crate::elf::push_binary;
 use crate::function::MAX_FUNCTIONS;
 use crate::samples::push_samples;
 use refusal::NoMemory;
+use std::alloc::Global;
 use thiserror::Error;
 
 /// The files of a case.
@@ -43,20 +44,39 @@ impl From<NoMemory> for CaseStop {
 /// Appends one of the files of a program of `n` functions.
 ///
 /// # Errors
-/// `TooLargeCase`, exactly where `n` is above 4,096, and `out` is as it was; `NoMemory`, and `out`
-/// may have grown.
+/// `TooLargeCase`, exactly where `n` is above 4,096, or `NoMemory`; `out` is then as it was.
 pub fn make(n: u64, which: CasePart, out: &mut Vec<u8>) -> Result<(), CaseStop>
     ensures made { OnOk result (out.new.items ≡ out.old.items ++ case_file which n) }
     ensures too_large { (result ≡ Err CaseStop.TooLargeCase) ↔ (4096 < n) }
-    ensures unchanged { result ≡ Err CaseStop.TooLargeCase → out.new.items ≡ out.old.items }
+    ensures unchanged { OnErr result (out.new.items ≡ out.old.items) }
 {
     if n > MAX_FUNCTIONS {
         return Err(CaseStop::TooLargeCase);
     }
+    let file = file_of(*out.allocator(), n, which)?;
+    push(out, &file)?;
+    Ok(())
+}
+
+/// One of the files of a program of `n` functions, by itself, so that none is appended in part.
+fn file_of(alloc: Global, n: u64, which: CasePart) -> Result<Vec<u8>, NoMemory>
+    requires { n ≤ MAX_FUNCTIONS }
+    ensures { IfOk result (λ file. file.items ≡ case_file which n) }
+{
+    let mut file = Vec::new(alloc);
     match which {
-        CasePart::Bin => push_binary(out, n)?,
-        CasePart::Perf => push_samples(out, n)?,
-        CasePart::Cfg => push_blocks(out, n)?,
+        CasePart::Bin => push_binary(&mut file, n)?,
+        CasePart::Perf => push_samples(&mut file, n)?,
+        CasePart::Cfg => push_blocks(&mut file, n)?,
     }
+    Ok(file)
+}
+
+/// Appends bytes.
+fn push(out: &mut Vec<u8>, bytes: &[u8]) -> Result<(), NoMemory>
+    ensures appended { OnOk result (out.new.items ≡ out.old.items ++ bytes.now) }
+    ensures unchanged { OnErr result (out.new.items ≡ out.old.items) }
+{
+    out.extend_from_slice(bytes)?;
     Ok(())
 }

@@ -1,5 +1,5 @@
 // The units, one behind the other.
-ghost use Rattle.std.specs.Prelude.{◌≡◌, ◌+◌, ◌-◌, ◌<◌, ◌≤◌, ◌^◌, length, OnOk};
+ghost use Rattle.std.specs.Prelude.{◌≡◌, ◌+◌, ◌-◌, ◌<◌, ◌≤◌, ◌^◌, length, IfOk, OnOk};
 ghost use Rattle.std.specs.Result.{result_err};
 ghost use Rattle.refusal.specs.Place.{JudgesUnlessNoMemory};
 ghost use Rattle.entry_model.specs.Order.{AreInOrder};
@@ -88,7 +88,8 @@ fn next_unit<'a>(
     next_entries(alloc, source, &of, unit, all)
 }
 
-/// The functions of a file with the calls inlined into them.
+/// The functions of a file with the calls inlined into them, and their names: at most one for each
+/// entry.
 ///
 /// # Errors
 /// The first bad place, unit by unit: that of the root's base address; then of each function and
@@ -97,9 +98,11 @@ fn next_unit<'a>(
 ///
 /// Source: DWARF 5, sections 2.17, 3.3.1 and 3.3.8.
 pub fn make<'a>(alloc: Global, source: &Source<'a, '_>) -> Result<InlineTree<'a>, Stop>
-    ensures { let told = members_told (source_of source.now) in
+    ensures judged { let told = members_told (source_of source.now) in
         JudgesUnlessNoMemory (result_err told) result
         (λ made. IsMadeOf made.names told made.members.items) }
+    ensures few_names { IfOk result
+        (λ made. length made.names ≤ length source.now.units.now.entries) }
 {
     let mut all = Collected::new(alloc)?;
     let units = source.units.units();

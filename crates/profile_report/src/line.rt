@@ -1,5 +1,6 @@
 // One line of the report.
-ghost use Rattle.std.specs.Prelude.{◌≡◌, ◌++◌, OnOk};
+ghost use Rattle.std.specs.Prelude.{◌≡◌, ◌++◌, OnErr, OnOk};
+ghost use Rattle.std.specs.Io.{StartsWith};
 ghost use Rattle.branch_counts.specs.Table.{pair_of};
 ghost use Rattle.report_model.specs.Report.{number_line, unmapped_line, word_of};
 
@@ -10,7 +11,8 @@ use text_scan::{push_hex, push_number};
 
 /// Appends a line that tells how many there are of something.
 pub(crate) fn push_number_line(out: &mut Vec<u8>, what: &[u8], n: u64) -> Result<(), NoMemory>
-    ensures { OnOk result (out.new.items ≡ out.old.items ++ number_line what.now n) }
+    ensures appended { OnOk result (out.new.items ≡ out.old.items ++ number_line what.now n) }
+    ensures grows { OnErr result (StartsWith out.new.items out.old.items) }
 {
     out.extend_from_slice(b"# ")?;
     out.extend_from_slice(what)?;
@@ -26,8 +28,9 @@ pub(crate) fn push_unmapped_line(
     reason: Reason,
     branch: &Pair,
 ) -> Result<(), NoMemory>
-    ensures { OnOk result (out.new.items
+    ensures appended { OnOk result (out.new.items
         ≡ out.old.items ++ unmapped_line reason (pair_of branch.now) branch.now.times) }
+    ensures grows { OnErr result (StartsWith out.new.items out.old.items) }
 {
     out.extend_from_slice(b"# unmapped ")?;
     out.extend_from_slice(word_of(reason))?;

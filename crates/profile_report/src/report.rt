@@ -1,5 +1,6 @@
 // The whole report.
 ghost use Rattle.std.specs.Prelude.{◌≡◌, ◌++◌, ◌≤◌, List, OnOk};
+ghost use Rattle.std.specs.Io.{StartsWith};
 ghost use Rattle.sample_model.specs.Limits.{max_branches};
 ghost use Rattle.report_model.specs.Report.{Classes, Sampled, branches_text, ranges_text, report_text, units_text};
 ghost use Rattle.profile_report.specs.Classed.{all_times};
@@ -25,7 +26,7 @@ pub struct Units {
 /// in any order, each with its class.
 ///
 /// # Errors
-/// `NoMemory`.
+/// `NoMemory`, and `out` may have grown: what it held stands at its front.
 pub fn write(
     out: &mut Vec<u8>,
     branches: &[Classed<Class>],
@@ -34,9 +35,10 @@ pub fn write(
 ) -> Result<(), NoMemory>
     requires few_branches { all_times branches.now ≤ max_branches }
     requires few_ranges { all_times ranges.now ≤ max_branches }
-    ensures { OnOk result ((classes : Classes) (sampled : Sampled)
+    ensures appended { OnOk result ((classes : Classes) (sampled : Sampled)
         → Tells classes sampled branches.now ranges.now units
         → out.new.items ≡ out.old.items ++ report_text classes sampled) }
+    ensures grows { StartsWith out.new.items out.old.items }
 {
     push_branches(out, branches)?;
     push_ranges(out, ranges)?;
@@ -44,12 +46,14 @@ pub fn write(
 }
 
 /// Appends what became of the branches.
+#[tactic(auto, using(text_scan::proofs::Growth::still_in_front))]
 fn push_branches(out: &mut Vec<u8>, branches: &[Classed<Class>]) -> Result<(), NoMemory>
     requires { all_times branches.now ≤ max_branches }
-    ensures { OnOk result ((classes : Classes) (sampled : Sampled)
+    ensures appended { OnOk result ((classes : Classes) (sampled : Sampled)
         (ranges : List (Classed RangeClass)) (units : Units)
         → Tells classes sampled branches.now ranges units
         → out.new.items ≡ out.old.items ++ branches_text classes sampled) }
+    ensures grows { StartsWith out.new.items out.old.items }
 {
     let taken = count_taken(branches);
     push_number_line(out, b"branches", taken.all)?;
@@ -59,12 +63,14 @@ fn push_branches(out: &mut Vec<u8>, branches: &[Classed<Class>]) -> Result<(), N
 }
 
 /// Appends what became of the ranges.
+#[tactic(auto, using(text_scan::proofs::Growth::still_in_front))]
 fn push_ranges(out: &mut Vec<u8>, ranges: &[Classed<RangeClass>]) -> Result<(), NoMemory>
     requires { all_times ranges.now ≤ max_branches }
-    ensures { OnOk result ((classes : Classes) (sampled : Sampled)
+    ensures appended { OnOk result ((classes : Classes) (sampled : Sampled)
         (branches : List (Classed Class)) (units : Units)
         → Tells classes sampled branches ranges.now units
         → out.new.items ≡ out.old.items ++ ranges_text classes sampled) }
+    ensures grows { StartsWith out.new.items out.old.items }
 {
     let times = count_ranges(ranges);
     push_number_line(out, b"ranges ran", times.ran)?;
@@ -75,10 +81,11 @@ fn push_ranges(out: &mut Vec<u8>, ranges: &[Classed<RangeClass>]) -> Result<(), 
 
 /// Appends what became of the units of the binary.
 fn push_units(out: &mut Vec<u8>, units: Units) -> Result<(), NoMemory>
-    ensures { OnOk result ((classes : Classes) (sampled : Sampled)
+    ensures appended { OnOk result ((classes : Classes) (sampled : Sampled)
         (branches : List (Classed Class)) (ranges : List (Classed RangeClass))
         → Tells classes sampled branches ranges units
         → out.new.items ≡ out.old.items ++ units_text sampled) }
+    ensures grows { StartsWith out.new.items out.old.items }
 {
     out.extend_from_slice(b"# units read ")?;
     push_number(out, u128::from(units.read))?;

@@ -1,5 +1,6 @@
 // The branches that cannot be told of places, by reason.
-ghost use Rattle.std.specs.Prelude.{◌≡◌, ◌++◌, filter, OnOk};
+ghost use Rattle.std.specs.Prelude.{◌≡◌, ◌++◌, filter, OnErr, OnOk};
+ghost use Rattle.std.specs.Io.{StartsWith};
 ghost use Rattle.std.specs.List.{flat_map};
 ghost use Rattle.class_model.specs.Branches.{is_unmapped};
 ghost use Rattle.report_model.specs.Report.{reasons};
@@ -20,9 +21,11 @@ const REASONS: [Reason; 5] = [
 ];
 
 /// Appends the lines of the unmapped branches, by reason.
+#[tactic(auto, using(text_scan::proofs::Growth::still_in_front))]
 pub(crate) fn push_unmapped(out: &mut Vec<u8>, branches: &[Classed<Class>]) -> Result<(), NoMemory>
-    ensures { OnOk result
+    ensures appended { OnOk result
         (out.new.items ≡ out.old.items ++ flat_map (lines_for branches.now) reasons) }
+    ensures grows { OnErr result (StartsWith out.new.items out.old.items) }
 {
     for reason in REASONS {
         push_unmapped_for(out, branches, reason)?;
@@ -31,12 +34,15 @@ pub(crate) fn push_unmapped(out: &mut Vec<u8>, branches: &[Classed<Class>]) -> R
 }
 
 /// Appends the lines of the branches that are unmapped for one reason.
+#[tactic(auto, using(text_scan::proofs::Growth::still_in_front))]
 fn push_unmapped_for(
     out: &mut Vec<u8>,
     branches: &[Classed<Class>],
     reason: Reason,
 ) -> Result<(), NoMemory>
-    ensures { OnOk result (out.new.items ≡ out.old.items ++ lines_for branches.now reason) }
+    ensures appended { OnOk result
+        (out.new.items ≡ out.old.items ++ lines_for branches.now reason) }
+    ensures grows { OnErr result (StartsWith out.new.items out.old.items) }
 {
     for Classed { row, class } in branches {
         if is_unmapped_for(reason, *class) {

@@ -1,5 +1,6 @@
 mod Examples
 pub mod DecimalLemmas
+pub mod Growth
 pub mod ReadLemmas
 pub mod WideLemmas
 pub mod WriteLemmas

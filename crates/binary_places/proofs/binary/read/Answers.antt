@@ -52,7 +52,7 @@ returns-in_err-tree c =
     (sym (ap refused_at (units_same _ _ same c.in_ok-sections.sections sections.1)) ∙ units.0)
     (sym (ap result_err (rows_same _ _ same c.in_ok-sections.sections sections.1 c.in_ok-units.units units.1)) ∙ c.in_ok-tables.ensures.0)
     ∙ sym (ap result_err (members_same _ _ same _ source)) ∙ is)
-    c.in_err-tree.ensures c.from_residual-in_err-tree.ensures.1
+    c.in_err-tree.ensures.judged c.from_residual-in_err-tree.ensures.1
 
 pub returns-in_err-map : goal.returns-in_err-map
 returns-in_err-map c = lacks _ _ c.from_residual-in_err-map.result c.from_residual-in_err-map.ensures.1
@@ -68,11 +68,11 @@ returns c =
     let good = in_members c.args.file.now c.requires c.in_ok-elf.ensures.0 (sym (found_same _ _ same) ∙ sections.0)
     (sym (ap refused_at (units_same _ _ same c.in_ok-sections.sections sections.1)) ∙ units.0)
     (sym (ap result_err (rows_same _ _ same c.in_ok-sections.sections sections.1 c.in_ok-units.units units.1)) ∙ c.in_ok-tables.ensures.0)
-    ∙ sym (ap result_err (members_same _ _ same _ source)) ∙ c.in_ok-tree.ensures.0 in (
+    ∙ sym (ap result_err (members_same _ _ same _ source)) ∙ c.in_ok-tree.ensures.judged.0 in (
       good,
       record {
         members = c.in_ok-tree.tree.members.items;
-        told = made_told _ _ same _ _ _ source c.in_ok-tree.ensures.1;
+        told = made_told _ _ same _ _ _ source c.in_ok-tree.ensures.judged.1;
         map = subst (λ ts. IsMap (rows_of ts) c.args.base c.in_ok-tree.tree.members.items c.make-2.new.keys c.in_ok-map.map) tables
             (subst (λ ms. IsMap (rows_of c.deref-2.result.now) c.args.base ms c.make-2.new.keys c.in_ok-map.map) c.deref.ensures.value c.in_ok-map.ensures.map);
         used = subst (λ ks. HaveSegments (length ks) c.make-2.new.keys c.in_ok-map.map.segments) c.in_ok-keys.ensures c.in_ok-map.ensures.used;

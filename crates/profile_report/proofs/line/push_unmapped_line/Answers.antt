@@ -4,8 +4,8 @@ use Rattle.report_model.specs.Report.{word_of}
 use Rattle.profile_report.proofs.JoinLemmas.{joined9}
 use Rattle.profile_report.proofs.line.push_unmapped_line.Goals as goal
 
-pub returns : goal.returns
-returns c =
+pub returns-clause-appended : goal.returns-clause-appended
+returns-clause-appended c =
     let branch = c.args.branch.now in
     rw (
       c.in_ok-push-4.ensures.items,

@@ -10,10 +10,11 @@ use Rattle.profile_report.specs.Classed.{lines_for}
 use Rattle.profile_report.specs.Told.{Tells}
 use Rattle.profile_report.proofs.JoinLemmas.{joined4}
 use Rattle.profile_report.proofs.ToldLemmas.{branches_told}
+use Rattle.text_scan.proofs.Growth.{in_front_behind, in_front_either}
 use Rattle.profile_report.proofs.report.push_branches.Goals as goal
 
-pub returns : goal.returns
-returns c =
+pub returns-clause-appended : goal.returns-clause-appended
+returns-clause-appended c =
     let out = c.args.out.now.items in
     let taken = c.count_taken-taken.result in
     let all = number_line (codes "branches") taken.all in
@@ -25,8 +26,13 @@ returns c =
     → c.push_unmapped.new.out.items ≡ out ++ branches_text classes sampled =
     λ last classes sampled ranges units tells.
     last
-    ∙ ap (λ (t : List ℕ). t ++ unmapped) (c.in_ok-push_number_line-3.ensures ∙ ap (λ (t : List ℕ). t ++ inside) (c.in_ok-push_number_line-2.ensures ∙ ap (λ (t : List ℕ). t ++ entries) c.in_ok-push_number_line.ensures))
+    ∙ ap (λ (t : List ℕ). t ++ unmapped) (c.in_ok-push_number_line-3.ensures.appended ∙ ap (λ (t : List ℕ). t ++ inside) (c.in_ok-push_number_line-2.ensures.appended ∙ ap (λ (t : List ℕ). t ++ entries) c.in_ok-push_number_line.ensures.appended))
     ∙ joined4 out all entries inside unmapped
     ∙ ap (λ (t : List ℕ). out ++ t)
     (branches_told classes sampled c.args.branches.now ranges units tells taken.all taken.entries taken.inside c.count_taken-taken.ensures.all c.count_taken-taken.ensures.entries c.count_taken-taken.ensures.inside) in
-    OnOk-map _ _ _ told c.push_unmapped.ensures
+    OnOk-map _ _ _ told c.push_unmapped.ensures.appended
+
+pub returns-clause-grows : goal.returns-clause-grows
+returns-clause-grows c =
+    in_front_behind _ _ _ _ c.in_ok-push_number_line.ensures.appended (in_front_behind _ _ _ _ c.in_ok-push_number_line-2.ensures.appended (in_front_behind _ _ _ _ c.in_ok-push_number_line-3.ensures.appended
+    (in_front_either c.push_unmapped.result _ _ _ c.push_unmapped.ensures.appended c.push_unmapped.ensures.grows)))

@@ -4,8 +4,8 @@ use Rattle.text_model.specs.Numbers.{decimal_text}
 use Rattle.profile_report.proofs.JoinLemmas.{joined5}
 use Rattle.profile_report.proofs.report.push_units.Goals as goal
 
-pub returns : goal.returns
-returns c = λ classes sampled branches ranges tells.
+pub returns-clause-appended : goal.returns-clause-appended
+returns-clause-appended c = λ classes sampled branches ranges tells.
     rw (
       c.in_ok-push.ensures.items,
       c.in_ok-push_number-2.ensures.appended,

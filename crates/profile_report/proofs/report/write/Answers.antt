@@ -5,11 +5,12 @@ use Rattle.class_model.specs.declared.class.RangeClass.{RangeClass}
 use Rattle.report_model.specs.Report.{Classes, Sampled, branches_text, ranges_text, report_text, units_text}
 use Rattle.profile_report.specs.declared.classed.Classed.{Classed}
 use Rattle.profile_report.specs.Told.{Tells}
+use Rattle.text_scan.proofs.Growth.{in_front_of_both}
 use Rattle.profile_report.proofs.report.write.Goals as goal
 
-pub returns : goal.returns
+pub returns-clause-appended : goal.returns-clause-appended
 unfolding report_text
-returns c =
+returns-clause-appended c =
     let out = c.args.out.now.items in
     let branches = c.args.branches.now in
     let ranges = c.args.ranges.now in
@@ -24,7 +25,14 @@ returns c =
     let of_units = units_text sampled in
     last classes sampled branches ranges tells
     ∙ ap (λ (t : List ℕ). t ++ of_units)
-    (c.in_ok-push_ranges.ensures classes sampled branches units tells ∙ ap (λ (t : List ℕ). t ++ of_ranges) (c.in_ok-push_branches.ensures classes sampled ranges units tells))
+    (c.in_ok-push_ranges.ensures.appended classes sampled branches units tells ∙ ap (λ (t : List ℕ). t ++ of_ranges) (c.in_ok-push_branches.ensures.appended classes sampled ranges units tells))
     ∙ append_assoc (out ++ of_branches) of_ranges of_units
     ∙ append_assoc out of_branches (of_ranges ++ of_units) in
-    OnOk-map _ _ _ told c.push_units.ensures
+    OnOk-map _ _ _ told c.push_units.ensures.appended
+
+pub returns-in_err-push_ranges-clause-grows : goal.returns-in_err-push_ranges-clause-grows
+returns-in_err-push_ranges-clause-grows c = in_front_of_both _ _ _ c.in_ok-push_branches.ensures.grows c.in_err-push_ranges.ensures.grows
+
+pub returns-clause-grows : goal.returns-clause-grows
+returns-clause-grows c =
+    in_front_of_both _ _ _ c.in_ok-push_branches.ensures.grows (in_front_of_both _ _ _ c.in_ok-push_ranges.ensures.grows c.push_units.ensures.grows)

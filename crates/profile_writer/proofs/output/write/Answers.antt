@@ -28,6 +28,6 @@ returns g c = λ program sampled shown rows.
     c.deref.result.now (c.deref.ensures.value ∙ c.in_ok-branches.ensures) c.deref-2.result.now (c.deref-2.ensures.value ∙ c.in_ok-ranges.ensures)
     c.each_once-2.ensures c.each_once.ensures c.requires.key_names
     c.in_ok-tree.tree.lines c.in_ok-tree.tree.counts c.in_ok-tree.ensures.lines c.in_ok-tree.ensures.len c.in_ok-tree.ensures.counts c.in_ok-tree.ensures.beyond
-    c.new-out.result.items c.write.new.out.items c.write-2.new.out.items c.new-out.ensures.items c.in_ok-write.ensures
+    c.new-out.result.items c.write.new.out.items c.write-2.new.out.items c.new-out.ensures.items c.in_ok-write.ensures.appended
     c.deref-3.result.now (c.deref-3.ensures.value ∙ c.in_ok-branches.ensures) c.deref-4.result.now (c.deref-4.ensures.value ∙ c.in_ok-ranges.ensures)
-    c.in_ok-write-2.ensures
+    c.in_ok-write-2.ensures.appended

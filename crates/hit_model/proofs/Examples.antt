@@ -27,3 +27,8 @@ step at hits = record { at = at; hits = hits }
 by_steps : map (hits_by (step 10 9 ∷ step 12 13 ∷ step 16 0 ∷ [])) (0 ∷ 9 ∷ 10 ∷ 11 ∷ 12 ∷ 15 ∷ 16 ∷ (2 ^ 64 - 1) ∷ []) ≡ 0 ∷ 0 ∷ 9 ∷ 9 ∷ 13 ∷ 13 ∷ 0 ∷ 0 ∷ []
 unfolding step
 by_steps = refl
+
+-- the last step holds up to the last address
+to_the_end : map (hits_by (step 10 9 ∷ [])) (9 ∷ (2 ^ 64 - 1) ∷ (2 ^ 64) ∷ []) ≡ 0 ∷ 9 ∷ 0 ∷ []
+unfolding step
+to_the_end = refl

@@ -5,7 +5,7 @@ use Rattle.byte_view.specs.Reading.{field_at, text_at, uleb_at}
 use Rattle.value_model.specs.Value.{str_index, addr_index, range_index, offset}
 use Rattle.range_model.specs.Texts.{Bases, Sections, text_of, address_of}
 use Rattle.range_model.specs.Entries.{coded_entry_at, from_base, pair_entry_at, sets_base}
-use Rattle.range_model.specs.Lists.{RangeSections, bad_range, entry_item, ranges_of}
+use Rattle.range_model.specs.Lists.{Listed, RangeSections, bad_in_list, bad_range, entry_item, ranges_of}
 
 abbrev zeros : List ℕ
 zeros = 0 ∷ 0 ∷ 0 ∷ 0 ∷ 0 ∷ 0 ∷ 0 ∷ 0 ∷ []
@@ -148,3 +148,25 @@ most_entries :
     × (entry_item (address_of sections bases) 65536 (record { at = 9; entry = sets_base (addr_index 1) }) ≡ Some (record { file = 1; at = 9; kind = PastSection }))
 unfolding address_of field_at
 most_entries = (refl, refl, refl)
+
+-- a range of no address, by an entry of each form
+no_address : (meant (4 ∷ 0x10 ∷ 0x10 ∷ 0 ∷ []) ≡ []) × (meant (2 ∷ 0 ∷ 0 ∷ 0 ∷ []) ≡ []) × (meant (3 ∷ 0 ∷ 0 ∷ 0 ∷ []) ≡ [])
+unfolding ranges_of address_of coded_entry_at pair_entry_at field_at uleb_at
+no_address = (refl, refl, refl)
+
+-- each entry counts, one that sets the base and an empty range too
+abbrev three_entries : Listed
+three_entries = record {
+  entries = record { at = 5; entry = sets_base (addr_index 0) }
+      ∷ record { at = 7; entry = from_base 2 1 }
+      ∷ record { at = 9; entry = from_base 1 2 }
+      ∷ [];
+  broken = None;
+}
+
+each_entry_counts :
+    (bad_in_list (address_of sections bases) 65533 three_entries ≡ None)
+    × (bad_in_list (address_of sections bases) 65534 three_entries ≡ Some (record { file = 1; at = 9; kind = TooManyRanges }))
+    × (bad_in_list (address_of sections bases) 65535 three_entries ≡ Some (record { file = 1; at = 7; kind = TooManyRanges }))
+unfolding address_of field_at
+each_entry_counts = (refl, refl, refl)

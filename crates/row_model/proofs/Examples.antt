@@ -41,7 +41,7 @@ behind_all : row_among (sequences_of table) 50 ≡ None
 unfolding table
 behind_all = refl
 
-fallen : never_fall (16 ∷ 20 ∷ 19 ∷ []) ≡ false
+fallen : map never_fall ((16 ∷ 20 ∷ 19 ∷ []) ∷ (16 ∷ 16 ∷ []) ∷ (16 ∷ []) ∷ [] ∷ []) ≡ false ∷ true ∷ true ∷ true ∷ []
 fallen = refl
 
 -- a file with one segment of code, from 16 up to 48

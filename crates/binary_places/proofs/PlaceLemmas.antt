@@ -10,7 +10,9 @@ use Rattle.key_types.specs.declared.key.Frame.{Frame}
 use Rattle.key_types.specs.declared.key.Key.{Key}
 use Rattle.key_types.specs.declared.places.Where.{Where}
 use Rattle.chain_model.specs.declared.member.Member.{Member}
-use Rattle.chain_model.specs.Chains.{chain_from, holds, holds_at, piece_holds}
+use Rattle.chain_model.specs.Chains.{chain, holds, holds_at, piece_holds}
+use Rattle.chain_model.specs.Pass.{chain_from}
+use Rattle.chain_model.proofs.PassLemmas.{one_pass}
 use Rattle.chain_model.specs.Places.{LineAndDisc, Place, Tells, chain_members, frame, frames, has_key, key, kept, last_start, line_offset, nameless, no_line, outside, place_at, place_by, place_of, row_of}
 use Rattle.entry_names.specs.Meaning.{IsNumberOf}
 use Rattle.tree_model.specs.Members.{Told}
@@ -211,8 +213,10 @@ module _ (ns ks : List (List ℕ)) where
     same-place : (address : ℕ) (ms cs : List Member) → AllZip Alike ms cs → SamePlace (place_at f base ms address) (place_at g base cs address)
     same-place address ms cs h =
         of-same address (chain_members ms address) (chain_members cs address)
-        (members-alike (chain_from 0 address (enumerate_from 0 ms)) (chain_from 0 address (enumerate_from 0 cs))
-        (chain-alike address 0 (enumerate_from 0 ms) (enumerate_from 0 cs) (numbered-alike 0 ms cs h)))
+        (members-alike (chain ms address) (chain cs address)
+        (subst (λ c. AllZip AlikeNumbered c (chain cs address)) (sym (one_pass ms address))
+        (subst (λ c. AllZip AlikeNumbered (chain_from 0 address (enumerate_from 0 ms)) c) (sym (one_pass cs address))
+        (chain-alike address 0 (enumerate_from 0 ms) (enumerate_from 0 cs) (numbered-alike 0 ms cs h)))))
 
   shows : (p q : Place) → SamePlace p q → (keys : List Key) (answer : Where) → Tells keys p answer → Shows ns keys (in_names ks q) answer
   shows outside outside h keys answer t = t

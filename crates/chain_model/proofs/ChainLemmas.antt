@@ -1,51 +1,13 @@
 -- The chain of an address, member by member.
-use Rattle.std.proofs.Common.{◌≡◌, ℕ, zero, suc, ◌+◌, ◌<◌, ◌≤◌, Bool, true, false, List, [], ◌∷◌, ◌++◌, Option, None, Some, refl, sym, ap, ◌∙◌, arith, length, take, inl, inr, ◌⊎◌, append_assoc, length-append}
-use Rattle.std.specs.Prelude.{find, slice_get, nat_lt, nat_eq, ◌&&◌}
+use Rattle.std.proofs.Common.{◌≡◌, ℕ, zero, suc, ◌+◌, ◌<◌, ◌≤◌, List, [], ◌∷◌, ◌++◌, Option, None, Some, refl, sym, ap, ◌∙◌, arith, length, take, inl, inr, ◌⊎◌, append_assoc, length-append}
+use Rattle.std.specs.Prelude.{find, slice_get}
 use Rattle.std.specs.List.{enumerate_from, last_or}
 use Rattle.std.specs.Option.{option_map}
-use Rattle.std.proofs.lemmas.Bool.Decides.{nat_tests}
 use Rattle.chain_model.specs.declared.member.Member.{Member}
-use Rattle.chain_model.specs.Chains.{holds, holds_at, numbered, chain_from, chain, path_from}
+use Rattle.chain_model.specs.Chains.{holds_at, numbered, chain, path_from}
+use Rattle.chain_model.specs.Pass.{chain_from}
 use Rattle.chain_model.specs.Laws.{ChainsArePaths, ChainsBeginWithTheFunction}
-
--- a member is less deep, or the next of the chain, or neither
-pub data Step (depth address : ℕ) (member : Member) : Type 0 where
-  left : nat_lt member.depth depth ≡ true → Step depth address member
-  taken : nat_lt member.depth depth ≡ false → holds_at depth address member ≡ true → Step depth address member
-  passed : nat_lt member.depth depth ≡ false → holds_at depth address member ≡ false → Step depth address member
-
-pub step : (depth address : ℕ) (member : Member) → Step depth address member
-step depth address member = by (nat_lt member.depth depth) refl (holds_at depth address member) refl
-  where
-    by : (less : Bool) → nat_lt member.depth depth ≡ less → (held : Bool) → holds_at depth address member ≡ held → Step depth address member
-    by true is held is' = left is
-    by false is true is' = taken is is'
-    by false is false is' = passed is is'
-
-pub chain-left : (k a : ℕ) (x : ℕ × Member) (xs : List (ℕ × Member)) → nat_lt x.1.depth k ≡ true → chain_from k a (x ∷ xs) ≡ []
-chain-left k a x xs less = rw less refl
-
-pub chain-taken : (k a : ℕ) (x : ℕ × Member) (xs : List (ℕ × Member)) → nat_lt x.1.depth k ≡ false → holds_at k a x.1 ≡ true → chain_from k a (x ∷ xs) ≡ x ∷ chain_from (k + 1) a xs
-chain-taken k a x xs within held = rw (within, held) refl
-
-pub chain-passed : (k a : ℕ) (x : ℕ × Member) (xs : List (ℕ × Member)) → nat_lt x.1.depth k ≡ false → holds_at k a x.1 ≡ false → chain_from k a (x ∷ xs) ≡ chain_from k a xs
-chain-passed k a x xs within missed = rw (within, missed) refl
-
-pub not_less : (m n : ℕ) → nat_lt m n ≡ false → n ≤ m
-not_less m n is = grind (arith, nat_tests)
-
-pub less : (m n : ℕ) → nat_lt m n ≡ true → m < n
-less m n is = grind (arith, nat_tests)
-
-pub at_depth : (k a : ℕ) (m : Member) → holds_at k a m ≡ true → m.depth ≡ k
-at_depth k a m held = first (nat_eq m.depth k) (holds a m) held (same m.depth k)
-  where
-    same : (m n : ℕ) → nat_eq m n ≡ true → m ≡ n
-    same m n is = grind (arith, nat_tests)
-
-    first : (p q : Bool) → (p && q) ≡ true → (p ≡ true → m.depth ≡ k) → m.depth ≡ k
-    first true q both is = is refl
-    first false q both is = absurd cc
+use Rattle.chain_model.proofs.PassLemmas.{left, taken, passed, step, chain-left, chain-taken, chain-passed, at_depth, less, not_less, one_pass}
 
 -- a chain begins with the function
 begins : (a : ℕ) (xs : List (ℕ × Member)) → slice_get (chain_from 0 a xs) 0 ≡ find (λ member. holds_at 0 a member.1) xs
@@ -57,7 +19,7 @@ begins a (x ∷ xs) = elim (step 0 a x.1) [
 ]
 
 pub begin_with_the_function : ChainsBeginWithTheFunction
-begin_with_the_function members address = begins address (numbered members)
+begin_with_the_function members address = ap (λ c. slice_get c 0) (one_pass members address) ∙ begins address (numbered members)
 
 -- the last member of a chain is the first one, or the last of the rest
 last-cases : (x : ℕ × Member) (xs : List (ℕ × Member)) (m : ℕ × Member) → last_or (Some x) xs ≡ Some m → ((x ≡ m) × (xs ≡ [])) ⊎ (last_or None xs ≡ Some m)
@@ -135,9 +97,9 @@ numbered-some (Some m) n is = let e : m.0 ≡ n = cc in (m, refl, e)
 pub are_paths : ChainsArePaths
 are_paths members address number is =
     let last = numbered-some (last_or None (chain members address)) number is in
-    let r = reach 0 address [] [] (numbered members) last.0 refl refl last.1 in
+    let r = reach 0 address [] [] (numbered members) last.0 refl refl (ap (last_or None) (sym (one_pass members address)) ∙ last.1) in
     let n : last.0.0 ≡ length r.before = omega (arith, number-is 0 members r.before last.0 r.behind r.split) in
-    sym r.whole_is
+    one_pass members address ∙ sym r.whole_is
     ∙ ap (path_from []) (sym (take-through r.before last.0 r.behind last.0.0 n))
     ∙ ap (λ ys. path_from [] (take (last.0.0 + 1) ys)) (sym r.split)
     ∙ ap (λ k. path_from [] (take (k + 1) (numbered members))) last.2

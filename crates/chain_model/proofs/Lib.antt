@@ -2,3 +2,4 @@ pub mod ChainLemmas
 mod DownLemmas
 mod Examples
 mod KeyLemmas
+pub mod PassLemmas

@@ -1,7 +1,7 @@
 -- The function that holds an address, and the calls inlined there (DWARF 5, sections 3.3.1 and 3.3.8).
-use Rattle.std.specs.Prelude.{ℕ, ◌+◌, Bool, ◌&&◌, ◌==◌, nat_lt, nat_le, List, [], ◌∷◌, ◌++◌, take, find, take_while, Option, None, if◌then◌else◌}
+use Rattle.std.specs.Prelude.{ℕ, zero, suc, ◌+◌, Bool, ◌&&◌, ◌==◌, nat_lt, nat_le, List, [], ◌∷◌, ◌++◌, length, take, find, take_while, Option, None, Some, if◌then◌else◌}
 use Rattle.std.specs.List.{enumerate_from, last_or, list_any}
-use Rattle.std.specs.Option.{option_map}
+use Rattle.std.specs.Option.{option_map, option_map_or}
 use Rattle.chain_model.specs.declared.member.Member.{Member}
 
 -- A piece holds the addresses from its first one on that are below its end.
@@ -32,18 +32,23 @@ function_at members address = option_map (λ function. function.0) (function_of 
 abbrev pub below : ℕ × Member → List (ℕ × Member) → List (ℕ × Member)
 below member behind = take_while (λ next. nat_lt member.1.depth next.1.depth) behind
 
--- The chain of an address from a depth on: the first member there that holds the address, then the chain from the next
--- depth on of those behind it. It ends before a member that is less deep.
-abbrev pub chain_from : ℕ → ℕ → List (ℕ × Member) → List (ℕ × Member)
-chain_from depth address [] = []
-chain_from depth address (member ∷ behind) =
-    if nat_lt member.1.depth depth then [] else
-    ((if holds_at depth address member.1 then member ∷ [] else [])
-    ++ chain_from (if holds_at depth address member.1 then depth + 1 else depth) address behind)
+-- The first of some members that stands at a depth and holds an address, and the members below it.
+abbrev pub first_at : ℕ → ℕ → List (ℕ × Member) → Option ((ℕ × Member) × List (ℕ × Member))
+first_at depth address [] = None
+first_at depth address (member ∷ behind) =
+    if holds_at depth address member.1 then Some (member, below member behind) else first_at depth address behind
 
--- The chain of an address: its function, then each time the first call inlined into the last member that holds it.
+-- The chain of an address among members, no longer than a bound, from a depth on: the first that stands at the depth and
+-- holds the address, then the chain among those below it, from the next depth on. It ends where there is none.
+abbrev pub chain_among : ℕ → ℕ → ℕ → List (ℕ × Member) → List (ℕ × Member)
+chain_among zero depth address members = []
+chain_among (suc most) depth address members =
+    option_map_or (λ found. found.0 ∷ chain_among most (depth + 1) address found.1) (first_at depth address members) []
+
+-- The chain of an address: its function, then each time the first call inlined into the last member that holds it. It
+-- is no longer than there are members.
 abbrev pub chain : List Member → ℕ → List (ℕ × Member)
-chain members address = chain_from 0 address (numbered members)
+chain members address = chain_among (length members) 0 address (numbered members)
 
 -- The number of the last member of the chain.
 abbrev pub innermost : List Member → ℕ → Option ℕ

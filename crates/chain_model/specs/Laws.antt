@@ -3,6 +3,7 @@ use Rattle.std.specs.Prelude.{◌≡◌, ◌↔◌, ℕ, ◌+◌, ◌<◌, Bool,
 use Rattle.std.specs.List.{AllByRecursion}
 use Rattle.chain_model.specs.declared.member.Member.{Member}
 use Rattle.chain_model.specs.Chains.{holds_at, numbered, below, function_of, chain, innermost, path}
+use Rattle.chain_model.specs.Pass.{chain_from}
 use Rattle.chain_model.specs.Places.{HasKey, LineAndDisc, chain_members, row_of, place_at}
 
 -- A chain, said step by step: of the members that come into question the first one that stands at the depth and holds
@@ -21,6 +22,11 @@ pub data IsChain (address : ℕ) : ℕ → List (ℕ × Member) → List (ℕ ×
 abbrev pub ChainsGoStepByStep : Type 0
 ChainsGoStepByStep =
     (members : List Member) (address : ℕ) → IsChain address 0 (numbered members) (chain members address)
+
+-- One pass over the members finds it.
+abbrev pub OnePassFindsChains : Type 0
+OnePassFindsChains =
+    (members : List Member) (address : ℕ) → chain members address ≡ chain_from 0 address (numbered members)
 
 -- Members each behind the one before in the list and deeper by one, from a depth on.
 abbrev pub GoDown : ℕ → List (ℕ × Member) → Type 0

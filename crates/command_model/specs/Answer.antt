@@ -15,7 +15,7 @@ pub data Answer : Type 0 where
   refused : Place → Answer
   -- All files are there and good, and this line is the first that fails a check.
   fails_check : ℕ → Answer
-  -- All files are there and good, with these bytes, and no line fails a check: an output of the command is to be written.
+  -- All files are there and good, with these bytes, and no line fails a check: the command has an output to be written.
   writes : Command → List (List ℕ) → Answer
 
 -- The bytes of a file, if it is there.

@@ -17,7 +17,7 @@ pub data Source : Type 0 where
   -- The program itself, which makes these bytes.
   made : List ℕ → Source
 
--- A file that a command asks for: where it comes from, and its first bad place, behind the bytes of the files before it.
+-- A file that a command asks for: where it comes from, and its first bad place behind the bytes of the files before.
 pub record Asked : Type 0 where
   pub source : Source
   pub judge : List (List ℕ) → List ℕ → Option Place

@@ -10,9 +10,11 @@ use Rattle.address_spans.proofs.SpanLemmas.{held, missed-behind, owner-hit, owne
 use Rattle.key_types.specs.declared.key.Key.{Key}
 use Rattle.key_types.specs.declared.places.Seg.{Seg}
 use Rattle.chain_model.specs.declared.member.Member.{Member}
-use Rattle.chain_model.specs.Chains.{numbered, chain, chain_from, innermost, path}
+use Rattle.chain_model.specs.Chains.{numbered, chain, innermost, path}
+use Rattle.chain_model.specs.Pass.{chain_from}
 use Rattle.chain_model.specs.Places.{outside, no_line, has_key, LineAndDisc, place_of, row_of, place_at, factor_at, key}
-use Rattle.chain_model.proofs.ChainLemmas.{left, taken, passed, step, chain-left, chain-taken, chain-passed, are_paths}
+use Rattle.chain_model.proofs.ChainLemmas.{are_paths}
+use Rattle.chain_model.proofs.PassLemmas.{left, taken, passed, step, chain-left, chain-taken, chain-passed, one_pass}
 use Rattle.member_contexts.specs.declared.named.Named.{Named}
 use Rattle.member_contexts.specs.declared.context.Context.{Context}
 use Rattle.member_contexts.specs.Contexts.{place_in, IsContext}
@@ -44,7 +46,9 @@ last-all bound o (x ∷ xs) n first all is = last-all bound (Some x) xs n (λ m 
 
 pub innermost-there : (members : List Member) (a n : ℕ) → innermost members a ≡ Some n → n < length members
 innermost-there members a n is =
-    last-all (length members) None (chain members a) n (λ m same. absurd (cc)) (chain-all 0 a (length members) (numbered members) (numbers-all 0 (length members) members (omega arith))) is
+    last-all (length members) None (chain members a) n (λ m same. absurd (cc))
+    (subst (λ (ms : List (ℕ × Member)). AllByRecursion (λ m. m.0 < length members) ms) (sym (one_pass members a))
+    (chain-all 0 a (length members) (numbered members) (numbers-all 0 (length members) members (omega arith)))) is
 
 -- without an innermost member there is no chain
 last-some : (x : ℕ × Member) (xs : List (ℕ × Member)) → option_map (λ (m : ℕ × Member). m.0) (last_or (Some x) xs) ≡ None → ⊥

@@ -12,8 +12,9 @@ use Rattle.address_spans.proofs.SpanLemmas.{owner-append}
 use Rattle.address_spans.specs.declared.span.Span.{Span}
 use Rattle.address_spans.specs.Spans.{AreDisjoint, owner_at, framed_owner, holds as span_holds}
 use Rattle.chain_model.specs.declared.member.Member.{Member}
-use Rattle.chain_model.specs.Chains.{holds, holds_at, numbered, function_at, chain_from, piece_holds}
-use Rattle.chain_model.proofs.ChainLemmas.{chain-left, chain-taken, chain-passed}
+use Rattle.chain_model.specs.Chains.{holds, holds_at, numbered, function_at, innermost, piece_holds}
+use Rattle.chain_model.specs.Pass.{chain_from}
+use Rattle.chain_model.proofs.PassLemmas.{chain-left, chain-taken, chain-passed, one_pass}
 use Rattle.inline_cover.specs.Owners.{owned, innermost_from, spans_of}
 use Rattle.inline_cover.specs.Levels.{past, next_in, IsLevel, LevelSoFar}
 
@@ -327,3 +328,9 @@ alone a n m spans spans' inner none pushed =
     empty : (xs : List Span) → true ≡ nat_eq (length xs) 0 → xs ≡ []
     empty [] is = refl
     empty (x ∷ xs) is = absurd (no (length xs) is)
+
+-- the cover of all members
+pub innermost-whole : (members : List Member) (spans : List Span) → ((address : ℕ) → owner_at spans address ≡ innermost_from 0 address (drop 0 (numbered members)))
+    → (address : ℕ) → owner_at spans address ≡ innermost members address
+innermost-whole members spans owners address =
+    owners address ∙ ap (λ c. option_map (λ (m : ℕ × Member). m.0) (last_or None c)) (sym (one_pass members address))

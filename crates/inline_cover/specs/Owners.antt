@@ -4,7 +4,8 @@ use Rattle.std.specs.List.{last_or}
 use Rattle.std.specs.Option.{option_map}
 use Rattle.address_spans.specs.declared.span.Span.{Span}
 use Rattle.chain_model.specs.declared.member.Member.{Member}
-use Rattle.chain_model.specs.Chains.{chain_from, holds}
+use Rattle.chain_model.specs.Chains.{holds}
+use Rattle.chain_model.specs.Pass.{chain_from}
 
 -- Pieces as spans of one owner.
 abbrev pub spans_of : ℕ → List (ℕ × ℕ) → List Span

@@ -12,8 +12,10 @@ use Rattle.way_model.specs.Origin as way
 use Rattle.entry_names.specs.declared.origin.Origin.{Origin}
 use Rattle.entry_names.specs.Meaning.{Extends, TellsOrigin}
 use Rattle.tree_model.specs.Members.{Told, call_told}
-use Rattle.tree_model.specs.Frames.{Frame, SoFar, behind_call, behind_other, frame_above, left_out, one_deeper}
-use Rattle.tree_model.specs.Tree.{Source, call_with, next_call, not_too_deep}
+use Rattle.member_lists.specs.declared.frame.Frame.{Frame}
+use Rattle.member_lists.specs.Frames.{SoFar, behind_call, behind_other, frame_above, left_out, one_deeper}
+use Rattle.tree_model.specs.Tree.{Source, not_too_deep}
+use Rattle.member_lists.specs.Collecting.{call_with, next_call}
 use Rattle.inline_tree.specs.Told.{Advances, CountsCalls, IsSoFar, IsTold, call_made}
 use Rattle.inline_tree.proofs.StepLemmas.{IsSoFar-call, IsSoFar-extends, IsSoFar-other, pieces-told, stopped}
 

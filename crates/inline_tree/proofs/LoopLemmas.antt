@@ -15,8 +15,10 @@ use Rattle.chain_model.specs.declared.member.Member.{Member}
 use Rattle.piece_model.specs.Pieces.{InUnit, and_then}
 use Rattle.entry_names.specs.Meaning.{Extends}
 use Rattle.tree_model.specs.Members.{Told}
-use Rattle.tree_model.specs.Frames.{SoFar, all_members, nothing}
-use Rattle.tree_model.specs.Tree.{Source, members, next_entries, next_entry, next_unit, next_units}
+use Rattle.member_lists.specs.Frames.{SoFar, all_members, nothing}
+use Rattle.tree_model.specs.Tree.{Source, members}
+use Rattle.member_lists.specs.Collecting.{next_entries, next_entry, next_unit, next_units}
+use Rattle.member_lists.proofs.FrameLemmas.{collected-are_members}
 use Rattle.inline_tree.specs.Told.{Advances, AreTold, Grows, IsMadeOf, IsSoFar, IsTold}
 use Rattle.inline_tree.proofs.StepLemmas.{AllZip-append, stopped}
 
@@ -142,12 +144,10 @@ judged names told made is = (ap result_err is.1, is)
 
 -- all members
 members-made : (source : Source) (now : SoFar Told) → next_units source 0 source.info.units.units nothing ≡ Ok now → members source ≡ Ok (all_members now)
-unfolding members
-members-made source now e = ap (λ x. and_then x (λ all. Ok (all_members all))) e
+members-made source now e = sym (collected-are_members source) ∙ ap (λ x. and_then x (λ all. Ok (all_members all))) e
 
 members-bad : (source : Source) (place : Place) → next_units source 0 source.info.units.units nothing ≡ Err place → members source ≡ Err place
-unfolding members
-members-bad source place e = ap (λ (x : Result (SoFar Told) Place). and_then x (λ all. Ok (all_members all))) e
+members-bad source place e = sym (collected-are_members source) ∙ ap (λ (x : Result (SoFar Told) Place). and_then x (λ all. Ok (all_members all))) e
 
 all_members-told : (names : List (List ℕ)) (tolds : List (List Told)) (mades : List (List Member)) → AllZip (AreTold names) tolds mades
     → AreTold names (flat_map (λ f. f) tolds) (flat_map (λ f. f) mades)

@@ -18,8 +18,10 @@ use Rattle.way_model.specs.Origin as way
 use Rattle.entry_names.specs.declared.origin.Origin.{Origin}
 use Rattle.entry_names.specs.Meaning.{Extends, IsNumberOf, TellsOrigin}
 use Rattle.tree_model.specs.Members.{Told, function_told}
-use Rattle.tree_model.specs.Frames.{Frame, SoFar, behind_call, behind_function, behind_other, frame_above, frame_of_function, frames_to, outside, with_call, with_member}
-use Rattle.tree_model.specs.Tree.{Source, function_with, next_call, next_entry, next_function}
+use Rattle.member_lists.specs.declared.frame.Frame.{Frame}
+use Rattle.member_lists.specs.Frames.{SoFar, behind_call, behind_function, behind_other, frame_above, frame_of_function, frames_to, outside}
+use Rattle.tree_model.specs.Tree.{Source, with_call, with_member}
+use Rattle.member_lists.specs.Collecting.{function_with, next_call, next_entry, next_function}
 use Rattle.inline_tree.specs.Told.{Advances, AreTold, IsSoFar, IsTold, function_made}
 
 -- ---- lists that are related item by item

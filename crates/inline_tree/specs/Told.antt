@@ -12,7 +12,7 @@ use Rattle.entry_names.specs.declared.origin.Origin.{Origin}
 use Rattle.entry_names.specs.Meaning.{IsNumberOf}
 use Rattle.entry_names.specs.Memo.{Remembers}
 use Rattle.tree_model.specs.Members.{Told, number_in}
-use Rattle.tree_model.specs.Frames.{SoFar}
+use Rattle.member_lists.specs.Frames.{SoFar}
 use Rattle.tree_model.specs.Tree as model
 use Rattle.inline_tree.specs.declared.source.Source.{Source}
 

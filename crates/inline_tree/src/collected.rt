@@ -1,5 +1,5 @@
 ghost use Rattle.std.specs.Prelude.{◌≡◌, [], IfOk};
-ghost use Rattle.tree_model.specs.Frames.{nothing};
+ghost use Rattle.member_lists.specs.Frames.{nothing};
 
 use entry_names::Origins;
 use key_types::Names;

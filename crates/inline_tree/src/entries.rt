@@ -4,9 +4,9 @@ ghost use Rattle.entry_model.specs.Order.{AreInOrder};
 ghost use Rattle.entry_names.specs.Meaning.{Extends};
 ghost use Rattle.piece_model.specs.Pieces.{pieces as pieces_told};
 ghost use Rattle.entry_pieces.specs.Told.{Tells, in_unit};
-ghost use Rattle.tree_model.specs.Frames.{SoFar as so_far_told, frame_above};
+ghost use Rattle.member_lists.specs.Frames.{SoFar as so_far_told, frame_above};
 ghost use Rattle.tree_model.specs.Members.{Told};
-ghost use Rattle.tree_model.specs.Tree.{next_call as next_call_told, next_entry as next_entry_told, next_function as next_function_told};
+ghost use Rattle.member_lists.specs.Collecting.{next_call as next_call_told, next_entry as next_entry_told, next_function as next_function_told};
 ghost use Rattle.inline_tree.specs.Told.{Advances, CountsCalls, IsSoFar, Knows, source_of};
 
 use crate::collected::Collected;
@@ -120,7 +120,7 @@ fn next_call<'a>(
 
 /// Reads the next entry. One that is neither a subprogram nor an inlined subroutine is passed
 /// through.
-#[tactic(auto, unfolding(tree_model::specs::Tree::next_entry))]
+#[tactic(auto, unfolding(member_lists::specs::Collecting::next_entry))]
 pub(crate) fn next_entry<'a>(
     alloc: Global,
     source: &Source<'a, '_>,

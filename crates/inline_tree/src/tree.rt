@@ -4,9 +4,10 @@ ghost use Rattle.std.specs.Result.{result_err};
 ghost use Rattle.refusal.specs.Place.{JudgesUnlessNoMemory};
 ghost use Rattle.entry_model.specs.Order.{AreInOrder};
 ghost use Rattle.entry_pieces.specs.Told.{in_unit};
-ghost use Rattle.tree_model.specs.Frames.{SoFar as so_far_told};
+ghost use Rattle.member_lists.specs.Frames.{SoFar as so_far_told};
 ghost use Rattle.tree_model.specs.Members.{Told};
-ghost use Rattle.tree_model.specs.Tree.{entries_of_unit, members as members_told, next_entries as next_entries_told, next_unit as next_unit_told};
+ghost use Rattle.tree_model.specs.Tree.{entries_of_unit, members as members_told};
+ghost use Rattle.member_lists.specs.Collecting.{next_entries as next_entries_told, next_unit as next_unit_told};
 ghost use Rattle.inline_tree.specs.Told.{Advances, Grows, IsMadeOf, IsSoFar, Knows, source_of};
 
 use crate::collected::Collected;
@@ -58,7 +59,7 @@ fn next_entries<'a>(
 }
 
 /// Reads the unit of a number: its base address, then its entries.
-#[tactic(auto, unfolding(tree_model::specs::Tree::next_unit))]
+#[tactic(auto, unfolding(member_lists::specs::Collecting::next_unit))]
 fn next_unit<'a>(
     alloc: Global,
     source: &Source<'a, '_>,

@@ -2,7 +2,7 @@
 use Rattle.std.proofs.Common.{◌≡◌, ◌<◌, ◌≤◌, ℕ, zero, suc, List, [], ◌∷◌, ◌++◌, length, map, set, get_or, Option, Some, refl, sym, ap, ◌∙◌, append_assoc, append-nil, arith}
 use Rattle.std.specs.List.{flat_map}
 use Rattle.std.proofs.lemmas.List.{length-map}
-use Rattle.tree_model.specs.Frames.{with_call, with_member}
+use Rattle.tree_model.specs.Tree.{with_call, with_member}
 
 with_member-at : {T X : Type 0} (items : X → List T) (number : ℕ) (call : T) (list new : X) (lists : List X) → number < length lists
     → list ≡ get_or lists number list → items new ≡ items list ++ call ∷ []

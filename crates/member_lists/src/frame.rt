@@ -1,8 +1,7 @@
-ghost use Rattle.std.specs.Prelude.{◌≡◌, OnOk};
-ghost use Rattle.tree_model.specs.Frames.{frame_above as above_told, frame_of_function, frames_to, outside};
+ghost use Rattle.std.specs.Prelude.{◌≡◌, ◌≤◌, OnOk, length, reverse, take};
+ghost use Rattle.member_lists.specs.Frames.{first_frame, frame_of_function, frames_above, frames_to, outside};
 
 use refusal::NoMemory;
-use std::marker::Model;
 
 /// Where an entry stands among functions and inlined calls.
 #[derive(Clone, Copy, Debug)]
@@ -12,16 +11,6 @@ pub struct Frame {
     /// The number of the function that it is or is inlined into: none where one on that way, or the
     /// function, has no pieces.
     pub function: Option<usize>,
-}
-
-impl Model for Frame {
-    ghost use Rattle.tree_model.specs.Frames.{Frame};
-
-    ghost Value = { Frame };
-
-    ghost view = { λ f. record { calls = f.calls; function = f.function } };
-
-    ghost inverse = { λ f. record { calls = f.calls; function = f.function } };
 }
 
 impl Frame {
@@ -46,22 +35,40 @@ impl Frame {
     }
 }
 
-/// The frame of the entry right above one at a depth.
-pub(crate) fn frame_above(frames: &[Frame], depth: u32) -> Frame
-    ensures { result ≡ above_told depth frames.now }
+/// Of frames with the depths of their entries, the outermost first, how many are of entries that
+/// one at a depth stands below.
+pub(crate) fn count_above(frames: &[(u32, Frame)], depth: u32) -> usize
+    ensures within { result ≤ length frames.now }
+    ensures above { reverse (take result frames.now) ≡ frames_above depth (reverse frames.now) }
 {
-    let above = &frames[..frames.len().min(depth as usize)];
+    let mut count = frames.len();
+    while count > 0 {
+        let (above, _) = frames[count - 1];
+        if above < depth {
+            return count;
+        }
+        count -= 1;
+    }
+    count
+}
+
+/// The frame of the entry right above one at a depth.
+pub(crate) fn frame_above(frames: &[(u32, Frame)], depth: u32) -> Frame
+    ensures { result ≡ first_frame (frames_above depth (reverse frames.now)) }
+{
+    let above = &frames[..count_above(frames, depth)];
     match above.last() {
-        Some(frame) => *frame,
+        Some((_, frame)) => *frame,
         None => Frame::outside(),
     }
 }
 
 /// Puts the frame of an entry at a depth behind those of the entries that it stands below.
-pub(crate) fn put(frames: &mut Vec<Frame>, depth: u32, frame: Frame) -> Result<(), NoMemory>
-    ensures { OnOk result (frames.new.items ≡ frames_to depth frame frames.old.items) }
+pub(crate) fn put(frames: &mut Vec<(u32, Frame)>, depth: u32, frame: Frame) -> Result<(), NoMemory>
+    ensures { OnOk result
+        (reverse frames.new.items ≡ frames_to depth frame (reverse frames.old.items)) }
 {
-    frames.truncate(depth as usize);
-    frames.push(frame)?;
+    frames.truncate(count_above(frames, depth));
+    frames.push((depth, frame))?;
     Ok(())
 }

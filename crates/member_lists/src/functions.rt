@@ -1,6 +1,6 @@
 ghost use Rattle.std.specs.Prelude.{◌≡◌, ◌++◌, ◌∷◌, [], IfOk, OnOk, length};
 ghost use Rattle.std.specs.List.{flat_map};
-ghost use Rattle.tree_model.specs.Frames.{with_call as with_call_told};
+ghost use Rattle.tree_model.specs.Tree.{with_call as with_call_told};
 
 use chain_model::Member;
 use refusal::NoMemory;

@@ -1,5 +1,5 @@
 ghost use Rattle.std.specs.Prelude.{◌≡◌, ◌+◌, ◌<◌, ◌^◌, IfOk, OnOk, length};
-ghost use Rattle.tree_model.specs.Frames.{all_members, behind_call, behind_function, behind_other, behind_unit, frame_above as above_told, nothing};
+ghost use Rattle.member_lists.specs.Frames.{all_members, behind_call, behind_function, behind_other, behind_unit, frame_above as above_told, nothing};
 
 use crate::frame::{self, Frame};
 use crate::functions::Functions;
@@ -9,24 +9,26 @@ use std::alloc::Global;
 use std::marker::Model;
 
 /// The functions so far, each with the calls inlined into it, the number of pieces of the entries,
-/// and the frames of the entries down to the last one of the unit.
+/// and the frames of the entries down to the last one of the unit, each with its entry's depth.
 #[derive(Debug, Drop)]
 pub struct SoFar {
     functions: Functions,
     pieces: u64,
-    frames: Vec<Frame>,
+    frames: Vec<(u32, Frame)>,
 }
 
+// Clauses see the frames from the innermost on.
 impl Model for SoFar {
     ghost use Rattle.chain_model.specs.declared.member.Member.{Member};
-    ghost use Rattle.tree_model.specs.Frames.{SoFar};
+    ghost use Rattle.std.specs.Prelude.{reverse};
+    ghost use Rattle.member_lists.specs.Frames.{SoFar};
 
     ghost Value = { SoFar Member };
 
     ghost view = { λ s. record {
       functions = s.functions;
       pieces = s.pieces;
-      frames = s.frames.items;
+      frames = reverse s.frames.items;
     } };
 }
 

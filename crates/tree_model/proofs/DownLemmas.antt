@@ -5,8 +5,7 @@ use Rattle.abbrev_model.specs.Abbrev.{Abbrev}
 use Rattle.unit_model.specs.Entries.{Entry, InUnit}
 use Rattle.entry_model.specs.Entries.{SpellsEntries, no_entry, level_closed, entry_first}
 use Rattle.entry_model.proofs.EntryLemmas.{entries-read}
-use Rattle.tree_model.specs.Depths.{GoDownOneByOne}
-use Rattle.tree_model.specs.Laws.{ReadEntriesGoDown}
+use Rattle.tree_model.specs.Laws.{GoDownOneByOne, ReadEntriesGoDown}
 
 wider : (few many : ℕ) (es : List Entry) → few ≤ many → GoDownOneByOne few es → GoDownOneByOne many es
 wider few many [] less down = tt

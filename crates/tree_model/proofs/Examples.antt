@@ -1,8 +1,7 @@
 -- The functions and calls of a unit, in a file with one segment of code, from 0x401000 up to 0x403000.
-use Rattle.std.proofs.Common.{◌≡◌, ℕ, zero, suc, ◌+◌, false, List, [], ◌∷◌, length, take, None, Some, Result, Ok, Err, refl}
+use Rattle.std.proofs.Common.{◌≡◌, ℕ, zero, suc, ◌+◌, false, List, [], ◌∷◌, length, take, None, Some, Ok, Err, refl}
 use Rattle.std.specs.Prelude.{reverse}
 use Rattle.refusal.specs.declared.kind.Kind.TheVariants.{BadReference, InlineTooDeep, NoSection}
-use Rattle.refusal.specs.declared.place.Place.{Place}
 use Rattle.refusal.specs.Place.{in_binary}
 use Rattle.value_model.specs.Value.{Value, addr, const, ref, str_at, text}
 use Rattle.range_model.specs.Texts.{address_of, text_of}
@@ -17,8 +16,7 @@ use Rattle.way_model.specs.Way.{next_on_way, way}
 use Rattle.way_model.specs.Origin.{origin}
 use Rattle.tree_model.specs.Members.{Told}
 use Rattle.tree_model.specs.Depths.{Standing, calls_on, inlined_into, way_up}
-use Rattle.tree_model.specs.Frames.{SoFar, nothing}
-use Rattle.tree_model.specs.Tree.{Source, members, next_call, next_entries, next_entry, next_function, next_unit}
+use Rattle.tree_model.specs.Tree.{Source, Tree, members, next_call, next_entry, next_function, next_unit}
 
 abbrev file : List ℕ
 file =
@@ -139,11 +137,6 @@ bad_name : members (source (entry 177 0 0x11 [] ∷ entry 182 1 0x2e (found 183 
 unfolding members next_unit next_entry next_function next_call pieces spelled_ranges is_live number_at address_of text_of origin way next_on_way base_address bases_of_unit root_of
 bad_name = refl
 
--- so many calls, each below the one before
-calls_from : ℕ → ℕ → List Entry
-calls_from depth zero = []
-calls_from depth (suc more) = entry (1000 + depth) depth 0x1d [] ∷ calls_from (depth + 1) more
-
 abbrev of_unit : InUnit
 of_unit = record {
   sections = sections;
@@ -160,23 +153,30 @@ way_of_last = way_up 4 (reverse (take 9 entries))
 abbrev way_of_inner : List Standing
 way_of_inner = way_up 3 (reverse (take 6 entries))
 
-depths_count_calls : (length (calls_on way_of_last) ≡ 2) × (length (calls_on way_of_inner) ≡ 0)
-depths_count_calls = (refl, refl)
+depths_count_calls : (length way_of_last ≡ 4) × (length (calls_on way_of_last) ≡ 2) × (length (calls_on way_of_inner) ≡ 0)
+depths_count_calls = (refl, refl, refl)
 
-depths_tell_functions : (inlined_into (source entries) of_unit 0 way_of_last ≡ None)
-    × (inlined_into (source entries) of_unit 0 way_of_inner ≡ Some 1)
+depths_tell_functions : (inlined_into file of_unit 0 way_of_last ≡ None) × (inlined_into file of_unit 0 way_of_inner ≡ Some 1)
 unfolding spelled_ranges is_live number_at address_of
 depths_tell_functions = (refl, refl)
 
-abbrev how_many_frames : Result (SoFar Told) Place → Result ℕ Place
-how_many_frames (Ok so_far) = Ok (length so_far.frames)
-how_many_frames (Err place) = Err place
+-- an entry that is less deep by two stands below those at its new depth alone
+skipped_levels : length (way_up 2 (entry 3 3 0x1d [] ∷ entry 2 1 0x1d [] ∷ entry 1 1 0x1d [] ∷ entry 0 0 0x11 [] ∷ [])) ≡ 2
+skipped_levels = refl
 
-deepest_calls : how_many_frames (next_entries (source []) of_unit (calls_from 1 255) nothing) ≡ Ok 255
-unfolding calls_from next_entry next_call pieces spelled_ranges
-deepest_calls = refl
+-- so many calls, each below the one before, the last one first
+calls_up : ℕ → List Entry
+calls_up zero = []
+calls_up (suc depth) = entry (1000 + depth) depth 0x1d [] ∷ calls_up depth
 
-one_call_too_deep : how_many_frames (next_entries (source []) of_unit (calls_from 1 256) nothing)
-    ≡ Err (in_binary 1256 InlineTooDeep)
-unfolding calls_from next_entry next_call pieces spelled_ranges
+abbrev no_functions : Tree
+no_functions = record { functions = []; pieces = 0 }
+
+deepest_call : next_entry (source []) of_unit 0 (calls_up 254) (entry 1254 254 0x1d []) no_functions ≡ Ok no_functions
+unfolding calls_up next_entry next_call pieces spelled_ranges
+deepest_call = refl
+
+one_call_too_deep : next_entry (source []) of_unit 0 (calls_up 255) (entry 1255 255 0x1d []) no_functions
+    ≡ Err (in_binary 1255 InlineTooDeep)
+unfolding calls_up next_entry next_call pieces spelled_ranges
 one_call_too_deep = refl

@@ -1,3 +1,2 @@
-mod DepthLemmas
 mod DownLemmas
 mod Examples

@@ -1,5 +1,6 @@
 -- The functions and inlined calls that the entries of a file tell of, and the first place at which one is bad.
-use Rattle.std.specs.Prelude.{ℕ, ◌+◌, nat_lt, if◌then◌else◌, List, [], ◌∷◌, take, drop, length, Result, Ok, Err}
+use Rattle.std.specs.Prelude.{ℕ, zero, suc, ◌+◌, nat_lt, if◌then◌else◌, List, [], ◌∷◌, ◌++◌, take, drop, length, Option, None, Some, Result, Ok, Err}
+use Rattle.std.specs.List.{flat_map}
 use Rattle.refusal.specs.declared.kind.Kind.TheVariants.{InlineTooDeep}
 use Rattle.refusal.specs.declared.place.Place.{Place}
 use Rattle.refusal.specs.Place.{in_binary}
@@ -11,7 +12,7 @@ use Rattle.piece_model.specs.Pieces.{InUnit, and_then, pieces}
 use Rattle.way_model.specs.Way.{Info}
 use Rattle.way_model.specs.Origin.{origin}
 use Rattle.tree_model.specs.Members.{Told, call_told, function_told, is_call, is_function}
-use Rattle.tree_model.specs.Frames.{Frame, SoFar, all_members, behind_call, behind_function, behind_other, behind_unit, frame_above, left_out, nothing, one_deeper, outside}
+use Rattle.tree_model.specs.Depths.{Standing, calls_on, inlined_into, way_up}
 
 -- One step, and behind it the next, which knows what came of it.
 infixl 10 ◌>>=◌
@@ -29,6 +30,30 @@ pub record Source : Type 0 where
   pub sections : RangeSections
   pub info : Info
 
+-- The functions so far, each a list of members: itself, then the calls inlined into it; and how many pieces the entries
+-- have.
+pub record Tree : Type 0 where
+  pub functions : List (List Told)
+  pub pieces : ℕ
+
+-- A function more, which gets the next number.
+abbrev pub with_function : Told → Tree → Tree
+with_function function tree = record {
+  functions = tree.functions ++ (function ∷ []) ∷ [];
+  pieces = tree.pieces + length function.pieces;
+}
+
+-- A call more behind the members of the function of a number.
+abbrev pub with_member : {T : Type 0} → ℕ → T → List (List T) → List (List T)
+with_member number call [] = []
+with_member zero call (function ∷ rest) = (function ++ call ∷ []) ∷ rest
+with_member (suc number) call (function ∷ rest) = function ∷ with_member number call rest
+
+-- The same, where the call is of a function.
+abbrev pub with_call : {T : Type 0} → Option ℕ → T → List (List T) → List (List T)
+with_call None call functions = functions
+with_call (Some number) call functions = with_member number call functions
+
 -- The deepest that inlined calls can stand.
 abbrev pub max_calls : ℕ
 max_calls = 255
@@ -37,42 +62,47 @@ abbrev pub not_too_deep : ℕ → ℕ → Result (Unit {0}) Place
 not_too_deep at calls = if nat_lt max_calls calls then Err (in_binary at InlineTooDeep) else Ok tt
 
 -- A subprogram with these pieces: a function, where it has any.
-abbrev pub function_with : Source → Entry → SoFar Told → List (ℕ × ℕ) → Result (SoFar Told) Place
-function_with source entry so_far [] = Ok (behind_other entry.depth outside 0 so_far)
-function_with source entry so_far (piece ∷ more) = do
+abbrev pub function_with : Source → Entry → Tree → List (ℕ × ℕ) → Result Tree Place
+function_with source entry tree [] = Ok tree
+function_with source entry tree (piece ∷ more) = do
   origin ← origin source.sections.texts source.info entry
-  Ok (behind_function entry.depth (function_told entry (piece ∷ more) origin) (length (piece ∷ more)) so_far)
+  Ok (with_function (function_told entry (piece ∷ more) origin) tree)
 
-unfoldable pub next_function : Source → InUnit → Entry → SoFar Told → Result (SoFar Told) Place
-next_function source of entry so_far = do
-  pieces ← pieces source.file of so_far.pieces entry
-  function_with source entry so_far pieces
+unfoldable pub next_function : Source → InUnit → Entry → Tree → Result Tree Place
+next_function source of entry tree = do
+  pieces ← pieces source.file of tree.pieces entry
+  function_with source entry tree pieces
 
--- An inlined subroutine below a frame with these pieces: a call, where it has any.
-abbrev pub call_with : Source → Entry → Frame → SoFar Told → List (ℕ × ℕ) → Result (SoFar Told) Place
-call_with source entry above so_far [] = Ok (behind_other entry.depth (left_out above) 0 so_far)
-call_with source entry above so_far (piece ∷ more) = do
+-- An inlined subroutine with these pieces, so many calls deep, itself included: a call, where it has any. It is a
+-- member where it is inlined into the function of a number.
+abbrev pub call_with : Source → Option ℕ → ℕ → Entry → Tree → List (ℕ × ℕ) → Result Tree Place
+call_with source number calls entry tree [] = Ok tree
+call_with source number calls entry tree (piece ∷ more) = do
   origin ← origin source.sections.texts source.info entry
-  Ok (behind_call entry.depth (one_deeper above) (call_told (above.calls + 1) entry (piece ∷ more) origin)
-      (length (piece ∷ more)) so_far)
+  Ok (record {
+    functions = with_call number (call_told calls entry (piece ∷ more) origin) tree.functions;
+    pieces = tree.pieces + length (piece ∷ more);
+  })
 
-unfoldable pub next_call : Source → InUnit → Entry → Frame → SoFar Told → Result (SoFar Told) Place
-next_call source of entry above so_far = do
-  not_too_deep entry.at (above.calls + 1)
-  pieces ← pieces source.file of so_far.pieces entry
-  call_with source entry above so_far pieces
+-- The next inlined subroutine, which has a way up, behind so many functions in the units before.
+unfoldable pub next_call : Source → InUnit → ℕ → List Standing → Entry → Tree → Result Tree Place
+next_call source of before way entry tree = do
+  not_too_deep entry.at (length (calls_on way) + 1)
+  pieces ← pieces source.file of tree.pieces entry
+  call_with source (inlined_into source.file of before way) (length (calls_on way) + 1) entry tree pieces
 
--- The next entry of a unit. One that is neither a subprogram nor an inlined subroutine is passed through.
-unfoldable pub next_entry : Source → InUnit → Entry → SoFar Told → Result (SoFar Told) Place
-next_entry source of entry so_far =
-    if is_function entry then next_function source of entry so_far
-    else (if is_call entry then next_call source of entry (frame_above entry.depth so_far.frames) so_far
-    else Ok (behind_other entry.depth (frame_above entry.depth so_far.frames) 0 so_far))
+-- The next entry of a unit, with those of the unit before it, the last one first. One that is neither a subprogram nor
+-- an inlined subroutine tells nothing.
+unfoldable pub next_entry : Source → InUnit → ℕ → List Entry → Entry → Tree → Result Tree Place
+next_entry source of before earlier entry tree =
+    if is_function entry then next_function source of entry tree
+    else (if is_call entry then next_call source of before (way_up entry.depth earlier) entry tree else Ok tree)
 
 -- Entries one behind the other.
-abbrev pub next_entries : Source → InUnit → List Entry → SoFar Told → Result (SoFar Told) Place
-next_entries source of [] so_far = Ok so_far
-next_entries source of (entry ∷ rest) so_far = next_entry source of entry so_far >>= next_entries source of rest
+abbrev pub next_entries : Source → InUnit → ℕ → List Entry → List Entry → Tree → Result Tree Place
+next_entries source of before earlier [] tree = Ok tree
+next_entries source of before earlier (entry ∷ rest) tree =
+    next_entry source of before earlier entry tree >>= next_entries source of before (entry ∷ earlier) rest
 
 -- The entries of a unit.
 abbrev pub entries_of_unit : List Entry → model.Unit → List Entry
@@ -88,20 +118,19 @@ in_unit source number unit base = record {
 }
 
 -- The next unit: its base address, then its entries.
-unfoldable pub next_unit : Source → ℕ → model.Unit → SoFar Told → Result (SoFar Told) Place
-next_unit source number unit so_far = do
+unfoldable pub next_unit : Source → ℕ → model.Unit → Tree → Result Tree Place
+next_unit source number unit tree = do
   base ← base_address source.sections.texts source.info.units number
-  next_entries source (in_unit source number unit base) (entries_of_unit source.info.units.entries unit)
-      (behind_unit so_far)
+  next_entries source (in_unit source number unit base) (length tree.functions) []
+      (entries_of_unit source.info.units.entries unit) tree
 
 -- Units one behind the other, the first having a number.
-abbrev pub next_units : Source → ℕ → List model.Unit → SoFar Told → Result (SoFar Told) Place
-next_units source number [] so_far = Ok so_far
-next_units source number (unit ∷ rest) so_far =
-    next_unit source number unit so_far >>= next_units source (number + 1) rest
+abbrev pub next_units : Source → ℕ → List model.Unit → Tree → Result Tree Place
+next_units source number [] tree = Ok tree
+next_units source number (unit ∷ rest) tree = next_unit source number unit tree >>= next_units source (number + 1) rest
 
 -- All functions of a file with their inlined calls, in the order of the functions' entries, or the first bad place.
 unfoldable pub members : Source → Result (List Told) Place
 members source = do
-  all ← next_units source 0 source.info.units.units nothing
-  Ok (all_members all)
+  tree ← next_units source 0 source.info.units.units (record { functions = []; pieces = 0 })
+  Ok (flat_map (λ function. function) tree.functions)

@@ -9,4 +9,4 @@
 
 mod laws;
 
-pub use laws::{members_are_by_depths, read_entries_go_down};
+pub use laws::read_entries_go_down;

@@ -1,5 +1,6 @@
 use Rattle.std.proofs.Common.{◌≡◌, ◌<◌, length, ap, ◌∙◌, arith, rules}
-use Rattle.tree_model.specs.Frames.{Frame, behind_other}
+use Rattle.member_lists.specs.declared.frame.Frame.{Frame}
+use Rattle.member_lists.specs.Frames.{behind_other}
 use Rattle.unit_model.specs.Entries.{Entry}
 use Rattle.entry_pieces.specs.Told.{in_unit}
 use Rattle.inline_tree.specs.Told.{source_of}

@@ -1,13 +1,8 @@
--- The functions so far, each with the calls inlined into it, and where the next entry stands among them.
-use Rattle.std.specs.Prelude.{ℕ, zero, suc, ◌+◌, ◌-◌, List, [], ◌∷◌, ◌++◌, take, length, slice_get, Option, None, Some, unwrap_or}
+-- The functions so far, each with the calls inlined into it, and a frame for each entry that the next may stand below.
+use Rattle.std.specs.Prelude.{ℕ, ◌+◌, nat_lt, if◌then◌else◌, List, [], ◌∷◌, ◌++◌, length, None, Some}
 use Rattle.std.specs.List.{flat_map}
-
--- Where an entry stands: how many inlined subroutines there are on its way up to the nearest subprogram, itself
--- included, and the number of the function that it is or is inlined into. It is of none where one on that way, or the
--- subprogram, has no pieces.
-pub record Frame : Type 0 where
-  pub calls : ℕ
-  pub function : Option ℕ
+use Rattle.tree_model.specs.Tree.{with_call}
+use Rattle.member_lists.specs.declared.frame.Frame.{Frame}
 
 -- An entry that stands below no subprogram and no inlined subroutine, or a subprogram without pieces.
 abbrev pub outside : Frame
@@ -24,42 +19,34 @@ one_deeper above = record { calls = above.calls + 1; function = above.function }
 abbrev pub left_out : Frame → Frame
 left_out above = record { calls = above.calls + 1; function = None }
 
--- The frames of the entries that one at a depth stands below, the outermost first.
-abbrev pub frames_above : ℕ → List Frame → List Frame
-frames_above depth frames = take depth frames
+-- Of frames with the depths of their entries, the innermost first, those of the entries that one at a depth stands
+-- below.
+abbrev pub frames_above : ℕ → List (ℕ × Frame) → List (ℕ × Frame)
+frames_above depth [] = []
+frames_above depth (frame ∷ rest) = if nat_lt frame.0 depth then frame ∷ rest else frames_above depth rest
 
--- The last of some frames.
-abbrev pub last_frame : List Frame → Frame
-last_frame frames = unwrap_or (slice_get frames (length frames - 1)) outside
+-- The first of some frames.
+abbrev pub first_frame : List (ℕ × Frame) → Frame
+first_frame [] = outside
+first_frame (frame ∷ rest) = frame.1
 
 -- The frame of the entry right above one at a depth.
-abbrev pub frame_above : ℕ → List Frame → Frame
-frame_above depth frames = last_frame (frames_above depth frames)
+abbrev pub frame_above : ℕ → List (ℕ × Frame) → Frame
+frame_above depth frames = first_frame (frames_above depth frames)
 
 -- The frames down to an entry at a depth.
-abbrev pub frames_to : ℕ → Frame → List Frame → List Frame
-frames_to depth frame frames = frames_above depth frames ++ frame ∷ []
+abbrev pub frames_to : ℕ → Frame → List (ℕ × Frame) → List (ℕ × Frame)
+frames_to depth frame frames = (depth, frame) ∷ frames_above depth frames
 
 -- The functions so far, each a list of members: itself, then the calls inlined into it; how many pieces the entries
--- have; and the frames of the entries down to the last one of the unit.
+-- have; and the frames of the last entry of the unit and of those that it stands below, with their depths.
 pub record SoFar (T : Type 0) : Type 0 where
   pub functions : List (List T)
   pub pieces : ℕ
-  pub frames : List Frame
+  pub frames : List (ℕ × Frame)
 
 abbrev pub nothing : {T : Type 0} → SoFar T
 nothing = record { functions = []; pieces = 0; frames = [] }
-
--- A call more behind the members of the function of a number.
-abbrev pub with_member : {T : Type 0} → ℕ → T → List (List T) → List (List T)
-with_member number call [] = []
-with_member zero call (function ∷ rest) = (function ++ call ∷ []) ∷ rest
-with_member (suc number) call (function ∷ rest) = function ∷ with_member number call rest
-
--- The same, where the call is of a function.
-abbrev pub with_call : {T : Type 0} → Option ℕ → T → List (List T) → List (List T)
-with_call None call functions = functions
-with_call (Some number) call functions = with_member number call functions
 
 -- Behind an entry at a depth that is no member, with its frame and the number of its pieces.
 abbrev pub behind_other : {T : Type 0} → ℕ → Frame → ℕ → SoFar T → SoFar T

@@ -34,10 +34,12 @@ pub record Reaches (command : Command) (k opens opens_after : ℕ) : Type 0 wher
 -- The files up to some one of the command's were opened.
 abbrev pub ReachesSome : Command → ℕ → ℕ → Type 0
 ReachesSome command opens opens_after =
-    (k : ℕ) × (k ≤ length (files_of command)) × (opens_after ≡ opens_behind opens (opens_of (take k (files_of command))))
+    (k : ℕ) × (k ≤ length (files_of command))
+    × (opens_after ≡ opens_behind opens (opens_of (take k (files_of command))))
 
--- As many files were opened as the status tells: all that the command has where they were good, those up to a file that
--- is missing, bad or could not be read, and those up to some file where memory was refused. A command is no `Usage`.
+-- As many files were opened as the status tells: all that the command has where they were good, those up to a file
+-- that is missing, bad or could not be read, and those up to some file where memory was refused. A command is no
+-- `Usage`.
 abbrev pub AgreesWithOpens : Command → Status → ℕ → ℕ → Type 0
 AgreesWithOpens command Done opens opens_after = ReachesAll command opens opens_after
 AgreesWithOpens command (CheckFailed line) opens opens_after = ReachesAll command opens opens_after

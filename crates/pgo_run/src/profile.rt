@@ -25,7 +25,8 @@ pub(crate) fn output<I: Inputs>(
     perf: &[u8],
     inputs: &mut I,
 ) -> Result<Vec<u8>, Halt>
-    ensures carried { Carries (profile_command (told_options options.entry) binary.now perf.now) (I.store inputs.old) result
+    ensures carried { Carries (profile_command (told_options options.entry) binary.now perf.now)
+        (I.store inputs.old) result
         (I.opens inputs.old) (I.opens inputs.new) (I.faults inputs.old) (I.faults inputs.new) }
     ensures store { I.store inputs.new ≡ I.store inputs.old }
 {

@@ -29,7 +29,8 @@ pub(crate) fn output<I: Inputs>(
     address: u64,
     inputs: &mut I,
 ) -> Result<Vec<u8>, Halt>
-    ensures carried { Carries (where_command (told_options options.entry) binary.now address) (I.store inputs.old) result
+    ensures carried { Carries (where_command (told_options options.entry) binary.now address)
+        (I.store inputs.old) result
         (I.opens inputs.old) (I.opens inputs.new) (I.faults inputs.old) (I.faults inputs.new) }
     ensures store { I.store inputs.new ≡ I.store inputs.old }
 {

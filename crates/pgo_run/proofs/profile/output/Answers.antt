@@ -51,7 +51,7 @@ returns-in_err-text-clause-carried g c =
     let command : Command = profile_command (told_options c.args.options) c.args.binary.now c.args.perf.now in
     let good = judged-good 1 (first_bad_of_binary c.deref.result.now) c.read.result _ c.in_ok-binary.binary c.read.ensures (sym c.in_file.ensures ∙ c.in_ok-binary.was) in
     let text = sampled-text _ c.args.perf.now (option_map (λ name. record { name = name.now; segments = c.deref-2.result.now }) c.args.options.map) c.in_ok-counts.counts
-        (subst (λ s. IfSome s (λ files. SamplesFile (files c.args.perf.now) (option_map (λ name. record { name = name.now; segments = c.deref-2.result.now }) c.args.options.map) (Ok c.in_ok-counts.counts))) c.read_file.ensures.store c.in_ok-counts.ensures.file) in
+    (subst (λ s. IfSome s (λ files. SamplesFile (files c.args.perf.now) (option_map (λ name. record { name = name.now; segments = c.deref-2.result.now }) c.args.options.map) (Ok c.in_ok-counts.counts))) c.read_file.ensures.store c.in_ok-counts.ensures.file) in
     Reached-no-memory command _ (c.deref.result.now ∷ text.0 ∷ []) [] _ _ _ _ _
     (Reached-more command _ (c.deref.result.now ∷ []) c.args.perf.now (λ before. first_bad_of_text 2) [] text.0 _ _ _
     (Reached-more command _ [] c.args.binary.now (λ before. first_bad_of_binary) (record { source = named c.args.perf.now; judge = λ before. first_bad_of_text 2 } ∷ []) c.deref.result.now _ _ _
@@ -66,7 +66,7 @@ returns-clause-carried g c =
     let command : Command = profile_command (told_options c.args.options) c.args.binary.now c.args.perf.now in
     let good = judged-good 1 (first_bad_of_binary c.deref.result.now) c.read.result _ c.in_ok-binary.binary c.read.ensures (sym c.in_file.ensures ∙ c.in_ok-binary.was) in
     let text = sampled-text _ c.args.perf.now (option_map (λ name. record { name = name.now; segments = c.deref-2.result.now }) c.args.options.map) c.in_ok-counts.counts
-        (subst (λ s. IfSome s (λ files. SamplesFile (files c.args.perf.now) (option_map (λ name. record { name = name.now; segments = c.deref-2.result.now }) c.args.options.map) (Ok c.in_ok-counts.counts))) c.read_file.ensures.store c.in_ok-counts.ensures.file) in
+    (subst (λ s. IfSome s (λ files. SamplesFile (files c.args.perf.now) (option_map (λ name. record { name = name.now; segments = c.deref-2.result.now }) c.args.options.map) (Ok c.in_ok-counts.counts))) c.read_file.ensures.store c.in_ok-counts.ensures.file) in
     Reached-all command _ (c.deref.result.now ∷ text.0 ∷ []) c.in_ok-text.text _ _ _ _
     (Reached-more command _ (c.deref.result.now ∷ []) c.args.perf.now (λ before. first_bad_of_text 2) [] text.0 _ _ _
     (Reached-more command _ [] c.args.binary.now (λ before. first_bad_of_binary) (record { source = named c.args.perf.now; judge = λ before. first_bad_of_text 2 } ∷ []) c.deref.result.now _ _ _

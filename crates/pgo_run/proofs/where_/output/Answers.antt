@@ -26,7 +26,7 @@ returns-in_err-line-clause-carried g c =
 pub returns-clause-carried : goal.returns-clause-carried
 returns-clause-carried g c =
     let good = judged-good {T = Vec ℕ} 1 (first_bad_of_binary c.deref.result.now) c.line_of.result
-        (λ out. out.items ≡ where_text (place_of_address c.deref.result.now c.args.options.base c.args.address)) c.in_ok-line.line c.line_of.ensures (sym c.in_file.ensures ∙ c.in_ok-line.was) in
+    (λ out. out.items ≡ where_text (place_of_address c.deref.result.now c.args.options.base c.args.address)) c.in_ok-line.line c.line_of.ensures (sym c.in_file.ensures ∙ c.in_ok-line.was) in
     Reached-all (where_command (told_options c.args.options) c.args.binary.now c.args.address) _ (c.deref.result.now ∷ []) c.in_ok-line.line _ _ _ _
     (Reached-more (where_command (told_options c.args.options) c.args.binary.now c.args.address) _ [] c.args.binary.now (λ before. first_bad_of_binary) [] c.deref.result.now _ _ _
     (Reached-start (where_command (told_options c.args.options) c.args.binary.now c.args.address) _ _)

@@ -1,10 +1,10 @@
 -- The definitions on worked values.
 use Rattle.std.proofs.Common.{◌≡◌, [], ◌∷◌, refl, Some, None}
-use Rattle.std.specs.Prelude.{codes}
+use Rattle.std.specs.Prelude.{codes, pos, negsuc}
 use Rattle.std.specs.Fmt.{digits}
 use Rattle.text_model.specs.Lines.{lines_of, ended_lines_of}
 use Rattle.text_model.specs.Fields.{fields_of}
-use Rattle.text_model.specs.Numbers.{number_of, hex_of, prefixed_of, hex_text, decimal_text}
+use Rattle.text_model.specs.Numbers.{number_of, hex_of, prefixed_of, hex_text, decimal_text, signed_of, signed_text}
 
 three_lines : lines_of (codes "ab\n\nc\r") ≡ codes "ab" ∷ [] ∷ codes "c\r" ∷ []
 unfolding lines_of
@@ -74,3 +74,12 @@ a_hex_text = refl
 zeros_in_front : (prefixed_of (codes "0x00000000000000000001") ≡ Some 1) × (hex_text 1 ≡ codes "0x1") × (hex_text 0 ≡ codes "0x0") × (decimal_text 0 ≡ codes "0")
 unfolding prefixed_of number_of hex_text digits
 zeros_in_front = (refl, refl, refl, refl)
+
+signed_numbers : (signed_of (codes "-0012") ≡ Some (negsuc 11)) × (signed_of (codes "7") ≡ Some (pos 7)) × (signed_of (codes "-0") ≡ Some (pos 0))
+    × (signed_of (codes "--1") ≡ None) × (signed_of (codes "-") ≡ None) × (signed_of (codes "+1") ≡ None)
+unfolding signed_of number_of
+signed_numbers = (refl, refl, refl, refl, refl, refl)
+
+signed_texts : (signed_text (negsuc 11) ≡ codes "-12") × (signed_text (pos 7) ≡ codes "7") × (signed_text (pos 0) ≡ codes "0")
+unfolding digits
+signed_texts = (refl, refl, refl)

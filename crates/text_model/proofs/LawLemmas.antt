@@ -1,15 +1,17 @@
 -- The laws.
-use Rattle.std.proofs.Common.{◌≡◌, ℕ, zero, suc, ◌<◌, ◌||◌, Bool, true, false, List, [], ◌∷◌, ◌++◌, map, filter, refl, arith, sym, ◌∙◌, ap, length, append_assoc, Some, All}
+use Rattle.std.proofs.Common.{◌≡◌, ℕ, zero, suc, ◌<◌, ◌||◌, Bool, true, false, List, [], ◌∷◌, ◌++◌, map, filter, refl, arith, sym, ◌∙◌, ap, length, append_assoc, Some, All, inl, inr}
+use Rattle.std.proofs.Common.{subst}
+use Rattle.std.specs.Prelude.{ℤ, pos, negsuc, drop, unsigned_abs, nat_eq, ◌^◌}
 use Rattle.std.specs.Char.{is_digit, digit_value}
 use Rattle.std.specs.List.{AllByRecursion, flat_map, list_all, list_any}
 use Rattle.std.specs.Fmt.{digits, decimal}
 use Rattle.std.specs.Str.Parse.{AllDigits, IsNumeral, digits_value}
-use Rattle.std.proofs.lemmas.Bool.{and_parts, lt-ltb, ltb-true, eqb-true}
+use Rattle.std.proofs.lemmas.Bool.{and_parts, lt-ltb, ltb-true, eqb-true, ne_eqb, cases_eq}
 use Rattle.std.proofs.lemmas.Fmt.{digits_is_IsNumeral, decimal_is_IsNumeral_wide}
 use Rattle.text_model.specs.Fields.{fields_of, is_blank, is_filled}
 use Rattle.text_model.specs.Lines.{is_line_feed, lines_of, ended_lines_of}
-use Rattle.text_model.specs.Numbers.{hex_text, number_of}
-use Rattle.text_model.specs.Laws.{ended, HasNoLineFeed, IsTextOf, LinesJoin, LinesSplit, IsSpaced, spaced, IsLineOf, FieldsJoin, FieldsSplit, DecimalTextIsRead, HexTextIsRead}
+use Rattle.text_model.specs.Numbers.{hex_text, number_of, has_minus, signed_of, signed_text}
+use Rattle.text_model.specs.Laws.{ended, HasNoLineFeed, IsTextOf, LinesJoin, LinesSplit, IsSpaced, spaced, IsLineOf, FieldsJoin, FieldsSplit, DecimalTextIsRead, HexTextIsRead, SignedTextIsRead}
 use Rattle.text_model.proofs.LineLemmas.{lines_of-nil, lines_of-ended, lines_of-last, ended_lines_of-ended, ended_lines_of-last}
 use Rattle.text_model.proofs.FieldLemmas.{fields_of-nil, fields_of-blank, fields_of-ended, fields_of-last}
 use Rattle.text_model.proofs.NumberLemmas.{number_of-digits, prefixed_of-behind}
@@ -27,6 +29,23 @@ pub decimal_text_is_read : DecimalTextIsRead
 decimal_text_is_read n small =
     let read = decimal_is_IsNumeral_wide n (omega (arith, small)) in
     numeral_read 10 (decimal n) n read.0 read.1
+
+no_minus : (ds : List ℕ) → IsNumeral 10 ds → has_minus ds ≡ false
+no_minus [] numeral = absurd (omega (arith, numeral.0))
+no_minus (d ∷ ds) numeral =
+    elim (cases_eq d 45) [
+      | inl is ↦ let small : digit_value 45 < 10 = subst (λ (b : ℕ). digit_value b < 10) is numeral.1.0 in absurd (omega (arith, small))
+      | inr other ↦ rw (ne_eqb 45 d (λ e. other (sym e)))
+    ]
+
+pub signed_text_is_read : SignedTextIsRead
+unfolding signed_of
+signed_text_is_read (pos n) small =
+    let read = decimal_is_IsNumeral_wide n (omega (arith, small)) in
+    rw (no_minus (decimal n) read.0, numeral_read 10 (decimal n) n read.0 read.1)
+signed_text_is_read (negsuc n) small =
+    let read = decimal_is_IsNumeral_wide (suc n) (omega (arith, small)) in
+    rw (numeral_read 10 (decimal (suc n)) (suc n) read.0 read.1)
 
 pub hex_text_is_read : HexTextIsRead
 unfolding hex_text

@@ -8,7 +8,9 @@ use Rattle.std.proofs.lemmas.Bool.{lt-ltb, eqb-true}
 use Rattle.std.proofs.lemmas.List.Folds.{list_all_at}
 use Rattle.std.specs.Cmp.Lexicographic.{pointwise}
 use Rattle.std.proofs.lemmas.Cmp.{nat_list_eq_equiv}
-use Rattle.text_model.specs.Numbers.{number_of, has_prefix, hex_of, prefixed_of}
+use Rattle.std.specs.Prelude.{pos}
+use Rattle.std.specs.Option.{option_map}
+use Rattle.text_model.specs.Numbers.{number_of, has_prefix, hex_of, prefixed_of, has_minus, below_zero, decimal_of, signed_of}
 
 pub number_of-empty : (base : ℕ) (text : List ℕ) → (length text == 0) ≡ true → number_of base text ≡ None
 unfolding number_of
@@ -39,3 +41,15 @@ prefixed_of-behind text is = rw is
 pub prefixed_of-none : (text : List ℕ) → has_prefix text ≡ false → prefixed_of text ≡ None
 unfolding prefixed_of
 prefixed_of-none text is = rw is
+
+-- the same of the sign
+pub has_minus_is : (text : List ℕ) (v : Bool) → pointwise nat_eq (take 1 text) (codes "-") ≡ v → has_minus text ≡ v
+has_minus_is text v is = nat_list_eq_equiv.symm (codes "-") (take 1 text) ∙ is
+
+pub signed_of-behind : (text : List ℕ) → has_minus text ≡ true → signed_of text ≡ option_map below_zero (decimal_of (drop 1 text))
+unfolding signed_of
+signed_of-behind text is = rw is
+
+pub signed_of-plain : (text : List ℕ) → has_minus text ≡ false → signed_of text ≡ option_map pos (decimal_of text)
+unfolding signed_of
+signed_of-plain text is = rw is

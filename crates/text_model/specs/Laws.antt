@@ -1,11 +1,11 @@
 -- Laws that tie the definitions to a second way of saying them.
-use Rattle.std.specs.Prelude.{◌≡◌, ◌↔◌, ℕ, ◌+◌, ◌*◌, ◌<◌, ◌^◌, true, false, List, [], ◌∷◌, ◌++◌, length, map, filter, codes, Some}
+use Rattle.std.specs.Prelude.{◌≡◌, ◌↔◌, ℕ, ◌+◌, ◌*◌, ◌<◌, ◌^◌, true, false, List, [], ◌∷◌, ◌++◌, length, map, filter, codes, Some, ℤ, unsigned_abs}
 use Rattle.std.specs.Char.{digit_value, to_ascii_uppercase}
 use Rattle.std.specs.List.{AllByRecursion, flat_map, list_all, list_any}
 use Rattle.text_model.specs.Fields.{fields_of, is_blank, is_filled}
 use Rattle.text_model.specs.Lines.{is_line_feed, lines_of, ended_lines_of}
 use Rattle.text_model.specs.LineTests.{contains}
-use Rattle.text_model.specs.Numbers.{number_of, decimal_of, decimal_text, prefixed_of, hex_text}
+use Rattle.text_model.specs.Numbers.{number_of, decimal_of, decimal_text, signed_of, signed_text, prefixed_of, hex_text}
 
 -- A line as a text holds it, with the line feed that ends it.
 abbrev pub ended : List ℕ → List ℕ
@@ -78,6 +78,10 @@ ContainsIsPart = (text needle : List ℕ) → (contains text needle ≡ true) �
 -- A printed decimal number is read as that number.
 abbrev pub DecimalTextIsRead : Type 0
 DecimalTextIsRead = (n : ℕ) → n < 2 ^ 128 → decimal_of (decimal_text n) ≡ Some n
+
+-- A printed signed number is read as that number.
+abbrev pub SignedTextIsRead : Type 0
+SignedTextIsRead = (n : ℤ) → unsigned_abs n < 2 ^ 128 → signed_of (signed_text n) ≡ Some n
 
 -- A printed hexadecimal number is read as that number.
 abbrev pub HexTextIsRead : Type 0

@@ -1,7 +1,7 @@
 // The definitions seen from the other side: what is printed is read, a number is the sum of
 // its digits, and lines and fields are the text again.
 ghost use Rattle.text_model.specs.Laws.{ContainsIsPart, FieldsJoin, FieldsSplit, LinesJoin, LinesSplit};
-ghost use Rattle.text_model.specs.Laws.{DecimalTextIsRead, HexTextIsRead};
+ghost use Rattle.text_model.specs.Laws.{DecimalTextIsRead, HexTextIsRead, SignedTextIsRead};
 ghost use Rattle.text_model.specs.Laws.{CapitalsSpellTheSame, LeadingZerosSpellNothing, NumbersAreByPlace};
 
 /// Lines with a line feed behind each, and then a rest without one, are the text.
@@ -47,4 +47,9 @@ pub fn decimal_text_is_read()
 /// A printed hexadecimal number is read as that number.
 pub fn hex_text_is_read()
     ensures { HexTextIsRead }
+{}
+
+/// A printed signed number is read as that number.
+pub fn signed_text_is_read()
+    ensures { SignedTextIsRead }
 {}

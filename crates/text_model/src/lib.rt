@@ -7,5 +7,5 @@ mod laws;
 
 pub use laws::{
     contains_is_part, decimal_text_is_read, fields_join, fields_split, hex_text_is_read,
-    lines_join, lines_split,
+    lines_join, lines_split, signed_text_is_read,
 };

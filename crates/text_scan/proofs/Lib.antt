@@ -1,4 +1,5 @@
 mod Examples
 pub mod DecimalLemmas
 pub mod ReadLemmas
+pub mod WideLemmas
 pub mod WriteLemmas

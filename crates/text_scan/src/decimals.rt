@@ -1,12 +1,16 @@
-ghost use Rattle.std.specs.Prelude.{◌≡◌, None, Some, if◌then◌else◌};
+ghost use Rattle.std.specs.Prelude.{◌≡◌, ◌+◌, ◌*◌, ◌<◌, ℕ, Option, pos, None, Some, if◌then◌else◌};
 ghost use Rattle.std.specs.Char.{digit_value, is_digit};
-ghost use Rattle.text_model.specs.Numbers.{decimal_of};
-ghost use Rattle.text_scan.specs.Numbers.{within};
+ghost use Rattle.std.specs.Option.{option_map};
+ghost use Rattle.text_model.specs.Numbers.{below_zero, decimal_of, signed_of};
+ghost use Rattle.text_scan.specs.Numbers.{fitting, within, within_signed};
 
 use crate::read::NumberFault;
 
 /// The least number that does not fit; a number from here on is kept as this one.
 const TOO_LARGE: u128 = 1 << 64;
+
+/// How far numbers of 64 bits with sign go below zero; above it they go one less far.
+const MOST_BELOW_ZERO: u64 = 1 << 63;
 
 /// The number that decimal digits spell, one or more and nothing else.
 ///
@@ -41,5 +45,78 @@ fn decimal_digit(byte: u8) -> Option<u128>
     match byte {
         b'0'..=b'9' => Some((byte - b'0') as u128),
         _ => None,
+    }
+}
+
+/// The number of up to 128 bits that decimal digits spell, one or more and nothing else.
+///
+/// Any number of leading zeros is accepted.
+///
+/// # Errors
+/// `NumberTooLarge` where the number is 2^128 or more, and `NotNumber` for every other text.
+pub fn wide(text: &[u8]) -> Result<u128, NumberFault>
+    ensures { result ≡ within 128 (decimal_of text.now) }
+{
+    if text.is_empty() {
+        return Err(NumberFault::NotNumber);
+    }
+    let mut value = Some(0);
+    for byte in text {
+        let Some(digit) = decimal_digit(*byte) else {
+            return Err(NumberFault::NotNumber);
+        };
+        value = with_digit(value, digit);
+    }
+    match value {
+        Some(value) => Ok(value),
+        None => Err(NumberFault::NumberTooLarge),
+    }
+}
+
+/// A number with one digit more; `None` stands for each that does not fit.
+fn with_digit(value: Option<u128>, digit: u128) -> Option<u128>
+    requires { digit < 10 }
+    ensures { (n : ℕ) → value ≡ fitting n → result ≡ fitting (n * 10 + digit) }
+{
+    value?.checked_mul(10)?.checked_add(digit)
+}
+
+/// The number of 64 bits with sign that decimal digits spell, one or more, and a `-` may lead.
+///
+/// Any number of leading zeros is accepted, and `-0` is 0.
+///
+/// # Errors
+/// `NumberTooLarge` where the number is 2^63 or more or below -2^63, and `NotNumber` for every
+/// other text.
+pub fn signed(text: &[u8]) -> Result<i64, NumberFault>
+    ensures { result ≡ within_signed (signed_of text.now) }
+{
+    match text.strip_prefix(b"-") {
+        Some(digits) => negative(decimal(digits)),
+        None => positive(decimal(text)),
+    }
+}
+
+/// The number as one with sign, if it fits.
+fn positive(size: Result<u64, NumberFault>) -> Result<i64, NumberFault>
+    ensures { (n : Option ℕ) → size ≡ within 64 n → result ≡ within_signed (option_map pos n) }
+{
+    match size {
+        Ok(size) if size < MOST_BELOW_ZERO => Ok(size as i64),
+        Ok(_) => Err(NumberFault::NumberTooLarge),
+        Err(fault) => Err(fault),
+    }
+}
+
+/// The number below zero of this size, if it fits.
+fn negative(size: Result<u64, NumberFault>) -> Result<i64, NumberFault>
+    ensures { (n : Option ℕ) → size ≡ within 64 n
+        → result ≡ within_signed (option_map below_zero n) }
+{
+    match size {
+        Ok(size) if size < MOST_BELOW_ZERO => Ok(-(size as i64)),
+        Ok(MOST_BELOW_ZERO) => Ok(i64::MIN),
+        Ok(_) => Err(NumberFault::NumberTooLarge),
+        Err(fault) => Err(fault),
     }
 }

@@ -1,6 +1,6 @@
 ghost use Rattle.std.specs.Prelude.{◌≡◌, ◌++◌, ◌<◌, ◌≤◌, false, drop, OnErr, OnOk};
 ghost use Rattle.std.specs.Fmt.{digit_glyph};
-ghost use Rattle.text_model.specs.Numbers.{decimal_text, hex_text};
+ghost use Rattle.text_model.specs.Numbers.{decimal_text, hex_text, signed_text};
 
 use itoa::Buffer;
 use refusal::NoMemory;
@@ -18,6 +18,19 @@ pub fn push_number(out: &mut Vec<u8>, n: u128) -> Result<(), NoMemory>
 {
     let mut buffer = Buffer::new();
     out.extend_from_slice(buffer.format(n).as_bytes())?;
+    Ok(())
+}
+
+/// Appends `n` in decimal digits, without leading zeros, behind a `-` where it is below 0.
+///
+/// # Errors
+/// `NoMemory`, and `out` is as it was.
+pub fn push_signed(out: &mut Vec<u8>, n: i64) -> Result<(), NoMemory>
+    ensures appended { OnOk result (out.new.items ≡ out.old.items ++ signed_text n) }
+    ensures unchanged { OnErr result (out.new.items ≡ out.old.items) }
+{
+    let mut digits = Buffer::new();
+    out.extend_from_slice(digits.format(n).as_bytes())?;
     Ok(())
 }
 

@@ -1,5 +1,8 @@
 use std::test::Fail;
-use text_scan::{Fields, Lines, NumberFault, decimal, hex, prefixed, push_hex, push_number};
+use text_scan::{
+    Fields, Lines, NumberFault, decimal, hex, prefixed, push_hex, push_number, push_signed, signed,
+    wide,
+};
 
 #[test]
 fn lines_and_their_fields_come_in_order(rt: HostRuntime) -> Result<(), Fail> {
@@ -82,4 +85,56 @@ fn decimal_numbers_are_read_exactly(rt: HostRuntime) {
     for (text, want) in cases {
         assert_eq!(rt; decimal(text), want);
     }
+}
+
+#[test]
+fn wide_numbers_are_read_exactly(rt: HostRuntime) {
+    let cases: [(&[u8], Result<u128, NumberFault>); 5] = [
+        (b"0000000000000000000000000000000000000000000000000", Ok(0)),
+        (b"340282366920938463463374607431768211455", Ok(u128::MAX)),
+        (
+            b"340282366920938463463374607431768211456",
+            Err(NumberFault::NumberTooLarge),
+        ),
+        (
+            b"340282366920938463463374607431768211456x",
+            Err(NumberFault::NotNumber),
+        ),
+        (b"", Err(NumberFault::NotNumber)),
+    ];
+    for (text, want) in cases {
+        assert_eq!(rt; wide(text), want);
+    }
+}
+
+#[test]
+fn signed_numbers_are_read_exactly(rt: HostRuntime) {
+    let cases: [(&[u8], Result<i64, NumberFault>); 9] = [
+        (b"-0", Ok(0)),
+        (b"-00012", Ok(-12)),
+        (b"9223372036854775807", Ok(i64::MAX)),
+        (b"-9223372036854775808", Ok(i64::MIN)),
+        (b"9223372036854775808", Err(NumberFault::NumberTooLarge)),
+        (b"-9223372036854775809", Err(NumberFault::NumberTooLarge)),
+        (b"--1", Err(NumberFault::NotNumber)),
+        (b"-", Err(NumberFault::NotNumber)),
+        (b"+1", Err(NumberFault::NotNumber)),
+    ];
+    for (text, want) in cases {
+        assert_eq!(rt; signed(text), want);
+    }
+}
+
+#[test]
+fn signed_numbers_are_written_with_their_sign(rt: HostRuntime) -> Result<(), Fail> {
+    let mut out = Vec::new(rt.alloc());
+    for n in [i64::MIN, -10, 0, i64::MAX] {
+        push_signed(&mut out, n)?;
+        out.push(b' ')?;
+    }
+    assert_eq!(rt;
+        out.as_slice(),
+        b"-9223372036854775808 -10 0 9223372036854775807 ".as_slice()
+    );
+    Ok(())
 }

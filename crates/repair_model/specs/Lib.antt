@@ -1,0 +1,4 @@
+pub mod Judging
+pub mod Line
+pub mod Repair
+pub mod Text

@@ -95,7 +95,7 @@ abbrev pub bit_by_number : ℕ → Option Bool
 bit_by_number n = if n == 0 then Some false else (if n == 1 then Some true else None)
 
 unfoldable pub bit_of : List ℕ → Option Bool
-bit_of field = decimal_of field >>= bit_by_number
+bit_of field = place_of field >>= bit_by_number
 
 -- The field behind this word, where the word comes next, and the fields behind that.
 abbrev pub valued : List ℕ → List (List ℕ) → Option (List ℕ × List (List ℕ))
@@ -111,7 +111,7 @@ if_over line _ = None
 unfoldable pub function_line_of : List (List ℕ) → Option Line
 function_line_of (name ∷ word ∷ []) = if bytes_eq word (codes "flow") then Some (begins_flow name) else None
 function_line_of (name ∷ word ∷ root ∷ []) =
-    if bytes_eq word (codes "cut") then bit_of root >>= (λ root. Some (begins_cut name root)) else None
+    if bytes_eq word (codes "cut") then option_map (begins_cut name) (bit_of root) else None
 function_line_of _ = None
 
 -- What stands behind the count of a block: in P out Q.
@@ -148,18 +148,20 @@ block_line_of (number ∷ fields) = do
   weighed_of number known weight.1
 block_line_of _ = None
 
--- What ends an edge's line: count C.
-unfoldable pub taken_of : ℕ → ℕ → Option Weight → List (List ℕ) → Option Line
-taken_of from to weight fields = do
-  count ← valued (codes "count") fields
-  n ← place_of count.0
-  if_over (tells_edge from to weight n) count.1
+-- An edge and its count, where nothing stands behind.
+unfoldable pub taken_of : ℕ → ℕ → Option Weight → List ℕ → List (List ℕ) → Option Line
+taken_of from to weight count fields = do
+  count ← place_of count
+  if_over (tells_edge from to weight count) fields
 
 -- What stands behind the blocks of an edge: weight W, which may be missing, and count C.
 unfoldable pub joined_of : ℕ → ℕ → List (List ℕ) → Option Line
 joined_of from to (word ∷ field ∷ fields) =
-    if bytes_eq word (codes "weight") then weight_of field >>= (λ weight. taken_of from to (Some weight) fields)
-    else taken_of from to None (word ∷ field ∷ fields)
+    if bytes_eq word (codes "weight") then (do
+      weight ← weight_of field
+      count ← valued (codes "count") fields
+      taken_of from to (Some weight) count.0 count.1)
+    else (if bytes_eq word (codes "count") then taken_of from to None field fields else None)
 joined_of from to _ = None
 
 -- An edge's line behind its second word: N M, and what stands behind.

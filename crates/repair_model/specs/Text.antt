@@ -1,5 +1,5 @@
 -- The lines of a repair, and the repairs that lines spell.
-use Rattle.std.specs.Prelude.{ℕ, ◌+◌, Bool, false, true, List, [], ◌∷◌, ◌++◌, map, Option, None, Some, ℤ, pos, slice_index, slice_index_or, if◌then◌else◌}
+use Rattle.std.specs.Prelude.{ℕ, zero, suc, length, ◌+◌, Bool, false, true, List, [], ◌∷◌, ◌++◌, map, Option, None, Some, ℤ, pos, slice_index, slice_index_or, if◌then◌else◌}
 use Rattle.std.specs.List.{enumerate_from, flat_map}
 use Rattle.std.specs.Option.{unwrap_or}
 use Rattle.text_model.specs.Laws.{ended}
@@ -33,37 +33,36 @@ count_of_edge (flow counts ins outs) place = slice_index counts.edges place
 count_of_edge (cut root ins outs) place = 0
 
 -- The line of an edge in its place, with its weight or without.
-abbrev pub line_of_edge : Bool → Repair → ℕ × Edge → Line
-line_of_edge weighed repair (place, edge) =
-    tells_edge edge.from edge.to (if weighed then Some (slice_index_or repair.edge_weights place Unknown) else None)
-    (count_of_edge repair.solution place)
+abbrev pub line_of_edge : Bool → List Weight → Solution → ℕ × Edge → Line
+line_of_edge weighed weights solution (place, edge) =
+    tells_edge edge.from edge.to (if weighed then Some (slice_index_or weights place Unknown) else None)
+    (count_of_edge solution place)
 
 -- The line with which a repair ends.
-abbrev pub last_line : Repair → Line
-last_line repair = elim repair.solution [
-  | flow counts ins outs ↦ ends_flow repair.first
-  | cut root ins outs ↦ ends_cut repair.first repair.second
-]
+abbrev pub last_line : Solution → ℕ → ℕ → Line
+last_line (flow counts ins outs) first second = ends_flow first
+last_line (cut root ins outs) first second = ends_cut first second
 
--- The places of a list: from 0 on, as many as it has.
-abbrev pub places : {A : Type 0} → List A → List ℕ
-places xs = map (λ p. p.0) (enumerate_from 0 xs)
+-- Numbers from this one on, so many.
+abbrev pub numbers : ℕ → ℕ → List ℕ
+numbers from zero = []
+numbers from (suc count) = from ∷ numbers (from + 1) count
 
--- The lines of blocks, and those of edges.
-abbrev pub lines_of_blocks : Function → Repair → List Line
-lines_of_blocks fun repair =
-    map (λ place. line_of_block place (slice_index_or repair.weights place Unknown) repair.solution)
-    (places fun.blocks)
+-- The lines of so many blocks, and those of edges.
+abbrev pub lines_of_blocks : ℕ → List Weight → Solution → List Line
+lines_of_blocks count weights solution =
+    map (λ number. line_of_block number (slice_index_or weights number Unknown) solution) (numbers 0 count)
 
-abbrev pub lines_of_edges : Bool → Function → Repair → List Line
-lines_of_edges weighed fun repair =
-    map (line_of_edge weighed repair) (enumerate_from 0 (told_edges fun repair.solution))
+abbrev pub lines_of_edges : Bool → List Edge → List Weight → Solution → List Line
+lines_of_edges weighed edges weights solution = map (line_of_edge weighed weights solution) (enumerate_from 0 edges)
 
 -- All lines of a repair of a function, the edges with their weights or without.
 unfoldable pub lines_of_repair : Bool → Function → Repair → List Line
 lines_of_repair weighed fun repair =
     first_line fun.name repair.solution
-    ∷ (lines_of_blocks fun repair ++ (lines_of_edges weighed fun repair ++ last_line repair ∷ []))
+    ∷ (lines_of_blocks (length fun.blocks) repair.weights repair.solution
+    ++ (lines_of_edges weighed (told_edges fun repair.solution) repair.edge_weights repair.solution
+    ++ last_line repair.solution repair.first repair.second ∷ []))
 
 -- Lines as they are written.
 abbrev pub text_of_lines : List Line → List ℕ

@@ -4,3 +4,7 @@
 //! Definitions in `specs/`, with examples in `proofs/`. The same lines are said both ways: how a
 //! repair is written, and which repairs a text spells.
 #![tactic(auto)]
+
+mod laws;
+
+pub use laws::written_lines_are_read;

@@ -1,0 +1,5 @@
+pub mod Judging
+pub mod Laws
+pub mod Line
+pub mod Repair
+pub mod Text

@@ -1,0 +1,10 @@
+//! What a repair text says: for each function of a block text counts that repair its weights, or a
+//! cut that shows that there are none; and which line of the text is its first bad one.
+//!
+//! Definitions in `specs/`, with examples in `proofs/`. The same lines are said both ways: how a
+//! repair is written, and which repairs a text spells.
+#![tactic(auto)]
+
+mod laws;
+
+pub use laws::written_lines_are_read;

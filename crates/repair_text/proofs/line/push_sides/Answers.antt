@@ -1,0 +1,15 @@
+-- The parts of the line, one behind the other.
+use Rattle.std.proofs.Common.{append_assoc}
+use Rattle.repair_text.proofs.line.push_sides.Goals as goal
+
+pub returns : goal.returns
+returns c =
+    rw (
+      c.in_ok-push.ensures.items,
+      c.in_ok-push_bit-2.ensures,
+      c.in_ok-extend_from_slice-2.ensures.items,
+      c.in_ok-push_bit.ensures,
+      c.in_ok-extend_from_slice.ensures.items,
+      c.in_ok-push_block.ensures,
+    )
+    (simp append_assoc)

@@ -38,8 +38,8 @@ first_at depth address [] = None
 first_at depth address (member ∷ behind) =
     if holds_at depth address member.1 then Some (member, below member behind) else first_at depth address behind
 
--- The chain of an address among members, no longer than a bound, from a depth on: the first that stands at the depth and
--- holds the address, then the chain among those below it, from the next depth on. It ends where there is none.
+-- The chain of an address among members, no longer than a bound, from a depth on: the first that stands at the depth
+-- and holds the address, then the chain among those below it, from the next depth on. It ends where there is none.
 abbrev pub chain_among : ℕ → ℕ → ℕ → List (ℕ × Member) → List (ℕ × Member)
 chain_among zero depth address members = []
 chain_among (suc most) depth address members =

@@ -12,12 +12,12 @@ use Rattle.sample_model.specs.Pairs.{distinct_pairs, times_of}
 use Rattle.class_model.specs.declared.class.Class.{Class}
 use Rattle.class_model.specs.declared.class.Class.TheVariants.{Entry, Inside, Unmapped}
 use Rattle.class_model.specs.declared.class.Reason.{Reason}
-use Rattle.class_model.specs.Branches.{branch_class, class_by, is_entry, is_inside, is_unmapped}
+use Rattle.class_model.specs.Branches.{branch_class, class_by, class_by_reason, is_entry, is_inside, is_unmapped, reason_of}
 use Rattle.class_model.specs.Ranges.{range_class}
 use Rattle.binary_model.specs.Places.{Place, outside, nameless, no_line, at_way}
 use Rattle.report_model.specs.Report.{Classes, Sampled, number_line, ranges_text, reasons, report_text, units_text, unmapped_line}
-use Rattle.sampled_profile.specs.Program.{Program, where_of}
-use Rattle.sampled_profile.specs.Sampled.{class_of_branch, classes_of}
+use Rattle.sampled_profile.specs.Program.{Program}
+use Rattle.sampled_profile.specs.Sampled.{class_of_branch, class_of_places, classes_of, reason_of_places}
 use Rattle.profile_writer.specs.Shown.{ShowsName, ShowsPlace, ShowsProgram}
 
 -- a class in which all names are one
@@ -59,38 +59,26 @@ simplified_report classes sampled =
     λ i. text_by classes sampled
     (λ branch. simple_entry (classes.of_branch branch) i) (λ branch. simple_inside (classes.of_branch branch) i) (λ reason branch. simple_unmapped reason (classes.of_branch branch) i)
 
--- places as far as classes tell them apart
-abbrev without_number : Where → Where
-without_number Outside = Outside
-without_number Nameless = Nameless
-without_number NoLine = NoLine
-without_number (At key) = At (record { 0 = 0 })
+-- a map's answers give the reason that the places give
+reason_alike : (names : List (List ℕ)) (keys : List Key) (p q : Place) (from to : Where) → ShowsPlace names keys p from → ShowsPlace names keys q to
+    → reason_of_places p q ≡ reason_of from to
+reason_alike names keys outside q from to here there = sym (ap (λ w. reason_of w to) here)
+reason_alike names keys nameless q from to here there = sym (ap (λ w. reason_of w to) here)
+reason_alike names keys no_line q from to here there = sym (ap (λ w. reason_of w to) here)
+reason_alike names keys (at_way way) outside from to here there = sym (ap (λ w. reason_of w to) here.1 ∙ ap (λ w. reason_of (At here.0) w) there)
+reason_alike names keys (at_way way) nameless from to here there = sym (ap (λ w. reason_of w to) here.1 ∙ ap (λ w. reason_of (At here.0) w) there)
+reason_alike names keys (at_way way) no_line from to here there = sym (ap (λ w. reason_of w to) here.1 ∙ ap (λ w. reason_of (At here.0) w) there)
+reason_alike names keys (at_way way) (at_way other) from to here there = sym (ap (λ w. reason_of w to) here.1 ∙ ap (λ w. reason_of (At here.0) w) there.1)
 
-abbrev unnumbered : Option NameId → Option NameId
-unnumbered name = option_map (λ _. record { 0 = 0 }) name
+simple_reason : (reason : Option Reason) → class_by_reason reason ≡ simple (class_by_reason reason)
+simple_reason None = refl
+simple_reason (Some reason) = refl
 
-class_alike : (name : Option NameId) (from to : Where) → class_by (unnumbered name) (without_number from) (without_number to) ≡ simple (class_by name from to)
-class_alike (Some name) from to = refl
-class_alike None Outside to = refl
-class_alike None Nameless to = refl
-class_alike None NoLine to = refl
-class_alike None (At key) Outside = refl
-class_alike None (At key) Nameless = refl
-class_alike None (At key) NoLine = refl
-class_alike None (At key) (At other) = refl
-
-place_alike : (names : List (List ℕ)) (keys : List Key) (place : Place) (answer : Where) → ShowsPlace names keys place answer → where_of place ≡ without_number answer
-place_alike names keys outside answer shown = sym (ap without_number shown)
-place_alike names keys nameless answer shown = sym (ap without_number shown)
-place_alike names keys no_line answer shown = sym (ap without_number shown)
-place_alike names keys (at_way way) answer shown = sym (ap without_number shown.1)
-
-abbrev name_mark : Option (List ℕ) → Option NameId
-name_mark name = option_map (λ _. record { 0 = 0 }) name
-
-name_alike : (names : List (List ℕ)) (name : Option (List ℕ)) (answer : Option NameId) → ShowsName names name answer → name_mark name ≡ unnumbered answer
-name_alike names None answer shown = sym (ap unnumbered shown)
-name_alike names (Some name) answer shown = sym (ap unnumbered shown.1)
+class_alike : (names : List (List ℕ)) (name : Option (List ℕ)) (answer : Option NameId) (p q : Place) (from to : Where) → ShowsName names name answer
+    → reason_of_places p q ≡ reason_of from to → class_of_places name p q ≡ simple (class_by answer from to)
+class_alike names None answer p q from to shown same =
+    ap class_by_reason same ∙ simple_reason (reason_of from to) ∙ sym (ap (λ a. simple (class_by a from to)) shown)
+class_alike names (Some name) answer p q from to shown same = sym (ap (λ a. simple (class_by a from to)) shown.1)
 
 -- the classes that a map tells
 abbrev pub classes_told : (ℕ → Where) → (ℕ → Option ℕ) → (ℕ → Option NameId) → Classes
@@ -103,9 +91,8 @@ module _ (program : Program) (names : List (List ℕ)) (keys : List Key) (segmen
     (shown : ShowsProgram program names keys segments place function entered) where
   branch_alike : (branch : ℕ × ℕ) → class_of_branch program branch ≡ simple (branch_class place entered branch.0 branch.1)
   branch_alike branch =
-      (λ i. class_by (name_alike names (program.entered branch.1) (entered branch.1) (shown.entrances branch.1) i) (place_alike names keys (program.place branch.0) (place branch.0) (shown.places branch.0) i)
-      (place_alike names keys (program.place branch.1) (place branch.1) (shown.places branch.1) i))
-      ∙ class_alike (entered branch.1) (place branch.0) (place branch.1)
+      class_alike names (program.entered branch.1) (entered branch.1) (program.place branch.0) (program.place branch.1) (place branch.0) (place branch.1) (shown.entrances branch.1)
+      (reason_alike names keys (program.place branch.0) (program.place branch.1) (place branch.0) (place branch.1) (shown.places branch.0) (shown.places branch.1))
 
   pub report_alike : (sampled : Sampled) → report_text (classes_told place function entered) sampled ≡ report_text (classes_of program) sampled
   report_alike sampled =

@@ -1,7 +1,5 @@
 -- What is told of a program's addresses.
 use Rattle.std.specs.Prelude.{ℕ, Bool, List, Option, None, Some}
-use Rattle.key_types.specs.declared.places.Where.{Where}
-use Rattle.key_types.specs.declared.places.Where.TheVariants.{Outside, Nameless, NoLine, At}
 use Rattle.profile_model.specs.Ways.{Way}
 use Rattle.binary_model.specs.Addresses.{entered_at, factor_of_address, function_of_address}
 use Rattle.binary_model.specs.Places.{Place, outside, nameless, no_line, at_way, place_of_address}
@@ -32,10 +30,3 @@ way_of_place (at_way way) = Some way
 
 abbrev pub way_at : Program → ℕ → Option Way
 way_at program address = way_of_place (program.place address)
-
--- A place as far as classes tell places apart: to them all ways are one, for which the number 0 stands.
-abbrev pub where_of : Place → Where
-where_of outside = Outside
-where_of nameless = Nameless
-where_of no_line = NoLine
-where_of (at_way way) = At (record { 0 = 0 })

@@ -3,23 +3,41 @@ use Rattle.std.specs.Prelude.{ℕ, ◌^◌, max, Bool, false, ◌&&◌, nat_le, 
 use Rattle.std.specs.List.{filter_map, range_with_len}
 use Rattle.std.specs.Option.{option_map, option_map_or}
 use Rattle.class_model.specs.declared.class.Class.{Class}
+use Rattle.class_model.specs.declared.class.Class.TheVariants.{Entry}
+use Rattle.class_model.specs.declared.class.Reason.{Reason}
+use Rattle.class_model.specs.declared.class.Reason.TheVariants.{FromOutside, FromNameless, FromNoLine, ToOutside, ToNameless}
 use Rattle.class_model.specs.declared.class.RangeClass.{RangeClass}
 use Rattle.class_model.specs.declared.class.RangeClass.TheVariants.{Ran}
-use Rattle.class_model.specs.Branches.{class_by}
+use Rattle.class_model.specs.Branches.{class_by_reason}
 use Rattle.class_model.specs.Ranges.{is_class, range_class}
 use Rattle.profile_model.specs.Counts.{weighed}
 use Rattle.profile_model.specs.Orders.{ordered, way_cmp}
 use Rattle.profile_model.specs.Profile.{Profile}
 use Rattle.profile_model.specs.Ways.{Way, same_way}
 use Rattle.report_model.specs.Report.{Classes, Sampled}
-use Rattle.sampled_profile.specs.Program.{Program, way_at, where_of}
+use Rattle.binary_model.specs.Places.{Place, outside, nameless, no_line, at_way}
+use Rattle.sampled_profile.specs.Program.{Program, way_at}
 
--- The class of a branch. To it all names are one, for which the number 0 stands.
+-- The first reason why a branch cannot be told of places: what that of its source lacks, or else that of its target.
+-- A target needs no line.
+abbrev pub reason_of_places : Place → Place → Option Reason
+reason_of_places outside to = Some FromOutside
+reason_of_places nameless to = Some FromNameless
+reason_of_places no_line to = Some FromNoLine
+reason_of_places (at_way way) outside = Some ToOutside
+reason_of_places (at_way way) nameless = Some ToNameless
+reason_of_places (at_way way) no_line = None
+reason_of_places (at_way way) (at_way other) = None
+
+-- A branch that enters a named function is an entry, wherever it comes from. A report tells no names: the number 0
+-- stands for each.
+abbrev pub class_of_places : Option (List ℕ) → Place → Place → Class
+class_of_places (Some name) from to = Entry (record { 0 = 0 })
+class_of_places None from to = class_by_reason (reason_of_places from to)
+
+-- The class of a branch.
 abbrev pub class_of_branch : Program → ℕ × ℕ → Class
-class_of_branch program (from, to) = class_by
-    (option_map (λ _. record { 0 = 0 }) (program.entered to))
-    (where_of (program.place from))
-    (where_of (program.place to))
+class_of_branch program (from, to) = class_of_places (program.entered to) (program.place from) (program.place to)
 
 -- The class of a sampled range.
 abbrev pub class_of_range : Program → ℕ × ℕ → RangeClass

@@ -283,3 +283,46 @@ fn the_longest_chain_costs_one_for_each_block_that_was_not_sampled(rt: HostRunti
     };
     assert_eq!(rt; least_cost(alloc, &net), Ok(Some(65535)));
 }
+
+/// As many blocks and edges as a function may have: a chain, and from each block of it edges to
+/// itself, to block 0 and to the last block, none of which leads nearer to the exit.
+fn widest(alloc: Global) -> Result<Net, NoMemory> {
+    let mut blocks = vec![in alloc; block(false, FREE), block(true, FREE)]?;
+    let mut weights = vec![in alloc; Weight::Known(1), Weight::Unknown]?;
+    let mut edges = vec![in alloc;
+        edge(0, 65535),
+        edge(0, 0),
+        edge(1, 0),
+        edge(1, 1),
+        edge(1, 2),
+        edge(1, 3),
+        edge(1, 4),
+        edge(1, 65535),
+    ]?;
+    for number in 2..65536 {
+        blocks.push(block(false, FREE))?;
+        weights.push(Weight::Unknown)?;
+        edges.push(edge(number, number - 1))?;
+        edges.push(edge(number, number))?;
+        edges.push(edge(number, 0))?;
+        edges.push(edge(number, 65535))?;
+    }
+    let edge_weights = vec![in alloc; Weight::Unknown; edges.len()]?;
+    let fun = Fun {
+        name: b"widest",
+        blocks: Items::new(blocks),
+        edges: Items::new(edges),
+    };
+    let net = net_of(alloc, &fun, &weights, &edge_weights)?;
+    Ok(net)
+}
+
+#[test]
+fn a_function_of_most_blocks_and_edges_is_solved(rt: HostRuntime) {
+    let alloc = rt.alloc();
+    let Ok(net) = widest(alloc) else {
+        panic!(rt; "no memory");
+    };
+    assert_eq!(rt; (net.block_count(), net.edge_count()), (65536, 262144));
+    assert_eq!(rt; least_cost(alloc, &net), Ok(Some(65535)));
+}

@@ -66,6 +66,49 @@ edge 2 3
 end
 ";
 
+/// Of two functions the first is called by the second, once, and the second by the first, twice.
+const SAMPLES_OF_2: &'static [u8] = b"\
+401076 0x401038/0x401076/P/-/-/1 0x40100c/0x401020/P/-/-/1 0x401074/0x401000/P/-/-/1
+401076 0x401038/0x401076/P/-/-/1 0x401004/0x401010/P/-/-/1
+401036 0x401078/0x401036/P/-/-/1 0x40104c/0x401060/P/-/-/1 0x401034/0x401040/P/-/-/1
+401036 0x401078/0x401036/P/-/-/1 0x40104c/0x401060/P/-/-/1 0x401034/0x401040/P/-/-/1
+401036 0x401078/0x401036/P/-/-/1 0x401044/0x401050/P/-/-/1
+";
+
+const BLOCKS_OF_2: &'static [u8] = b"\
+func f0000
+block 0 0x401000 0x401008
+block 1 0x401008 0x401010
+block 2 0x401010 0x401020
+block 3 0x401020 0x401040 exit
+edge 0 1
+edge 0 2
+edge 1 3
+edge 2 3
+end
+func f0001
+block 0 0x401040 0x401048
+block 1 0x401048 0x401050
+block 2 0x401050 0x401060
+block 3 0x401060 0x401080 exit
+edge 0 1
+edge 0 2
+edge 1 3
+edge 2 3
+end
+";
+
+#[test]
+fn the_texts_of_two_functions_are_those_of_the_tables(rt: HostRuntime) -> Result<(), Fail> {
+    let cases = [(CasePart::Perf, SAMPLES_OF_2), (CasePart::Cfg, BLOCKS_OF_2)];
+    for (which, expected) in cases {
+        let mut out = Vec::new(rt.alloc());
+        assert_eq!(rt; make(2, which, &mut out), Ok(()));
+        assert_eq!(rt; out.as_slice(), expected, "{which:?}");
+    }
+    Ok(())
+}
+
 #[test]
 fn the_files_of_one_function_are_those_of_the_tables(rt: HostRuntime) -> Result<(), Fail> {
     let cases = [

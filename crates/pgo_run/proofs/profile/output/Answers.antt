@@ -32,6 +32,11 @@ returns-in_err-binary-clause-carried g c =
     (is-there _ c.args.binary.now 1 max_binary_bytes c.in_ok-file.file c.deref.result.now c.in_ok-file.ensures.file c.deref.ensures.value)
     c.read.ensures (sym c.in_file.ensures ∙ c.in_err-binary.was) c.in_ok-file.ensures.cause.0 c.from_residual-in_err-binary.ensures.1
 
+pub make-requires : goal.make-requires
+make-requires g c =
+    let good = judged-good 1 (first_bad_of_binary c.deref.result.now) c.read.result _ c.in_ok-binary.binary c.read.ensures (sym c.in_file.ensures ∙ c.in_ok-binary.was) in
+    (c.deref.result.now, c.args.options.base, good.1)
+
 pub returns-in_err-counts-clause-carried : goal.returns-in_err-counts-clause-carried
 returns-in_err-counts-clause-carried g c =
     let command : Command = profile_command (told_options c.args.options) c.args.binary.now c.args.perf.now in

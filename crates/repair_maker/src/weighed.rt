@@ -1,0 +1,41 @@
+// The weights of the edges of a function, where they are asked for.
+ghost use Rattle.std.specs.Prelude.{◌≡◌, [], IfOk, None, length};
+ghost use Rattle.balance_model.specs.Sound.{AreWeights};
+ghost use Rattle.repair_maker.specs.Made.{edges_told, weighed_edges};
+
+use block_weights::Weight;
+use cfg_text::Fun;
+use edge_weights::{EdgeSamples, edge_weights};
+use refusal::NoMemory;
+use std::alloc::Global;
+
+/// The weight of each edge of a function, by the weights of its blocks: unknown where no edge
+/// samples are given.
+pub(crate) fn weighed(
+    alloc: Global,
+    fun: &Fun<'_>,
+    edges: Option<&EdgeSamples>,
+    weights: &[Weight],
+) -> Result<Vec<Weight>, NoMemory>
+    ensures told { IfOk result (λ made. made.items
+        ≡ weighed_edges (edges_told edges.entry) fun.now.blocks fun.now.edges weights.now) }
+    ensures small { IfOk result (λ made. AreWeights (length fun.now.edges) made.items) }
+{
+    match edges {
+        Some(samples) => edge_weights(alloc, fun, samples, weights),
+        None => unknown(alloc, fun),
+    }
+}
+
+/// As many unknown weights as a function has edges.
+fn unknown(alloc: Global, fun: &Fun<'_>) -> Result<Vec<Weight>, NoMemory>
+    ensures told { IfOk result (λ made. made.items
+        ≡ weighed_edges None fun.now.blocks fun.now.edges []) }
+    ensures small { IfOk result (λ made. AreWeights (length fun.now.edges) made.items) }
+{
+    let mut made = Vec::new(alloc);
+    for _edge in fun.edges.as_slice() {
+        made.push(Weight::Unknown)?;
+    }
+    Ok(made)
+}

@@ -11,7 +11,7 @@ use Rattle.flow_model.specs.Circulation.{EachArc, IsWithin, inflow, outflow}
 use Rattle.flow_model.specs.Network.{in_side, out_side, block_arc, block_arcs, edge_arc, edge_arcs, return_arcs, some_sampled, network_of, Counts}
 use Rattle.flow_model.specs.Repair.{AreCounts}
 use Rattle.balance_model.specs.Balance.{came_to, went_from, IsBalanced}
-use Rattle.balance_model.specs.Laws.{BalanceIsConservation}
+use Rattle.balance_model.specs.Laws.{BalanceIsConservation, TestsAreByNumber}
 use Rattle.balance_model.specs.Sound.{IsNet}
 use Rattle.balance_model.proofs.NetLemmas.{IsWoven, same_in_side, same_out_side, tail_count, length-block_arcs, length-edge_arcs, no_return_before}
 use Rattle.balance_model.proofs.BalanceLemmas.{ArcBalances, ArcsBalance, arcs_balance, woven_from}
@@ -195,3 +195,11 @@ balance_is_conservation blocks edges weights edge_weights counts sound weighed e
           } in
           both.1 (arcs_from blocks edges weights edge_weights counts (woven are) edges_weighed.each is)),
     )
+
+pub tests_are_by_number : TestsAreByNumber
+tests_are_by_number blocks edges weights edge_weights counts weighed number block weight at = record {
+  came = came_is edges edge_weights counts.edges number weighed.each;
+  went = went_is edges edge_weights counts.edges number weighed.each;
+  entry = entry_is number;
+  exit = exit_is 0 blocks number number block (omega arith) at;
+}

@@ -1,6 +1,6 @@
 // What a circulation means at the blocks of a function, and what the tests of blocks show.
 ghost use Rattle.balance_model.specs.Laws.{BalanceIsConservation, NetsAreLimited};
-ghost use Rattle.balance_model.specs.Laws.{TestsAreExact, TestsShowLeast};
+ghost use Rattle.balance_model.specs.Laws.{TestsAreByNumber, TestsAreExact, TestsShowLeast};
 
 /// Counts of a function are a circulation within bounds, with the calls and the returns that they
 /// leave, exactly where each block runs as often as edges lead to it (block 0 at least so often)
@@ -11,10 +11,13 @@ pub fn balance_is_conservation()
 {}
 
 /// Each block and each edge passes its test exactly where the counts conserve within bounds and the
-/// prices fit them. Then no counts of any size that conserve within bounds cost less.
+/// prices fit them. Then no counts of any size that conserve within bounds cost less. What the test
+/// of a block asks of its arc is what the block's number says: how often edges lead to it and from
+/// it, and whether it is block 0 and an exit.
 pub fn tests_show_least_counts()
     ensures exact { TestsAreExact }
     ensures least { TestsShowLeast }
+    ensures by_number { TestsAreByNumber }
 {}
 
 /// The network of a function within the limits of a block text has fewer than 2^19 arcs, bounds

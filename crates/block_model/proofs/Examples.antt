@@ -85,6 +85,13 @@ overlap_before_bound : bad (codes "func a\nblock 0 0x1 0x3\nblock 1 0x2 0x4 lo=3
 unfolding bad at items_from cause_of_line cause_of_block line_of line_by_fields block_line_of place_of address_of bound_of bound_by_words bounded_by count_of fields_of number_of prefixed_of lines_of
 overlap_before_bound = refl
 
+-- of two causes the earlier is named
+causes_in_order : (bad (codes "func a\nblock 1 0x2 0x2\n") ≡ at 2 BlockOrder) × (bad (codes "func a\nblock 0 0x1 0x5\nblock 1 0x3 0x2\n") ≡ at 3 BlockEmpty)
+    × (bad (codes "func a\nblock 0 0x1 0x2\nedge 0 1 lo=3 hi=2\n") ≡ at 3 EdgeEnd) × (bad (codes "func a\nblock 0 0x1 0x2\nedge 0 0\nedge 0 0 lo=3 hi=2\n") ≡ at 4 EdgeTwice)
+    × (bad (codes "func a\nblock 0 0x1 0x2\nedge 0 0 lo=3 hi=2\n") ≡ at 3 BadBound)
+unfolding bad at items_from cause_of_line cause_of_block cause_of_edge line_of line_by_fields block_line_of edge_line_of place_of address_of bound_of bound_by_words bounded_by count_of fields_of number_of prefixed_of lines_of
+causes_in_order = (refl, refl, refl, refl, refl)
+
 -- blocks that touch do not overlap, whichever comes first
 touching : (bad (codes "func a\nblock 0 0x2 0x3\nblock 1 0x3 0x4\nblock 2 0x1 0x2\nend\n") ≡ None) × (bad (codes "func a\nblock 0 0x2 0x2\n") ≡ at 2 BlockEmpty)
 unfolding bad at items_from cause_of_line cause_of_block line_of line_by_fields block_line_of place_of address_of bound_of fields_of number_of prefixed_of lines_of

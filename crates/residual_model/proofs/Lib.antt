@@ -3,3 +3,4 @@ pub mod StepLemmas
 pub mod CutLemmas
 pub mod PushLemmas
 pub mod LoadLemmas
+pub mod BoundLemmas

@@ -1,4 +1,5 @@
 // What the parts of a solver rest on, on the definitions alone.
+ghost use Rattle.residual_model.specs.Bounds.{UpperBoundsAgree};
 ghost use Rattle.residual_model.specs.Laws.{ClosedSidesAreACut, MovedPricesFit, PushesAgainstFit};
 ghost use Rattle.residual_model.specs.Laws.{PushesAlongFit, StartingCountsFit, StepsJudgePrices};
 ghost use Rattle.residual_model.specs.Loads.{CirculationsAreLoads};
@@ -44,4 +45,10 @@ pub fn pushes_keep_prices_fitting()
 /// what its counts of blocks and edges leave there, so that these conserve within bounds.
 pub fn circulations_are_loads()
     ensures { CirculationsAreLoads }
+{}
+
+/// An upper bound means one thing, whether a judge asks if a number exceeds it, a step if one more
+/// may pass, or a starting count is capped by it.
+pub fn upper_bounds_agree()
+    ensures { UpperBoundsAgree }
 {}

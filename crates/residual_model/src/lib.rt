@@ -13,5 +13,5 @@ mod laws;
 
 pub use laws::{
     circulations_are_loads, closed_sides_are_a_cut, moved_prices_fit, pushes_keep_prices_fitting,
-    starting_counts_fit, steps_judge_prices,
+    starting_counts_fit, steps_judge_prices, upper_bounds_agree,
 };

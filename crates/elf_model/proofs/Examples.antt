@@ -203,3 +203,11 @@ a_count_in_header_0 : map bad_with (((60, 0) ∷ (40, 0x50) ∷ (41, 2) ∷ []) 
     ≡ bad 40 BadHeader ∷ bad 62 BadHeader ∷ bad 40 BadHeader ∷ []
 unfolding number_at section items lookup_item is_live
 a_count_in_header_0 = refl
+
+-- Header 0 alone, which has the count, may end where the file does; and flags are no part of a type.
+at_the_end : map bad_with (
+    ((60, 0) ∷ (62, 0) ∷ (40, 0x4f) ∷ (41, 2) ∷ (623, 1) ∷ [])
+    ∷ ((467, 8) ∷ (471, 1) ∷ (494, 255) ∷ []) ∷ [])
+    ≡ None ∷ None ∷ []
+unfolding number_at section items lookup_item is_live
+at_the_end = refl

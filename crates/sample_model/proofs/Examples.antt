@@ -16,6 +16,7 @@ use Rattle.sample_model.specs.Moves.{LoadMap, move_of, moved_ranges, branches_by
 use Rattle.sample_model.specs.Samples.{ranges_between, branches_of, ranges_of}
 use Rattle.sample_model.specs.Judging.{cause_of_line, items_of_lines, judged_lines_of, first_bad_of_text, first_bad_of_piece, lines_before_bad}
 use Rattle.sample_model.specs.Limits.{max_text_bytes}
+use Rattle.sample_model.specs.Pairs.{distinct_pairs, times_of}
 
 -- two samples, and their branches and ranges
 sampled : List ℕ
@@ -195,3 +196,20 @@ foreign_by_one_end = refl
 largest_text : first_bad_of_piece 1 [] 0 (codes "#") ≡ Some (record { file = 1; at = 0x10000000000; kind = FileTooLarge })
 unfolding lines_of ended_lines_of fields_of number_of prefixed_of address_of is_ip entry_of is_sample is_well_formed branches_of_line cause_of_line items_of_lines
 largest_text = refl
+
+up_to_the_size : first_bad_of_piece 1 [] 1 (codes "#") ≡ None
+unfolding lines_of ended_lines_of fields_of number_of prefixed_of address_of is_ip entry_of is_sample is_well_formed branches_of_line cause_of_line items_of_lines
+up_to_the_size = refl
+
+-- ---- pairs
+
+five_pairs : List (ℕ × ℕ)
+five_pairs = (2, 1) ∷ (1, 3) ∷ (1, 2) ∷ (2, 1) ∷ (1, 3) ∷ []
+
+three_distinct : distinct_pairs five_pairs ≡ (1, 2) ∷ (1, 3) ∷ (2, 1) ∷ []
+unfolding five_pairs
+three_distinct = refl
+
+times : (times_of (1, 3) five_pairs ≡ 2) × (times_of (1, 2) five_pairs ≡ 1) × (times_of (3, 1) five_pairs ≡ 0) × (times_of (2, 3) five_pairs ≡ 0)
+unfolding five_pairs
+times = (refl, refl, refl, refl)

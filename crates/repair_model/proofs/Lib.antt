@@ -1,2 +1,3 @@
 mod Examples
 pub mod LineLemmas
+pub mod ApartLemmas

@@ -1,12 +1,15 @@
 -- What follows from the definitions.
-use Rattle.std.specs.Prelude.{◌≡◌, ℕ, ◌<◌, ◌^◌, ⊤, true, false, List, Option, None, Some}
-use Rattle.std.specs.List.{list_any}
+use Rattle.std.specs.Prelude.{◌≡◌, ℕ, ◌<◌, ◌^◌, ⊤, Bool, true, false, List, [], length, map, Option, None, Some}
+use Rattle.std.specs.List.{AllByRecursion, list_any}
 use Rattle.text_model.specs.Fields.{is_blank, is_filled}
 use Rattle.block_model.specs.declared.parts.Weight.{Weight}
 use Rattle.block_model.specs.declared.parts.Weight.TheVariants.{Unknown, Known}
+use Rattle.block_model.specs.Function.{Function}
 use Rattle.block_model.specs.Limits.{bound_bits}
 use Rattle.repair_model.specs.Line.{Line, line_of, line_text, fits_price}
 use Rattle.repair_model.specs.Line.{begins_flow, begins_cut, tells_count, tells_sides, tells_edge, ends_flow, ends_cut}
+use Rattle.repair_model.specs.Repair.{Repair, Solution, flow, cut}
+use Rattle.repair_model.specs.Text.{lines_of_repair}
 
 -- A name can be a field: it has bytes, and no blank.
 pub record IsName (name : List ℕ) : Type 0 where
@@ -37,3 +40,26 @@ CanBeTold (ends_cut least most) = (least < 2 ^ 128) × (most < 2 ^ 128)
 -- A line that is written is read as that line. So no two of them are written alike.
 abbrev pub WrittenLinesAreRead : Type 0
 WrittenLinesAreRead = (line : Line) → CanBeTold line → line_of (line_text line) ≡ Some line
+
+-- There is one of each for so many blocks and edges; a cut tells of no edge and counts have one number at their end.
+abbrev pub HasShape : ℕ → ℕ → Repair → Solution → Type 0
+HasShape blocks edges repair (flow counts ins outs) =
+    (length counts.blocks ≡ blocks) × (length ins ≡ blocks) × (length outs ≡ blocks)
+    × (length counts.edges ≡ edges) × (length repair.edge_weights ≡ edges) × (repair.second ≡ 0)
+HasShape blocks edges repair (cut root ins outs) =
+    (length ins ≡ blocks) × (length outs ≡ blocks) × (repair.edge_weights ≡ [])
+
+-- A repair that can be told of a function, with the weights of its edges or, where these are unknown, without.
+pub record IsRepairOf (weighed : Bool) (fun : Function) (repair : Repair) : Type 0 where
+  pub weights : length repair.weights ≡ length fun.blocks
+  pub shape : HasShape (length fun.blocks) (length fun.edges) repair repair.solution
+  pub unweighed : weighed ≡ false → AllByRecursion (λ weight. weight ≡ Unknown) repair.edge_weights
+  pub told : AllByRecursion CanBeTold (lines_of_repair weighed fun repair)
+
+-- Two different repairs of a function never have the same lines.
+abbrev pub RepairsAreApart : Type 0
+RepairsAreApart =
+    (weighed : Bool) (fun : Function) (repair other : Repair)
+    → IsRepairOf weighed fun repair → IsRepairOf weighed fun other
+    → map line_text (lines_of_repair weighed fun repair) ≡ map line_text (lines_of_repair weighed fun other)
+    → repair ≡ other

@@ -7,4 +7,4 @@
 
 mod laws;
 
-pub use laws::written_lines_are_read;
+pub use laws::{repairs_are_apart, written_lines_are_read};

@@ -1,4 +1,5 @@
-//! Ranges of addresses that may lie over one another, and which of them comes first.
+//! Ranges of addresses that may lie over one another: made disjoint so that the first one counts,
+//! the owner of an address, and spans put into the frames of others.
 //!
 //! A `Span` is a range with the number of its owner. Of several spans that hold an address the
 //! first one in the list counts. `disjoint` makes from any spans a list that ascends, has no two

@@ -8,8 +8,8 @@ use Rattle.sample_model.specs.declared.pair.Pair.{Pair}
 use Rattle.branch_counts.specs.Pair.{pair_cmp}
 use Rattle.branch_counts.specs.Table.{pair_of, total_in, Tallies}
 use Rattle.command_model.specs.Counts.{counts_line, counts_text, total_line}
-use Rattle.tally_law.specs.Laws.{told_of}
-use Rattle.tally_law.proofs.OrderLemmas.{rows_tally_in_any_order, sorted_rows_are_distinct_pairs}
+use Rattle.branch_counts.specs.Laws.{told_of}
+use Rattle.branch_counts.proofs.OrderLemmas.{rows_tally_in_any_order, sorted_rows_are_distinct_pairs}
 
 abbrev pub row_line : Pair → List ℕ
 row_line row = counts_line (pair_of row) row.times

@@ -2,7 +2,7 @@
 use Rattle.std.proofs.Common.{◌≡◌, ℕ, List, [], ◌∷◌, Option, None, Some, refl, true, false}
 use Rattle.std.specs.Prelude.{codes}
 use Rattle.line_model.specs.declared.row.Row.{Row}
-use Rattle.row_model.specs.Rows.{Sequence}
+use Rattle.line_model.specs.Rows.{Sequence}
 use Rattle.tree_model.specs.Members.{Told}
 use Rattle.profile_model.specs.Ways.{to_body, to_call, to_function}
 use Rattle.binary_model.specs.Places.{at_way, nameless, no_line, outside, place_among}

@@ -9,7 +9,7 @@ use Rattle.placed_view.specs.Reader.{Read, refused_at}
 use Rattle.elf_model.specs.Items.{items, lookup_item}
 use Rattle.unit_model.specs.Units.{Units, no_units, units}
 use Rattle.line_model.specs.declared.row.Row.{Row}
-use Rattle.row_model.specs.Rows.{Sequence, live_sequences}
+use Rattle.line_model.specs.Rows.{Sequence, live_sequences}
 use Rattle.tree_model.specs.Members.{Told}
 use Rattle.tree_model.specs.Tree.{Source, members}
 use Rattle.binary_model.specs.Sections.{looked_up, range_sections, section_at}

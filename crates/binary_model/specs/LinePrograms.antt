@@ -8,7 +8,7 @@ use Rattle.placed_view.specs.Reader.{cursor_behind}
 use Rattle.unit_model.specs.Constants.{DW_AT_stmt_list}
 use Rattle.unit_model.specs.Values.{Found}
 use Rattle.unit_model.specs.Units.{Unit, Units}
-use Rattle.base_model.specs.Bases.{root_attribute, section_place}
+use Rattle.tree_model.specs.Bases.{root_attribute, section_place}
 use Rattle.line_model.specs.declared.row.Row.{Row}
 use Rattle.line_model.specs.Fields.{Judged, ◌>>=◌}
 use Rattle.line_model.specs.Program.{rows_at}

@@ -3,7 +3,7 @@ use Rattle.std.specs.Prelude.{ℕ, ◌+◌, Bool, List, [], ◌∷◌, ◌++◌,
 use Rattle.std.specs.Option.{option_map}
 use Rattle.key_types.specs.declared.ids.NameId.{NameId}
 use Rattle.key_types.specs.declared.key.Key.{Key}
-use Rattle.row_model.specs.Rows.{Sequence, row_among}
+use Rattle.line_model.specs.Rows.{Sequence, row_among}
 use Rattle.chain_model.specs.declared.member.Member.{Member}
 use Rattle.chain_model.specs.Places as by_number
 use Rattle.chain_model.specs.Places.{LineAndDisc, place_at}

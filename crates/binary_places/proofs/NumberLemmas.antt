@@ -3,7 +3,7 @@ use Rattle.std.proofs.Common.{◌≡◌, ℕ, zero, suc, ◌+◌, List, [], ◌�
 use Rattle.std.specs.Prelude.{map, slice_get, unwrap_or}
 use Rattle.std.specs.Option.{option_map}
 use Rattle.std.specs.List.{AllZip}
-use Rattle.entry_names.specs.Meaning.{IsNumberOf}
+use Rattle.entry_facts.specs.Meaning.{IsNumberOf}
 use Rattle.tree_model.specs.Members.{Told}
 use Rattle.inline_tree.specs.Told.{AreTold, IsTold}
 use Rattle.binary_model.specs.Places.{names_of, numbered_from}

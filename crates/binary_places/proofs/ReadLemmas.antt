@@ -15,7 +15,7 @@ use Rattle.dwarf_info.specs.Told.{units_told}
 use Rattle.dwarf_ranges.specs.Meaning.{range_sections_of}
 use Rattle.line_model.specs.Fields.{Judged}
 use Rattle.line_model.specs.declared.row.Row.{Row}
-use Rattle.row_model.specs.Rows.{Sequence, live_sequences}
+use Rattle.line_model.specs.Rows.{Sequence, live_sequences}
 use Rattle.chain_model.specs.declared.member.Member.{Member}
 use Rattle.tree_model.specs.Members.{Told}
 use Rattle.tree_model.specs.Tree.{Source, members}

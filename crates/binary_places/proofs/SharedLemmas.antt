@@ -14,7 +14,7 @@ use Rattle.placed_view.specs.Reader.{cursor_behind}
 use Rattle.line_model.specs.declared.row.Row.{Row}
 use Rattle.line_model.specs.Fields.{Judged, ◌>>=◌}
 use Rattle.line_model.specs.Program.{max_rows_of_all, rows_at}
-use Rattle.row_model.specs.Rows.{Sequence, live_sequences}
+use Rattle.line_model.specs.Rows.{Sequence, live_sequences}
 use Rattle.binary_model.specs.LinePrograms.{rows_from}
 use Rattle.binary_places.specs.declared.programs.Named.{Named}
 use Rattle.binary_places.specs.declared.shared.Known.{Known}

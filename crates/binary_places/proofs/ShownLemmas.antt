@@ -3,9 +3,9 @@ use Rattle.std.proofs.Common.{◌≡◌, ℕ, List, Option, None, Some, refl}
 use Rattle.std.specs.Prelude.{slice_get, option_and_then}
 use Rattle.std.specs.Option.{option_map}
 use Rattle.line_model.specs.declared.row.Row.{Row}
-use Rattle.row_model.specs.Rows.{Sequence, row_among}
+use Rattle.line_model.specs.Rows.{Sequence, row_among}
 use Rattle.row_table.specs.Told.{data_of, told}
-use Rattle.part_segments.specs.Parts.{line_and_disc}
+use Rattle.context_map.specs.Parts.{line_and_disc}
 use Rattle.context_map.specs.Maps.{place_told, rows_of}
 use Rattle.binary_model.specs.Binary.{members_in, tables_in}
 use Rattle.binary_model.specs.Places.{names_of, numbered_from, place_among, place_of_address, row_in}

@@ -15,11 +15,11 @@ use Rattle.placed_view.specs.Reader.{cursor_behind}
 use Rattle.unit_model.specs.Values.{Found}
 use Rattle.unit_model.specs.Constants.{DW_AT_stmt_list}
 use Rattle.unit_model.specs.Units.{Unit, Units}
-use Rattle.base_model.specs.Bases.{root_attribute, section_place}
+use Rattle.tree_model.specs.Bases.{root_attribute, section_place}
 use Rattle.line_model.specs.declared.row.Row.{Row}
 use Rattle.line_model.specs.Fields.{Judged, ◌>>=◌}
 use Rattle.line_model.specs.Program.{max_rows_of_all, rows_at}
-use Rattle.row_model.specs.Rows.{Sequence, live_sequences}
+use Rattle.line_model.specs.Rows.{Sequence, live_sequences}
 use Rattle.binary_model.specs.LinePrograms.{row_count, rows_behind, rows_by, rows_from, rows_if, rows_of_unit, rows_of_units}
 use Rattle.binary_places.specs.declared.programs.Named.{Named}
 use Rattle.binary_places.specs.declared.shared.Known.{Known}

@@ -7,7 +7,7 @@ use Rattle.key_types.specs.declared.ids.KeyId.{KeyId}
 use Rattle.key_types.specs.declared.places.Where.{Where}
 use Rattle.chain_model.specs.declared.member.Member.{Member}
 use Rattle.inline_tree.specs.Told.{AreTold}
-use Rattle.key_segments.specs.Segments.{HaveSegments}
+use Rattle.key_types.specs.Segments.{HaveSegments}
 use Rattle.context_map.specs.Maps.{IsMap, place_told, rows_of}
 use Rattle.profile_model.specs.Ways.{Way}
 use Rattle.binary_model.specs.Binary.{members_in, tables_in, units_in}

@@ -7,7 +7,7 @@ use Rattle.refusal.specs.declared.place.Stop.{Stop}
 use Rattle.refusal.specs.declared.place.Stop.TheVariants.{Refused, NoMemory}
 use Rattle.byte_view.specs.Cursor.{Cursor}
 use Rattle.line_model.specs.Program.{max_rows_of_all}
-use Rattle.row_model.specs.Rows.{Sequence, live_sequences}
+use Rattle.line_model.specs.Rows.{Sequence, live_sequences}
 use Rattle.binary_model.specs.LinePrograms.{rows_from}
 use Rattle.binary_places.specs.declared.programs.Named.{Named}
 use Rattle.binary_places.specs.declared.shared.Known.{Known}

@@ -6,7 +6,7 @@ use Rattle.byte_view.specs.Cursor.{Cursor}
 use Rattle.placed_view.specs.Reader.{cursor_behind, start_of}
 use Rattle.line_model.specs.declared.row.Row.{Row}
 use Rattle.line_model.specs.Fields.{Judged, ◌>>=◌}
-use Rattle.row_model.specs.Rows.{Sequence, live_sequences}
+use Rattle.line_model.specs.Rows.{Sequence, live_sequences}
 use Rattle.unit_model.specs.Units.{Units}
 use Rattle.binary_model.specs.LinePrograms.{rows_from, rows_of_unit}
 use Rattle.binary_places.specs.declared.programs.Named.{Named}

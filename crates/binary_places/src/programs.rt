@@ -9,10 +9,10 @@ ghost use Rattle.binary_places.specs.Tables.{IsNamed, IsRest};
 
 use byte_view::Part;
 use dwarf_info::{DW_AT_STMT_LIST, Units};
+use entry_facts::{root_attribute, section_place};
 use line_program::{Row, rows};
 use refusal::{Kind, Place, Stop};
 use std::alloc::Global;
-use unit_bases::{root_attribute, section_place};
 
 /// A line program, as a unit names it.
 #[derive(Clone, Copy)]

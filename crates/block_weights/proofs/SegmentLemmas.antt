@@ -6,7 +6,7 @@ use Rattle.std.proofs.lemmas.List.{get_or_default, get_or_past}
 use Rattle.address_spans.specs.Spans.{AreBetween}
 use Rattle.address_spans.proofs.SpanLemmas.{held, missed-before, missed-behind, reach}
 use Rattle.key_types.specs.declared.places.Seg.{Seg}
-use Rattle.key_segments.specs.Segments.{AreSegments, key_told, span_of}
+use Rattle.key_types.specs.Segments.{AreSegments, key_told, span_of}
 
 -- behind all segments nothing begins below the end of all addresses
 abbrev pub no_segment : Seg

@@ -8,7 +8,7 @@ use Rattle.block_model.specs.declared.parts.Block.{Block}
 use Rattle.block_model.specs.declared.parts.Weight.{Weight}
 use Rattle.block_model.specs.declared.parts.Weight.TheVariants.{Unknown, Known}
 use Rattle.flow_model.specs.Network.{weight_of}
-use Rattle.balance_model.specs.Sound.{AreWeights}
+use Rattle.flow_model.specs.Sound.{AreWeights}
 use Rattle.key_types.specs.declared.ids.KeyId.{KeyId}
 use Rattle.weight_model.specs.Blocks.{IsWeightOf}
 use Rattle.block_weights.specs.Counts.{count_in}

@@ -7,7 +7,7 @@ use Rattle.block_model.specs.declared.parts.Weight.{Weight}
 use Rattle.block_model.specs.declared.parts.Weight.TheVariants.{Unknown, Known}
 use Rattle.key_types.specs.declared.ids.KeyId.{KeyId}
 use Rattle.key_types.specs.declared.places.Seg.{Seg}
-use Rattle.key_segments.specs.Segments.{AreSegments, key_told}
+use Rattle.key_types.specs.Segments.{AreSegments, key_told}
 use Rattle.weight_model.specs.Blocks.{IsWeightIn}
 use Rattle.block_weights.specs.Counts.{count_in, with_count}
 use Rattle.block_weights.proofs.SegmentLemmas.{no_segment, start_of, filled, key_in, next_start, no_key, no_key_behind, starts_above}

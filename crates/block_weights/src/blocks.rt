@@ -1,8 +1,8 @@
 ghost use Rattle.std.specs.Prelude.{◌≡◌, ℕ, ◌<◌, ◌^◌, length, IfOk};
 ghost use Rattle.std.specs.List.{All, AllZip};
 ghost use Rattle.block_model.specs.Limits.{bound_bits};
-ghost use Rattle.balance_model.specs.Sound.{AreWeights};
-ghost use Rattle.key_segments.specs.Segments.{AreSegments, key_told};
+ghost use Rattle.flow_model.specs.Sound.{AreWeights};
+ghost use Rattle.key_types.specs.Segments.{AreSegments, key_told};
 ghost use Rattle.weight_model.specs.Blocks.{IsWeightOf};
 ghost use Rattle.block_weights.specs.Counts.{count_in, with_count};
 

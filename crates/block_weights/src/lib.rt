@@ -1,9 +1,19 @@
-//! How often the blocks of a function were sampled, by the counts of the places in them.
+//! How often the blocks and the edges of a function were sampled: blocks by the counts of the
+//! places in them, edges by branches and by the ranges that ran.
 //!
-//! `weights` finds the segments that lie in each block by binary search.
+//! `weights` finds the segments that lie in each block by binary search. `EdgeSamples` puts
+//! branches and ranges in order once, for all functions. `edge_weights` then finds the branches of
+//! a block and the ranges that ran past an address by search.
 #![tactic(auto)]
 
 mod blocks;
+mod edges;
+mod passing;
+mod samples;
+mod taken;
 
 pub use block_model::Weight;
 pub use blocks::weights;
+pub use edges::edge_weights;
+pub use profile_model::RanRange;
+pub use samples::EdgeSamples;

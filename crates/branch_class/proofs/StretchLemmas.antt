@@ -3,8 +3,8 @@ use Rattle.std.proofs.Common.{◌≡◌, ◌↔◌, ℕ, ◌≤◌, Bool, true, 
 use Rattle.std.specs.Prelude.{IsSome}
 use Rattle.std.proofs.lemmas.Bool.{cases_Bool, eqb-false, false_from_ne_true}
 use Rattle.key_types.specs.Places.{IsStretches}
-use Rattle.class_model.specs.Ranges.{in_one_function, range_class}
-use Rattle.class_model.proofs.RangeLemmas.{class_of_ends, class-forward, one_function, test_one}
+use Rattle.report_model.specs.Ranges.{in_one_function, range_class}
+use Rattle.report_model.proofs.RangeLemmas.{class_of_ends, class-forward, one_function, test_one}
 use Rattle.branch_class.specs.Stretches.{class_of_stretches}
 
 -- by what is known of the ends: whether functions hold them, and whether they lie in one stretch

@@ -1,7 +1,7 @@
 -- The class of a range by the stretches of its ends.
 use Rattle.std.specs.Prelude.{ℕ, nat_eq, Option, None, Some, if◌then◌else◌}
-use Rattle.class_model.specs.declared.class.RangeClass.{RangeClass}
-use Rattle.class_model.specs.declared.class.RangeClass.TheVariants.{Ran, RangeOutside, Crossing}
+use Rattle.report_model.specs.declared.class.RangeClass.{RangeClass}
+use Rattle.report_model.specs.declared.class.RangeClass.TheVariants.{Ran, RangeOutside, Crossing}
 
 -- A range that does not end before it begins ran where its ends lie in one stretch.
 abbrev pub class_of_stretches : Option ℕ → Option ℕ → RangeClass

@@ -1,8 +1,8 @@
 ghost use Rattle.std.specs.Prelude.{◌≡◌};
-ghost use Rattle.class_model.specs.Branches.{branch_class, class_by_reason, reason_of};
+ghost use Rattle.report_model.specs.Branches.{branch_class, class_by_reason, reason_of};
 
-use class_model::{Class, Reason};
 use key_types::{Places, Where};
+use report_model::{Class, Reason};
 
 /// The class of a branch from one address to another. No memory is taken.
 pub fn classify<P: Places>(from: u64, to: u64, map: &P) -> Class

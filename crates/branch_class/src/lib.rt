@@ -8,5 +8,5 @@ mod branch;
 mod range;
 
 pub use branch::classify;
-pub use class_model::{Class, RangeClass, Reason};
 pub use range::classify_range;
+pub use report_model::{Class, RangeClass, Reason};

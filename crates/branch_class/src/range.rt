@@ -1,9 +1,9 @@
 ghost use Rattle.std.specs.Prelude.{◌≡◌};
-ghost use Rattle.class_model.specs.Ranges.{range_class};
+ghost use Rattle.report_model.specs.Ranges.{range_class};
 ghost use Rattle.branch_class.specs.Stretches.{class_of_stretches};
 
-use class_model::RangeClass;
 use key_types::Places;
+use report_model::RangeClass;
 
 /// The class of the range from `to`, the target of a branch, up to `from`, the source of the next
 /// one, both held. No memory is taken.

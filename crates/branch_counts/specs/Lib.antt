@@ -1,3 +1,4 @@
 pub mod Pair
 pub mod Table
 pub mod Tally
+pub mod Laws

@@ -1,5 +1,5 @@
 //! Branch stacks, counted: how often each branch was taken, and how often each range ran between
-//! two branches.
+//! two branches, of a text whole or in pieces, as its addresses stand or moved by its load lines.
 //!
 //! The layer above makes `Counts`, reads a branch text into it, as one piece by `read_text` or in
 //! any pieces by a `Reader`, and takes its pairs out. `read_pieces` feeds a list of pieces to a

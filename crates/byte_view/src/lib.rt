@@ -1,4 +1,4 @@
-//! Cursors over the bytes of one file.
+//! Cursors over the bytes of one file, whose slices are the file's bytes from their place.
 //!
 //! A `Part` is a piece of a file, and a `Cur` reads it from its first byte on: fields of fixed
 //! size, the lowest byte first, LEB128 numbers, texts up to a NUL, and runs of bytes. What it hands

@@ -7,7 +7,7 @@ use Rattle.key_types.specs.declared.key.Frame.{Frame}
 use Rattle.key_types.specs.declared.key.Key.{Key}
 use Rattle.key_types.specs.declared.places.Where.{Where}
 use Rattle.key_types.specs.declared.places.Where.TheVariants.{Outside, Nameless, NoLine, At}
-use Rattle.place_model.specs.Discriminators as packed
+use Rattle.key_types.specs.Discriminators as packed
 use Rattle.chain_model.specs.declared.member.Member.{Member}
 use Rattle.chain_model.specs.Chains.{chain, function_of}
 

@@ -1,5 +1,5 @@
-//! The place of an address: the function that holds it, the calls inlined there, and the key that
-//! these have at the address's line.
+//! The place of an address (a key, or why there is none) and its factor: the function that holds
+//! it, the calls inlined there, and the key that these have at the address's line.
 //!
 //! Functions and inlined calls are members of one flat list, in pre-order with depths. Definitions
 //! in `specs/`, with examples in `proofs/`, and laws about them as functions with an empty body.

@@ -5,7 +5,7 @@ use Rattle.sample_model.specs.Judging.{first_bad_of_text}
 use Rattle.sample_model.specs.Samples.{branches_of}
 use Rattle.binary_model.specs.Binary.{first_bad_of_binary}
 use Rattle.binary_model.specs.Places.{place_of_address}
-use Rattle.sampled_profile.specs.Output.{profile_output}
+use Rattle.output_model.specs.Output.{profile_output}
 use Rattle.command_model.specs.Command.{Command, counts, where_, profile}
 use Rattle.command_model.specs.Counts.{counts_text}
 use Rattle.command_model.specs.Where.{where_text}

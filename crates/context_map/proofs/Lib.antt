@@ -1,2 +1,7 @@
+pub mod NameLemmas
+pub mod ParentLemmas
+pub mod CutLemmas
+pub mod PartLemmas
+pub mod UsedLemmas
 pub mod MapLemmas
 pub mod PartsLemmas

@@ -14,9 +14,9 @@ use Rattle.chain_model.specs.declared.member.Member.{Member}
 use Rattle.chain_model.specs.Chains.{chain, holds_at, function_of, function_at}
 use Rattle.chain_model.specs.Places.{Place, outside, nameless, no_line, has_key, LineAndDisc, place_of, row_of, place_at, factor_at, key, frames, last_start, place_by as place_by_names, is_entered_at, entry_name, Tells}
 use Rattle.chain_model.proofs.ChainLemmas.{begin_with_the_function}
-use Rattle.key_segments.specs.Segments as segments
-use Rattle.key_segments.proofs.ToldLemmas.{told-some, told-none}
-use Rattle.part_segments.specs.Parts.{with_factor}
+use Rattle.key_types.specs.Segments as segments
+use Rattle.key_types.proofs.ToldLemmas.{told-some, told-none}
+use Rattle.context_map.specs.Parts.{with_factor}
 use Rattle.context_map.specs.declared.entrance.Entrance.{Entrance}
 use Rattle.context_map.specs.Maps.{is_nameless, ArePartsOf, entrance_of, place_by, name_if}
 use Rattle.context_map.proofs.PartsLemmas.{chainless}

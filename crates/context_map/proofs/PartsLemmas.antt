@@ -15,14 +15,14 @@ use Rattle.chain_model.specs.Pass.{chain_from}
 use Rattle.chain_model.specs.Places.{outside, no_line, has_key, LineAndDisc, place_of, row_of, place_at, factor_at, key}
 use Rattle.chain_model.proofs.ChainLemmas.{are_paths}
 use Rattle.chain_model.proofs.PassLemmas.{left, taken, passed, step, chain-left, chain-taken, chain-passed, one_pass}
-use Rattle.member_contexts.specs.declared.named.Named.{Named}
-use Rattle.member_contexts.specs.declared.context.Context.{Context}
-use Rattle.member_contexts.specs.Contexts.{place_in, IsContext}
-use Rattle.key_segments.specs.Segments.{HaveSegments, Kept, TellBelow}
-use Rattle.key_segments.proofs.ToldLemmas.{TellBelow-start, TellBelow-gap, TellBelow-all, AreBetween-wider}
-use Rattle.part_segments.specs.Parts.{line_and_disc, with_factor, factor_of, shown, Extends, KeepUp}
-use Rattle.part_segments.proofs.PartLemmas.{Kept-same, Kept-more}
-use Rattle.row_model.specs.Rows.{Sequence}
+use Rattle.context_map.specs.declared.named.Named.{Named}
+use Rattle.context_map.specs.declared.context.Context.{Context}
+use Rattle.context_map.specs.Contexts.{place_in, IsContext}
+use Rattle.key_types.specs.Segments.{HaveSegments, Kept, TellBelow}
+use Rattle.key_types.proofs.ToldLemmas.{TellBelow-start, TellBelow-gap, TellBelow-all, AreBetween-wider}
+use Rattle.context_map.specs.Parts.{line_and_disc, with_factor, factor_of, shown, Extends, KeepUp}
+use Rattle.context_map.proofs.PartLemmas.{Kept-same, Kept-more}
+use Rattle.line_model.specs.Rows.{Sequence}
 use Rattle.row_table.specs.Told.{told}
 use Rattle.context_map.specs.Maps.{table_of, rows_of, wanted, is_nameless, unnamed, ArePartsOf}
 

@@ -1,1 +1,4 @@
+pub mod Contexts
+pub mod Paths
+pub mod Parts
 pub mod Maps

@@ -10,16 +10,16 @@ use Rattle.key_types.specs.declared.key.Key.{Key}
 use Rattle.key_types.specs.declared.places.Seg.{Seg}
 use Rattle.key_types.specs.declared.places.Where.{Where}
 use Rattle.key_types.specs.declared.places.Where.TheVariants.{Outside, Nameless, NoLine, At}
-use Rattle.row_model.specs.Rows.{Sequence}
+use Rattle.line_model.specs.Rows.{Sequence}
 use Rattle.row_table.specs.Told.{told}
 use Rattle.chain_model.specs.declared.member.Member.{Member}
 use Rattle.chain_model.specs.Chains.{function_at}
 use Rattle.chain_model.specs.Places as places
 use Rattle.chain_model.specs.Places.{Place, nameless, LineAndDisc, Tells}
-use Rattle.function_stretches.specs.Stretches as stretches
-use Rattle.key_segments.specs.Segments as segments
-use Rattle.member_contexts.specs.declared.named.Named.{Named}
-use Rattle.part_segments.specs.Parts.{line_and_disc, with_factor}
+use Rattle.span_cover.specs.Stretches as stretches
+use Rattle.key_types.specs.Segments as segments
+use Rattle.context_map.specs.declared.named.Named.{Named}
+use Rattle.context_map.specs.Parts.{line_and_disc, with_factor}
 use Rattle.context_map.specs.declared.entrance.Entrance.{Entrance}
 
 -- The table of a unit.

@@ -1,18 +1,16 @@
 ghost use Rattle.std.specs.Prelude.{◌≡◌, ◌≤◌, ◌<◌, ◌+◌, ◌^◌, length, IfOk};
-ghost use Rattle.key_segments.specs.Segments.{HaveSegments, Kept};
+ghost use Rattle.key_types.specs.Segments.{HaveSegments, Kept};
 ghost use Rattle.context_map.specs.Maps.{IsMap, rows_of};
 
 use crate::entrance::{Entrance, entrances_of};
 use crate::parts::parts_of;
+use crate::rules::Rules;
 use address_spans::{Span, owner_at};
 use chain_model::Member;
-use function_stretches::Stretches;
-use inline_cover::{cover, function_cover};
-use key_segments::key_at;
-use key_types::{Keys, NameId, Places, Seg, Where};
-use part_segments::Rules;
+use key_types::{Keys, NameId, Places, Seg, Where, key_at};
 use refusal::NoMemory;
 use row_table::RowTable;
+use span_cover::{Stretches, cover, function_cover};
 use std::alloc::Global;
 use std::marker::Model;
 
@@ -30,7 +28,7 @@ pub struct Map {
 
 impl Model for Map {
     ghost use Rattle.address_spans.specs.Spans.{AreDisjoint};
-    ghost use Rattle.key_segments.specs.Segments.{AreSegments};
+    ghost use Rattle.key_types.specs.Segments.{AreSegments};
     ghost use Rattle.context_map.specs.Maps.{Shown};
 
     ghost Value = { Shown };
@@ -56,8 +54,8 @@ impl Map {
 }
 
 impl Places for Map {
-    ghost use Rattle.function_stretches.specs.Stretches.{function_at, number_at};
-    ghost use Rattle.function_stretches.proofs.StretchLemmas.{are_told};
+    ghost use Rattle.span_cover.specs.Stretches.{function_at, number_at};
+    ghost use Rattle.span_cover.proofs.StretchLemmas.{are_told};
     ghost use Rattle.context_map.specs.Maps.{entry_told, place_told};
 
     ghost place_of = { place_told };

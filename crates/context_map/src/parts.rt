@@ -1,15 +1,16 @@
 ghost use Rattle.std.specs.Prelude.{◌≡◌, ◌≤◌, ◌<◌, ◌-◌, ◌^◌, ℕ, length, IfOk};
 ghost use Rattle.address_spans.specs.Spans.{AreDisjoint, owner_at};
 ghost use Rattle.chain_model.specs.Chains.{innermost};
-ghost use Rattle.key_segments.specs.Segments.{HaveSegments, Kept};
+ghost use Rattle.key_types.specs.Segments.{HaveSegments, Kept};
 ghost use Rattle.context_map.specs.Maps.{ArePartsOf, rows_of};
 
+use crate::context::context_of;
+use crate::parent::parents;
+use crate::rules::Rules;
 use crate::span::{Parts, push_span};
 use address_spans::Span;
 use chain_model::Member;
 use key_types::Keys;
-use member_contexts::{context_of, parents};
-use part_segments::Rules;
 use refusal::NoMemory;
 use row_table::RowTable;
 use std::alloc::Global;

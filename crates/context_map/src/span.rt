@@ -1,13 +1,14 @@
 ghost use Rattle.std.specs.Prelude.{◌≡◌, ◌≤◌, ◌<◌, ◌-◌, ◌^◌, ◌++◌, length, OnOk};
 ghost use Rattle.std.specs.Option.{option_map};
-ghost use Rattle.key_segments.specs.Segments.{Kept};
-ghost use Rattle.part_segments.specs.Parts.{Extends, KeepUp, shown};
+ghost use Rattle.key_types.specs.Segments.{Kept};
+ghost use Rattle.context_map.specs.Parts.{Extends, KeepUp, shown};
 ghost use Rattle.context_map.specs.Maps.{rows_of, table_of as table_at, unnamed};
 
+use crate::context::Context;
+use crate::rules::Rules;
+use crate::segments::push_segments;
 use address_spans::Span;
 use key_types::{Keys, Seg};
-use member_contexts::Context;
-use part_segments::{Rules, push_segments};
 use refusal::NoMemory;
 use row_table::RowTable;
 use std::alloc::Global;

@@ -6,14 +6,14 @@ use Rattle.std.proofs.lemmas.Option.{slice_get-get_or}
 use Rattle.std.specs.List.{All}
 use Rattle.std.proofs.lemmas.List.Elements.{All-tail, All-take}
 use Rattle.flow_model.specs.Network.{Network, Counts}
-use Rattle.balance_model.specs.Sound.{IsNet, IsLimitedArc}
-use Rattle.balance_model.proofs.LimitLemmas.{nets_are_limited}
+use Rattle.flow_model.specs.Sound.{IsNet, IsLimitedArc}
+use Rattle.flow_model.proofs.LimitLemmas.{nets_are_limited}
 use Rattle.flow_model.specs.declared.arc.Arc.{Arc}
 use Rattle.flow_model.specs.Circulation.{EachArc}
 use Rattle.flow_model.specs.Repair.{AreLeast, ConserveWithinBounds, FitCounts}
-use Rattle.balance_model.proofs.ArcLemmas.{each_join}
-use Rattle.balance_model.proofs.PassLemmas.{tests_are_exact, tests_show_least}
-use Rattle.balance_model.specs.Passing.{AllTestsPass, PassesBlock, PassesEdge}
+use Rattle.flow_model.proofs.ArcLemmas.{each_join}
+use Rattle.flow_model.proofs.PassLemmas.{tests_are_exact, tests_show_least}
+use Rattle.flow_model.specs.Passing.{AllTestsPass, PassesBlock, PassesEdge}
 use Rattle.dual_check.specs.declared.spot.Spot.{Spot}
 use Rattle.dual_check.specs.declared.spot.Spot.TheVariants.{Block, Edge}
 use Rattle.dual_check.specs.First.{FailsFirst, IsFirstBad}

@@ -10,7 +10,7 @@ use Rattle.flow_model.specs.declared.arc.Arc.{Arc}
 use Rattle.flow_model.specs.Circulation.{sum_where, inflow, outflow}
 use Rattle.flow_model.specs.Network.{Network, Counts, arcs_of}
 use Rattle.flow_model.specs.Repair.{AreCounts}
-use Rattle.balance_model.proofs.ArcLemmas.{sum_where-append}
+use Rattle.flow_model.proofs.ArcLemmas.{sum_where-append}
 use Rattle.flow_network.specs.Net.{tails_of, heads_of}
 use Rattle.flow_network.specs.Rows.{places_from, places_of}
 use Rattle.flow_network.proofs.RowLemmas.{places_from-append, length-places_from, tally_at_most}

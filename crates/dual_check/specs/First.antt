@@ -3,7 +3,7 @@ use Rattle.std.specs.Prelude.{◌≡◌, ℕ, List, take, slice_get, slice_index
 use Rattle.flow_model.specs.declared.arc.Arc.{Arc}
 use Rattle.flow_model.specs.Circulation.{EachArc}
 use Rattle.flow_model.specs.Network.{Network, Counts}
-use Rattle.balance_model.specs.Passing.{AllTestsPass, PassesBlock, PassesEdge}
+use Rattle.flow_model.specs.Passing.{AllTestsPass, PassesBlock, PassesEdge}
 use Rattle.dual_check.specs.declared.spot.Spot.{Spot}
 use Rattle.dual_check.specs.declared.spot.Spot.TheVariants.{Block, Edge}
 

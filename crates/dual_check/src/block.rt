@@ -1,8 +1,8 @@
 // The test of a block.
 ghost use Rattle.std.specs.Prelude.{◌≡◌, ◌*◌, ◌-◌, ◌≤◌, ◌↔◌, IsTrue, length, nat_le, if◌then◌else◌, Some, None};
 ghost use Rattle.flow_model.specs.Repair.{AreCounts};
-ghost use Rattle.balance_model.specs.Passing.{IsEntered, IsLeft, PassesBlock, PassesEdge};
-ghost use Rattle.balance_model.specs.Passing.{came_by_edges, is_exit, went_by_edges};
+ghost use Rattle.flow_model.specs.Passing.{IsEntered, IsLeft, PassesBlock, PassesEdge};
+ghost use Rattle.flow_model.specs.Passing.{came_by_edges, is_exit, went_by_edges};
 ghost use Rattle.flow_network.specs.Flow.{counts_of, price_of};
 
 use crate::fits::{fits, is_within};

@@ -1,8 +1,8 @@
 // The first block or edge that breaks its test.
 ghost use Rattle.std.specs.Prelude.{◌≡◌, ◌↔◌, None};
 ghost use Rattle.flow_model.specs.Repair.{AreCounts, AreLeast, ConserveWithinBounds, FitCounts};
-ghost use Rattle.balance_model.specs.Passing.{PassesBlock, PassesEdge};
-ghost use Rattle.balance_model.specs.Sound.{IsNet};
+ghost use Rattle.flow_model.specs.Passing.{PassesBlock, PassesEdge};
+ghost use Rattle.flow_model.specs.Sound.{IsNet};
 ghost use Rattle.flow_network.specs.Flow.{AreSides, counts_of, price_of};
 ghost use Rattle.dual_check.specs.First.{IsFirst, IsFirstBad};
 

@@ -4,8 +4,8 @@ use Rattle.std.proofs.lemmas.List.{append-nil, append_assoc}
 use Rattle.byte_view.specs.Cursor.{Cursor}
 use Rattle.refusal.specs.declared.place.Place.{Place}
 use Rattle.placed_view.proofs.StepLemmas.{GoesOn, GoesOn-start, GoesOn-more, GoesOn-end, GoesOn-bad}
-use Rattle.abbrev_model.specs.Abbrev.{Attr}
-use Rattle.abbrev_model.specs.Table.{attrs, next_attr}
+use Rattle.unit_model.specs.Abbrev.{Attr}
+use Rattle.unit_model.specs.Table.{attrs, next_attr}
 
 -- Behind the old attributes stand those that were read from the start up to the cursor.
 pub record AttrsSoFar (start : Cursor) (old new : List Attr) (cur : Cursor) : Type 0 where

@@ -7,8 +7,8 @@ use Rattle.std.proofs.lemmas.Bool.Decides.{nat_tests}
 use Rattle.std.proofs.lemmas.List.Folds.{find_at}
 use Rattle.std.proofs.lemmas.Option.{slice_get_cases}
 use Rattle.std.proofs.lemmas.List.Quantifiers.{position-Some}
-use Rattle.abbrev_model.specs.Abbrev.{Attr, Abbrev, find_code, has_code}
-use Rattle.abbrev_model.specs.Table.{max_abbrevs}
+use Rattle.unit_model.specs.Abbrev.{Attr, Abbrev, find_code, has_code}
+use Rattle.unit_model.specs.Table.{max_abbrevs}
 use Rattle.dwarf_abbrev.specs.declared.rows.Row.{Row}
 use Rattle.dwarf_abbrev.specs.declared.rows.Rows.{Rows}
 use Rattle.dwarf_abbrev.specs.Codes.{place_of}

@@ -9,8 +9,8 @@ use Rattle.refusal.specs.declared.place.Stop.TheVariants.{Refused, NoMemory}
 use Rattle.refusal.specs.Place.{JudgesUnlessNoMemory}
 use Rattle.placed_view.specs.Reader.{IsRead, refused_at, start_of}
 use Rattle.placed_view.proofs.StepLemmas.{GoesOn, GoesOn-start, GoesOn-more, GoesOn-end, GoesOn-bad}
-use Rattle.abbrev_model.specs.Abbrev.{Abbrev}
-use Rattle.abbrev_model.specs.Table.{table, next_abbrev}
+use Rattle.unit_model.specs.Abbrev.{Abbrev}
+use Rattle.unit_model.specs.Table.{table, next_abbrev}
 use Rattle.dwarf_abbrev.specs.declared.rows.Rows.{Rows}
 use Rattle.dwarf_abbrev.specs.Rows.{table_of, IsWhole, ReadsNext}
 

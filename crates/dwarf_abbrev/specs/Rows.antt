@@ -5,7 +5,7 @@ use Rattle.byte_view.specs.Cursor.{Cursor}
 use Rattle.refusal.specs.declared.place.Stop.{Stop}
 use Rattle.refusal.specs.declared.place.Stop.TheVariants.{Refused, NoMemory}
 use Rattle.placed_view.specs.Reader.{Read}
-use Rattle.abbrev_model.specs.Abbrev.{Attr, Abbrev}
+use Rattle.unit_model.specs.Abbrev.{Attr, Abbrev}
 use Rattle.dwarf_abbrev.specs.declared.rows.Row.{Row}
 use Rattle.dwarf_abbrev.specs.declared.rows.Rows.{Rows}
 

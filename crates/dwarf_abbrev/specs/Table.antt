@@ -5,8 +5,8 @@ use Rattle.refusal.specs.declared.place.Stop.{Stop}
 use Rattle.refusal.specs.declared.place.Stop.TheVariants.{Refused, NoMemory}
 use Rattle.refusal.specs.declared.place.Place.{Place}
 use Rattle.placed_view.specs.Reader.{Read, Answers}
-use Rattle.abbrev_model.specs.Abbrev.{Attr}
-use Rattle.abbrev_model.specs.Table.{next_attr}
+use Rattle.unit_model.specs.Abbrev.{Attr}
+use Rattle.unit_model.specs.Table.{next_attr}
 
 -- A list of attributes with one more, where there is one.
 abbrev pub more_attrs : List Attr → Option Attr → Option (List Attr)

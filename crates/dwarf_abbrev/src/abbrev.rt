@@ -12,7 +12,7 @@ pub struct Abbrev<'t> {
 }
 
 impl<'t> Model for Abbrev<'t> {
-    ghost use Rattle.abbrev_model.specs.Abbrev.{Abbrev};
+    ghost use Rattle.unit_model.specs.Abbrev.{Abbrev};
 
     ghost Value = { Abbrev };
 

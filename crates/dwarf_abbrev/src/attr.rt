@@ -1,6 +1,6 @@
 ghost use Rattle.std.specs.Prelude.{◌≡◌, ◌++◌, ◌∷◌, [], ◌<◌, ◌≤◌, length, OnOk};
 ghost use Rattle.placed_view.specs.Reader.{Answers};
-ghost use Rattle.abbrev_model.specs.Table.{attrs as attrs_told, implicit as implicit_told};
+ghost use Rattle.unit_model.specs.Table.{attrs as attrs_told, implicit as implicit_told};
 ghost use Rattle.dwarf_abbrev.specs.Table.{ReadsAttr, ReadsAttrs};
 
 use byte_view::Cur;
@@ -21,7 +21,7 @@ pub struct Attr {
 }
 
 impl Model for Attr {
-    ghost use Rattle.abbrev_model.specs.Abbrev.{Attr};
+    ghost use Rattle.unit_model.specs.Abbrev.{Attr};
 
     ghost Value = { Attr };
 
@@ -29,7 +29,7 @@ impl Model for Attr {
 }
 
 /// The value behind a form, where it stands in the table.
-#[tactic(auto, unfolding(abbrev_model::specs::Table::implicit))]
+#[tactic(auto, unfolding(unit_model::specs::Table::implicit))]
 fn read_implicit(cur: &mut Cur<'_>, form: u64) -> Result<i64, Place>
     ensures read { Answers (λ z. z) result cur.new (implicit_told form cur.old) }
     ensures not_longer { OnOk result (length cur.new.left ≤ length cur.old.left) }
@@ -42,7 +42,7 @@ fn read_implicit(cur: &mut Cur<'_>, form: u64) -> Result<i64, Place>
 }
 
 /// The next attribute, where the list does not end.
-#[tactic(auto, unfolding(abbrev_model::specs::Table::next_attr))]
+#[tactic(auto, unfolding(unit_model::specs::Table::next_attr))]
 fn read_attr(cur: &mut Cur<'_>) -> Result<Option<Attr>, Place>
     ensures read { ReadsAttr result cur.old cur.new }
     ensures shorter { OnOk result (length cur.new.left < length cur.old.left) }

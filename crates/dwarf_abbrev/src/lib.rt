@@ -1,4 +1,5 @@
-//! Abbreviation tables: what the entries of one code have, and in which forms.
+//! Abbreviation tables: what the entries of one code have, and in which forms; the place of a code
+//! in a table.
 //!
 //! `read_table` reads the table that stands at the start of a piece, and the `Abbrevs` that it
 //! answers finds an abbreviation by its code.

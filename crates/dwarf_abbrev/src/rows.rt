@@ -1,7 +1,7 @@
 // A table in memory, while it is read.
 ghost use Rattle.std.specs.Prelude.{◌≡◌, ◌++◌, ◌∷◌, [], ◌<◌, ◌≤◌, length, None, OnOk};
 ghost use Rattle.placed_view.specs.Reader.{Answers};
-ghost use Rattle.abbrev_model.specs.Table.{children_byte, abbrev_of, next_abbrev};
+ghost use Rattle.unit_model.specs.Table.{children_byte, abbrev_of, next_abbrev};
 ghost use Rattle.dwarf_abbrev.specs.Codes.{place_of};
 
 use crate::attr::{Attr, read_attrs};
@@ -33,7 +33,7 @@ pub(crate) struct Rows {
 }
 
 /// Whether children may follow an entry.
-#[tactic(auto, unfolding(abbrev_model::specs::Table::children_byte))]
+#[tactic(auto, unfolding(unit_model::specs::Table::children_byte))]
 fn read_children(cur: &mut Cur<'_>) -> Result<bool, Place>
     ensures read { Answers (λ b. b) result cur.new (children_byte cur.old) }
     ensures shorter { OnOk result (length cur.new.left < length cur.old.left) }
@@ -71,7 +71,7 @@ impl Rows {
     }
 
     /// Reads the abbreviation of a code that is not in the table yet.
-    #[tactic(auto, unfolding(abbrev_model::specs::Table::abbrev_of))]
+    #[tactic(auto, unfolding(unit_model::specs::Table::abbrev_of))]
     fn read_abbrev(&mut self, code: u64, cur: &mut Cur<'_>) -> Result<(), Stop>
         requires whole { IsWhole self.old }
         requires fresh { place_of self.old.codes code ≡ None }
@@ -95,7 +95,7 @@ impl Rows {
     }
 
     /// Reads the next abbreviation, where the table does not end.
-    #[tactic(auto, unfolding(abbrev_model::specs::Table::next_abbrev, abbrev_model::specs::Table::abbrev_behind), using(crate::proofs::RowLemmas::next_lemmas))]
+    #[tactic(auto, unfolding(unit_model::specs::Table::next_abbrev, unit_model::specs::Table::abbrev_behind), using(crate::proofs::RowLemmas::next_lemmas))]
     pub fn read_next(&mut self, cur: &mut Cur<'_>) -> Result<bool, Stop>
         requires { IsWhole self.old }
         ensures read { ReadsNext result self.old self.new cur.new

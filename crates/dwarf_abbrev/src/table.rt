@@ -1,6 +1,6 @@
 ghost use Rattle.refusal.specs.Place.{JudgesUnlessNoMemory};
 ghost use Rattle.placed_view.specs.Reader.{IsRead, refused_at, start_of};
-ghost use Rattle.abbrev_model.specs.Table.{table};
+ghost use Rattle.unit_model.specs.Table.{table};
 
 use crate::abbrev::Abbrev;
 use crate::rows::Rows;
@@ -17,7 +17,7 @@ pub struct Abbrevs {
 
 impl Model for Abbrevs {
     ghost use Rattle.std.specs.Prelude.{List};
-    ghost use Rattle.abbrev_model.specs.Abbrev.{Abbrev};
+    ghost use Rattle.unit_model.specs.Abbrev.{Abbrev};
     ghost use Rattle.dwarf_abbrev.specs.Rows.{table_of, IsWhole};
 
     ghost Value = { List Abbrev };
@@ -29,7 +29,7 @@ impl Model for Abbrevs {
 
 impl Abbrevs {
     ghost use Rattle.std.specs.Prelude.{◌≡◌, ◌==◌, ◌<◌, Some, length, position, slice_get};
-    ghost use Rattle.abbrev_model.specs.Abbrev.{find_code};
+    ghost use Rattle.unit_model.specs.Abbrev.{find_code};
 
     /// How many abbreviations there are.
     pub fn len(&self) -> usize

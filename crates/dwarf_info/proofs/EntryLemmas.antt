@@ -14,7 +14,7 @@ use Rattle.refusal.specs.declared.place.Stop.{Stop}
 use Rattle.refusal.specs.declared.place.Stop.TheVariants.{Refused, NoMemory}
 use Rattle.refusal.specs.Place.{fails_at, in_binary}
 use Rattle.dwarf_info.specs.Values.{ReadsValues}
-use Rattle.abbrev_model.specs.Abbrev.{Abbrev}
+use Rattle.unit_model.specs.Abbrev.{Abbrev}
 use Rattle.unit_model.specs.Values.{Found, values}
 use Rattle.unit_model.specs.Entries.{Entry, InUnit, SoFar, max_entries, entry_of, next_entry, entries}
 use Rattle.dwarf_info.specs.declared.rows.Row.{Row}

@@ -8,7 +8,7 @@ use Rattle.byte_view.specs.Cursor.{Cursor}
 use Rattle.refusal.specs.declared.kind.Kind.TheVariants.{BadVersion, PastSection}
 use Rattle.placed_view.specs.Reader.{gives, refuse_if, cursor_behind, field}
 use Rattle.value_model.specs.Forms.{offset_size}
-use Rattle.abbrev_model.specs.Abbrev.{Abbrev}
+use Rattle.unit_model.specs.Abbrev.{Abbrev}
 use Rattle.unit_model.specs.Header.{Header, leads_into, abbrevs_at, address_size, header_4, is_read_type, header_5_behind, header_5, other_version, header_of_version, header}
 use Rattle.entry_model.proofs.CursorLemmas.{same_pair, split}
 use Rattle.dwarf_info.specs.Tables.{from_offset, IsTableAt, HoldsTables, StandsIn}

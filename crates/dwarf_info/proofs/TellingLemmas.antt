@@ -16,7 +16,7 @@ use Rattle.value_model.specs.Forms.{signed_const, operand_of}
 use Rattle.value_model.specs.Reading.{value_at}
 use Rattle.refusal.specs.declared.kind.Kind.TheVariants.{BadClass}
 use Rattle.placed_view.specs.Reader.{Read, behind, gives, refuse_if, uleb}
-use Rattle.abbrev_model.specs.Abbrev.{Attr, Abbrev, find_code}
+use Rattle.unit_model.specs.Abbrev.{Attr, Abbrev, find_code}
 use Rattle.unit_model.specs.Wanted.{Use, accepts, wanted, unused, as_text, as_place, as_address, as_end, as_entry, as_number, as_ranges}
 use Rattle.unit_model.specs.Values.{Found, value, placed_value, is_unused, with_found, next_value, values, values_from}
 use Rattle.unit_model.specs.Entries.{InUnit, SoFar, max_entries, closed, entry_of, entry_if_known, entry_of_code, next_entry}

@@ -7,7 +7,7 @@ use Rattle.placed_view.proofs.ReadLemmas.{cursor_is}
 use Rattle.value_model.specs.Value.{Value, Fault}
 use Rattle.value_model.specs.Reading.{value_at}
 use Rattle.value_model.specs.Spelling.{Spells}
-use Rattle.abbrev_model.specs.Abbrev.{Attr}
+use Rattle.unit_model.specs.Abbrev.{Attr}
 use Rattle.refusal.specs.declared.place.Place.{Place}
 use Rattle.placed_view.specs.Reader.{behind}
 use Rattle.unit_model.specs.Wanted.{Use, accepts, wanted}

@@ -4,8 +4,8 @@ use Rattle.std.specs.Ordering.{nat_cmp}
 use Rattle.std.specs.BTreeMap.{BTreeMap, get}
 use Rattle.byte_view.specs.Cursor.{Cursor}
 use Rattle.placed_view.specs.Reader.{IsRead, cursor_behind}
-use Rattle.abbrev_model.specs.Abbrev.{Abbrev}
-use Rattle.abbrev_model.specs.Table.{table}
+use Rattle.unit_model.specs.Abbrev.{Abbrev}
+use Rattle.unit_model.specs.Table.{table}
 use Rattle.unit_model.specs.Header.{Header}
 
 -- The bytes of a section from an offset in the file on.

@@ -1,7 +1,7 @@
 -- The attributes of an abbreviation that tell something of its entries.
 use Rattle.std.specs.Prelude.{ℕ, Bool, ◌==◌, ◌&&◌, ◌||◌, if◌then◌else◌, List, [], ◌∷◌, ◌++◌}
 use Rattle.std.specs.List.{list_any}
-use Rattle.abbrev_model.specs.Abbrev.{Attr, Abbrev}
+use Rattle.unit_model.specs.Abbrev.{Attr, Abbrev}
 use Rattle.unit_model.specs.Wanted.{wanted}
 use Rattle.unit_model.specs.Values.{is_unused}
 

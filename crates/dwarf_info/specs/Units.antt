@@ -4,7 +4,7 @@ use Rattle.byte_view.specs.Cursor.{Cursor}
 use Rattle.refusal.specs.declared.place.Stop.{Stop}
 use Rattle.refusal.specs.declared.place.Stop.TheVariants.{Refused, NoMemory}
 use Rattle.placed_view.specs.Reader.{Read, Reader, ◌>>=◌, gives}
-use Rattle.abbrev_model.specs.Abbrev.{Abbrev}
+use Rattle.unit_model.specs.Abbrev.{Abbrev}
 use Rattle.unit_model.specs.Entries.{entries}
 use Rattle.unit_model.specs.Units as model
 use Rattle.dwarf_info.specs.Entries.{all_of, IsWhole}

@@ -5,8 +5,8 @@
 ghost use Rattle.std.specs.Prelude.{◌≡◌, ◌++◌, ◌∷◌, [], List, map, IfOk, OnOk};
 ghost use Rattle.refusal.specs.Place.{JudgesUnlessNoMemory};
 ghost use Rattle.placed_view.specs.Reader.{IsRead, refused_at, start_of};
-ghost use Rattle.abbrev_model.specs.Abbrev.{Attr as AttrTold};
-ghost use Rattle.abbrev_model.specs.Table.{table};
+ghost use Rattle.unit_model.specs.Abbrev.{Attr as AttrTold};
+ghost use Rattle.unit_model.specs.Table.{table};
 ghost use Rattle.dwarf_info.specs.Tables.{room_of as room_told};
 ghost use Rattle.dwarf_info.specs.Telling.{is_among as is_among_told, is_implicit as is_implicit_told, shortened, takes_none as takes_none_told, telling_behind, tells_nothing as tells_nothing_told, told_with};
 
@@ -34,7 +34,7 @@ struct EntryKind {
 }
 
 impl Model for EntryKind {
-    ghost use Rattle.abbrev_model.specs.Abbrev.{Abbrev};
+    ghost use Rattle.unit_model.specs.Abbrev.{Abbrev};
 
     ghost Value = { Abbrev };
 
@@ -181,7 +181,7 @@ pub(crate) struct EntryKinds {
 
 impl Model for EntryKinds {
     ghost use Rattle.std.specs.Prelude.{◌≡◌, List, map};
-    ghost use Rattle.abbrev_model.specs.Abbrev.{Abbrev};
+    ghost use Rattle.unit_model.specs.Abbrev.{Abbrev};
     ghost use Rattle.dwarf_info.specs.Tables.{room_of as room_told};
     ghost use Rattle.dwarf_info.specs.Telling.{shortened};
 
@@ -196,7 +196,7 @@ impl Model for EntryKinds {
 impl EntryKinds {
     ghost use Rattle.std.specs.Prelude.{◌≡◌, IfOk};
     ghost use Rattle.std.specs.Option.{option_map};
-    ghost use Rattle.abbrev_model.specs.Abbrev.{find_code};
+    ghost use Rattle.unit_model.specs.Abbrev.{find_code};
     ghost use Rattle.dwarf_info.specs.Tables.{room_of as room_told};
     ghost use Rattle.dwarf_info.specs.Telling.{shortened};
 

@@ -1,4 +1,5 @@
-//! The units of debugging information, with all their entries and the attributes that are wanted.
+//! The units of debugging information, with all their entries and the attributes that are wanted;
+//! the tags and attributes that are asked for, by the standard's names.
 //!
 //! `read_units` reads `.debug_info` and its abbreviations; the `Units` that it answers lends the
 //! entries of each unit, one at a time, and finds the one that begins at an offset.

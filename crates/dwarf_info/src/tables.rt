@@ -3,7 +3,7 @@ ghost use Rattle.std.specs.Prelude.{◌≡◌, IfSome};
 ghost use Rattle.std.specs.Option.{option_map};
 ghost use Rattle.refusal.specs.Place.{JudgesUnlessNoMemory};
 ghost use Rattle.placed_view.specs.Reader.{IsRead, refused_at, start_of};
-ghost use Rattle.abbrev_model.specs.Table.{table};
+ghost use Rattle.unit_model.specs.Table.{table};
 ghost use Rattle.dwarf_info.specs.Tables.{IsTableAt, from_offset};
 
 use crate::kinds::{EntryKinds, read_kinds};

@@ -1,5 +1,5 @@
 //! What an ELF64 file says: its tables, the names and bytes of its sections, its live ranges of
-//! addresses, and the places at which its headers are refused.
+//! addresses, its segments of code, and the places at which its headers are refused.
 //!
 //! Definitions in `specs/`, with examples in `proofs/`, and laws about them as functions with an
 //! empty body.

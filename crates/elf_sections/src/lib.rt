@@ -1,5 +1,5 @@
-//! The sections and the ranges of code of an ELF64 file. Sections are read where they stand:
-//! nothing of them is copied.
+//! The sections, the ranges and the segments of code of an ELF64 file. Sections are read where they
+//! stand: nothing of them is copied.
 //!
 //! `read` judges the file's headers, and puts the segments of code in order; the `Elf` that it
 //! answers looks a section up by its name and says which ranges of addresses are code. Memory is

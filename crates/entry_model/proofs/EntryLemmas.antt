@@ -11,7 +11,7 @@ use Rattle.placed_view.specs.Reader.{Read, Reader, behind, gives, refuse, refuse
 use Rattle.placed_view.specs.Steps.{goes_on, steps, to_the_end, if_left, step_if_left, while_left}
 use Rattle.placed_view.proofs.ReadLemmas.{uleb-shorter}
 use Rattle.placed_view.proofs.StepLemmas.{step_if_left-some, step_if_left-none}
-use Rattle.abbrev_model.specs.Abbrev.{Attr, Abbrev, find_code}
+use Rattle.unit_model.specs.Abbrev.{Attr, Abbrev, find_code}
 use Rattle.unit_model.specs.Values.{Found, values}
 use Rattle.unit_model.specs.Entries.{Entry, InUnit, SoFar, closed, max_depth, max_entries, entry_of, entry_if_known, entry_of_code, next_entry, entries}
 use Rattle.entry_model.specs.Entries.{SpellsEntry, SpellsEntries, no_entry, level_closed, entry_first, AreShallow, wanted_among}

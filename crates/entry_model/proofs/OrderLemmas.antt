@@ -12,8 +12,8 @@ use Rattle.placed_view.specs.Reader.{Read, Reader, behind, gives, refuse, refuse
 use Rattle.placed_view.specs.Steps.{goes_on, steps, to_the_end, if_left, step_if_left, while_left}
 use Rattle.placed_view.proofs.ReadLemmas.{uleb-shorter}
 use Rattle.value_model.specs.Forms.{offset_size}
-use Rattle.abbrev_model.specs.Abbrev.{Abbrev}
-use Rattle.abbrev_model.specs.Table.{table}
+use Rattle.unit_model.specs.Abbrev.{Abbrev}
+use Rattle.unit_model.specs.Table.{table}
 use Rattle.unit_model.specs.Entries.{Entry, InUnit, entries, max_entries}
 use Rattle.unit_model.specs.Header.{Header, long_length, short_length, sized, unit_length, leads_into, abbrevs_at, address_size, header_4, is_read_type, header_5_behind, header_5, other_version, header_of_version, header}
 use Rattle.unit_model.specs.Units.{Unit as UnitRead, Units, no_units, Extent, with_skipped, with_unit, unit_behind, some_unit, unit_body, next_unit, units}

@@ -10,8 +10,8 @@ use Rattle.byte_view.specs.Reading.{SpellsField, SpellsUleb, SpellsSleb}
 use Rattle.placed_view.specs.Reader.{Read, Reader, behind, gives, refuse_if, uleb, sleb, field}
 use Rattle.placed_view.specs.Steps.{goes_on, steps, to_the_end}
 use Rattle.placed_view.proofs.ReadLemmas.{uleb-shorter}
-use Rattle.abbrev_model.specs.Abbrev.{Attr, Abbrev, find_code, has_code}
-use Rattle.abbrev_model.specs.Table.{implicit, next_attr, attrs, max_abbrevs, children_byte, abbrev_of, abbrev_behind, next_abbrev, table}
+use Rattle.unit_model.specs.Abbrev.{Attr, Abbrev, find_code, has_code}
+use Rattle.unit_model.specs.Table.{implicit, next_attr, attrs, max_abbrevs, children_byte, abbrev_of, abbrev_behind, next_abbrev, table}
 use Rattle.entry_model.specs.Tables.{SpellsImplicit, DW_FORM_implicit_const, other_form, SpellsAttr, SpellsAttrs, no_attr, attr_first, children_code, SpellsAbbrev, SpellsTable, no_abbrev, abbrev_first, AreDistinct, IsTable}
 use Rattle.entry_model.proofs.CursorLemmas.{same_pair, reads_uleb, uleb_reads, reads_sleb, sleb_reads, reads_field, field_reads, not_longer, Split, split, Unless, unless, unless-again}
 

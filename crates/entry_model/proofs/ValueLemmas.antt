@@ -14,7 +14,7 @@ use Rattle.value_model.proofs.Read.{value_at-spelled}
 use Rattle.value_model.proofs.Spelled.{value_at-again}
 use Rattle.placed_view.specs.Reader.{Read, Reader, behind, gives, refuse_if}
 use Rattle.placed_view.proofs.ReadLemmas.{cursor_is}
-use Rattle.abbrev_model.specs.Abbrev.{Attr}
+use Rattle.unit_model.specs.Abbrev.{Attr}
 use Rattle.unit_model.specs.Wanted.{Use, accepts, wanted}
 use Rattle.unit_model.specs.Values.{Found, value, placed_value, is_unused, with_found, next_value, values_from, values}
 use Rattle.entry_model.specs.Entries.{SpellsValues, no_value, value_first, first_of_each, is_wanted, wanted_among, IsAccepted}

@@ -4,7 +4,7 @@ use Rattle.std.specs.List.{AllByRecursion}
 use Rattle.byte_view.specs.Cursor.{Cursor, Reads}
 use Rattle.byte_view.specs.Reading.{SpellsUleb}
 use Rattle.value_model.specs.Spelling.{Spells}
-use Rattle.abbrev_model.specs.Abbrev.{Attr, Abbrev, find_code}
+use Rattle.unit_model.specs.Abbrev.{Attr, Abbrev, find_code}
 use Rattle.unit_model.specs.Wanted.{accepts, wanted}
 use Rattle.unit_model.specs.Values.{Found, is_unused}
 use Rattle.unit_model.specs.Entries.{Entry, InUnit, max_depth}

@@ -1,8 +1,8 @@
 -- What holds of readings and spellings.
 use Rattle.std.specs.Prelude.{◌≡◌, ◌≤◌, ℕ, ◌+◌, List, ◌++◌, length, sum_by, Option, Ok}
 use Rattle.byte_view.specs.Cursor.{Cursor}
-use Rattle.abbrev_model.specs.Abbrev.{Abbrev}
-use Rattle.abbrev_model.specs.Table.{table}
+use Rattle.unit_model.specs.Abbrev.{Abbrev}
+use Rattle.unit_model.specs.Table.{table}
 use Rattle.unit_model.specs.Entries.{Entry, InUnit, entries, max_entries}
 use Rattle.unit_model.specs.Units.{Units, units}
 use Rattle.entry_model.specs.Entries.{SpellsEntries, AreShallow}

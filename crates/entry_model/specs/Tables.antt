@@ -4,8 +4,8 @@ use Rattle.std.specs.Prelude.{◌≡◌, ◌≢◌, ◌≤◌, ℕ, ℤ, pos, Bo
 use Rattle.std.specs.List.{AllByRecursion}
 use Rattle.byte_view.specs.Cursor.{Cursor, Reads}
 use Rattle.byte_view.specs.Reading.{SpellsField, SpellsUleb, SpellsSleb}
-use Rattle.abbrev_model.specs.Abbrev.{Attr, Abbrev}
-use Rattle.abbrev_model.specs.Table.{max_abbrevs}
+use Rattle.unit_model.specs.Abbrev.{Attr, Abbrev}
+use Rattle.unit_model.specs.Table.{max_abbrevs}
 
 -- Behind the form DW_FORM_implicit_const stands its value. Behind other forms stands none.
 pub data SpellsImplicit : ℕ → Cursor → Cursor → ℤ → Type 0 where

@@ -1,5 +1,5 @@
 //! The tables of abbreviations and the entries of units by the bytes that spell them, one behind
-//! the other: the second wording of what `abbrev_model` and `unit_model` read.
+//! the other: the second wording of what `unit_model` read.
 //!
 //! Definitions in `specs/`, with examples in `proofs/`, and laws about them as functions with an
 //! empty body.

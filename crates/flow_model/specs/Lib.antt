@@ -4,3 +4,7 @@ pub mod Laws
 pub mod Network
 pub mod Prices
 pub mod Repair
+pub mod Balance
+pub mod BalanceLaws
+pub mod Passing
+pub mod Sound

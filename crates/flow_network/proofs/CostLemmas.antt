@@ -9,8 +9,8 @@ use Rattle.flow_model.specs.declared.arc.Arc.{Arc}
 use Rattle.flow_model.specs.Circulation.{root, cost_on, total_cost}
 use Rattle.flow_model.specs.Network.{Network, Counts, arcs_of, network_of, free_arc, out_side, return_arcs, returns}
 use Rattle.flow_model.specs.Repair.{AreCounts, cost_of}
-use Rattle.balance_model.specs.Sound.{IsNet, IsLimitedArc}
-use Rattle.balance_model.proofs.LimitLemmas.{nets_are_limited}
+use Rattle.flow_model.specs.Sound.{IsNet, IsLimitedArc}
+use Rattle.flow_model.proofs.LimitLemmas.{nets_are_limited}
 use Rattle.flow_network.specs.Cost.{IsCheap}
 
 -- the cost of the first i arcs, and what is left

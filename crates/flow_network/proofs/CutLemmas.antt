@@ -5,7 +5,7 @@ use Rattle.std.proofs.lemmas.List.{drop_more, drop_all}
 use Rattle.std.proofs.lemmas.List.Elements.{All-get_or}
 use Rattle.flow_model.specs.declared.arc.Arc.{Arc}
 use Rattle.flow_model.specs.Cut.{enters, leaves, least_in, most_out, both_bounds}
-use Rattle.balance_model.specs.Sound.{IsSoundUpper, IsLimitedArc}
+use Rattle.flow_model.specs.Sound.{IsSoundUpper, IsLimitedArc}
 
 -- the sums over the first i arcs, and what is left
 pub record SummedTo (set : ℕ → Bool) (arcs : List Arc) (i least most : ℕ) : Type 0 where

@@ -9,9 +9,9 @@ use Rattle.block_model.specs.declared.parts.Weight.{Weight}
 use Rattle.block_model.specs.Limits.{max_blocks, max_edges}
 use Rattle.flow_model.specs.declared.arc.Arc.{Arc}
 use Rattle.flow_model.specs.Network.{Network, arcs_of, network_of}
-use Rattle.balance_model.specs.Sound.{IsSound, AreWeights, IsNet, IsLimitedArc}
-use Rattle.balance_model.proofs.LimitLemmas.{nets_are_limited}
-use Rattle.balance_model.proofs.NetLemmas.{length-block_arcs, length-edge_arcs}
+use Rattle.flow_model.specs.Sound.{IsSound, AreWeights, IsNet, IsLimitedArc}
+use Rattle.flow_model.proofs.LimitLemmas.{nets_are_limited}
+use Rattle.flow_model.proofs.NetLemmas.{length-block_arcs, length-edge_arcs}
 use Rattle.flow_network.specs.Net.{network_by, tails_of, heads_of, KeepsNet}
 use Rattle.flow_network.specs.Table.{AreRows}
 use Rattle.flow_network.specs.declared.rows.Rows.{Rows}

@@ -3,7 +3,7 @@ use Rattle.std.specs.Prelude.{◌≡◌, ℕ, ◌+◌, ◌*◌, List, length, ma
 use Rattle.flow_model.specs.declared.arc.Arc.{Arc}
 use Rattle.flow_model.specs.Circulation.{root}
 use Rattle.flow_model.specs.Network.{Network, arcs_of, free_arc}
-use Rattle.balance_model.specs.Sound.{IsNet}
+use Rattle.flow_model.specs.Sound.{IsNet}
 use Rattle.flow_network.specs.Table.{AreRows}
 use Rattle.flow_network.specs.declared.rows.Rows.{Rows}
 

@@ -3,7 +3,7 @@ ghost use Rattle.std.specs.Prelude.{◌≡◌, ◌++◌, ◌∷◌, ◌<◌, ◌
 ghost use Rattle.std.specs.List.{All};
 ghost use Rattle.block_model.specs.Limits.{max_blocks};
 ghost use Rattle.flow_model.specs.Network as model;
-ghost use Rattle.balance_model.specs.Sound.{JoinsBlocks};
+ghost use Rattle.flow_model.specs.Sound.{JoinsBlocks};
 
 use crate::sides::{ROOT, in_side, out_side};
 use crate::units::{lower_of_block, lower_of_edge, raise_of_block, raise_of_edge, weight_of};

@@ -2,7 +2,7 @@
 ghost use Rattle.std.specs.Prelude.{◌≡◌, ◌*◌, ◌≤◌, length, IfOk};
 ghost use Rattle.block_model.specs.Limits.{max_blocks, max_edges};
 ghost use Rattle.flow_model.specs.Network.{arcs_of, network_of};
-ghost use Rattle.balance_model.specs.Sound.{AreWeights, IsNet, IsSound};
+ghost use Rattle.flow_model.specs.Sound.{AreWeights, IsNet, IsSound};
 ghost use Rattle.flow_network.specs.Net.{heads_of, tails_of};
 ghost use Rattle.flow_network.specs.Rows.{places_of};
 

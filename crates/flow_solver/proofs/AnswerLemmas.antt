@@ -9,7 +9,7 @@ use Rattle.flow_model.specs.Network.{Network, Counts, arcs_of, loads}
 use Rattle.flow_model.specs.Prices.{FitsOn, Fit}
 use Rattle.flow_model.specs.Repair.{ConserveWithinBounds, FitCounts}
 use Rattle.flow_model.proofs.LawLemmas.{fitting_prices_show_least_counts, a_cut_shows_no_counts}
-use Rattle.balance_model.proofs.NetLemmas.{side_of}
+use Rattle.flow_model.proofs.NetLemmas.{side_of}
 use Rattle.residual_model.specs.Laws.{IsClosed}
 use Rattle.residual_model.specs.Loads.{own_counts}
 use Rattle.residual_model.specs.Residual.{StepsOn}

@@ -7,7 +7,7 @@ use Rattle.std.proofs.lemmas.Int.{ints}
 use Rattle.std.proofs.lemmas.List.{get_or-set_same, get_or-set_other, get_or_past, get_or_default, length-set}
 use Rattle.std.proofs.lemmas.List.Sums.{sum_by-set, sum_by-le, get_or-le-sum_by}
 use Rattle.path_search.specs.Ground.{price_at}
-use Rattle.augmenting_path.proofs.PathLemmas.{when}
+use Rattle.path_search.proofs.PathLemmas.{when}
 use Rattle.flow_solver.specs.Excess.{surplus_of, lack_of, surplus, lack, raised, transferred}
 
 -- ---- one side

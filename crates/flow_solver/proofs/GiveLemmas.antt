@@ -7,8 +7,8 @@ use Rattle.path_search.specs.Ground.{arc_at, count_at, price_at}
 use Rattle.path_search.specs.Tight.{IsTightAlong}
 use Rattle.path_search.proofs.RowLemmas.{placed}
 use Rattle.reached_sides.specs.declared.mark.Way.TheVariants.{Along}
-use Rattle.augmenting_path.specs.declared.step.Step.{Step}
-use Rattle.augmenting_path.specs.Path.{IsOpenStep, IsPath, IsTight}
+use Rattle.path_search.specs.declared.step.Step.{Step}
+use Rattle.path_search.specs.Path.{IsOpenStep, IsPath, IsTight}
 use Rattle.flow_solver.specs.State.{IsState, IsGiven, HasMoved}
 use Rattle.flow_solver.proofs.StateLemmas.{moved_along, given_by}
 

@@ -15,11 +15,11 @@ use Rattle.path_search.specs.Ground.{arc_at, count_at, price_at}
 use Rattle.path_search.specs.Search.{mark_at, distance_at, is_settled}
 use Rattle.path_search.specs.Ways.{AreWays, HasComeTo, IsOpen, cost_of_step, end_of, rank_of, start_of}
 use Rattle.path_search.proofs.RowLemmas.{each_at, each_by_place}
-use Rattle.augmenting_path.specs.declared.step.Step.{Step}
-use Rattle.augmenting_path.specs.Path.{AreApart, StepTakes, count_after, pushed, step_end, step_start}
-use Rattle.augmenting_path.specs.Trace.{IsTold, IsTraced}
-use Rattle.augmenting_path.proofs.PathLemmas.{pushed_at}
-use Rattle.augmenting_path.proofs.RoomLemmas.{left_alike}
+use Rattle.path_search.specs.declared.step.Step.{Step}
+use Rattle.path_search.specs.Path.{AreApart, StepTakes, count_after, pushed, step_end, step_start}
+use Rattle.path_search.specs.Trace.{IsTold, IsTraced}
+use Rattle.path_search.proofs.PathLemmas.{pushed_at}
+use Rattle.path_search.proofs.RoomLemmas.{left_alike}
 use Rattle.flow_solver.specs.State.{HasMoved, IsAugmented}
 use Rattle.flow_solver.proofs.ExcessLemmas.{IsFair, fair_lacks}
 use Rattle.flow_solver.proofs.StateLemmas.{IsFound}

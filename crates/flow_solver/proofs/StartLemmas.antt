@@ -9,11 +9,11 @@ use Rattle.std.proofs.lemmas.List.Sums.{get_or-le-sum_by}
 use Rattle.flow_model.specs.declared.arc.Arc.{Arc}
 use Rattle.flow_model.specs.Circulation.{sum_where}
 use Rattle.flow_model.specs.Network.{Network, arcs_of, free_arc}
-use Rattle.balance_model.specs.Sound.{IsNet, IsLimitedArc}
-use Rattle.balance_model.proofs.LimitLemmas.{nets_are_limited}
+use Rattle.flow_model.specs.Sound.{IsNet, IsLimitedArc}
+use Rattle.flow_model.proofs.LimitLemmas.{nets_are_limited}
 use Rattle.residual_model.specs.Residual.{capped, starting}
 use Rattle.path_search.specs.Ground.{arc_at, count_at, price_at, sides_of}
-use Rattle.augmenting_path.proofs.PathLemmas.{when, sum_set}
+use Rattle.path_search.proofs.PathLemmas.{when, sum_set}
 use Rattle.flow_solver.specs.Excess.{AreExcess, surplus_of, lack_of, surplus, lack, transferred}
 use Rattle.flow_solver.specs.State.{IsStart}
 use Rattle.flow_solver.proofs.ExcessLemmas.{transferred_at, transferred-length, transferred_even}

@@ -10,8 +10,8 @@ use Rattle.flow_model.specs.declared.arc.Arc.{Arc}
 use Rattle.flow_model.specs.Circulation.{IsWithin}
 use Rattle.flow_model.specs.Network.{Network, arcs_of, free_arc}
 use Rattle.flow_model.specs.Prices.{FitsOn, Fit}
-use Rattle.balance_model.proofs.ArcLemmas.{each_from}
-use Rattle.balance_model.proofs.LimitLemmas.{nets_are_limited}
+use Rattle.flow_model.proofs.ArcLemmas.{each_from}
+use Rattle.flow_model.proofs.LimitLemmas.{nets_are_limited}
 use Rattle.residual_model.specs.Residual.{moved}
 use Rattle.residual_model.proofs.PushLemmas.{starting_counts_fit}
 use Rattle.residual_model.proofs.StepLemmas.{moved_prices_fit}
@@ -22,10 +22,10 @@ use Rattle.path_search.specs.Ways.{HasEnded, HasWays}
 use Rattle.path_search.proofs.CostLemmas.{few_sides, small_at, way_cost, way_near}
 use Rattle.path_search.proofs.RowLemmas.{each_by_place}
 use Rattle.path_search.proofs.SearchLemmas.{few_settled}
-use Rattle.augmenting_path.specs.declared.step.Step.{Step}
-use Rattle.augmenting_path.specs.Path.{IsPath, pushed, step_start, step_end}
-use Rattle.augmenting_path.proofs.PathLemmas.{HasRoom, pushed-length, pushed_fit, pushed_excess, pushed_raised}
-use Rattle.augmenting_path.proofs.TraceLemmas.{marked}
+use Rattle.path_search.specs.declared.step.Step.{Step}
+use Rattle.path_search.specs.Path.{IsPath, pushed, step_start, step_end}
+use Rattle.path_search.proofs.PathLemmas.{HasRoom, pushed-length, pushed_fit, pushed_excess, pushed_raised}
+use Rattle.path_search.proofs.TraceLemmas.{marked}
 use Rattle.flow_solver.specs.Excess.{surplus, transferred}
 use Rattle.flow_solver.specs.declared.balancing.Sides.{Sides}
 use Rattle.flow_solver.specs.declared.balancing.Sides.TheVariants.{All as Every}

@@ -4,14 +4,14 @@ use Rattle.std.specs.List.{All}
 use Rattle.flow_model.specs.declared.arc.Arc.{Arc}
 use Rattle.flow_model.specs.Circulation.{EachArc, IsWithin}
 use Rattle.flow_model.specs.Network.{Network, arcs_of}
-use Rattle.balance_model.specs.Sound.{IsNet}
+use Rattle.flow_model.specs.Sound.{IsNet}
 use Rattle.residual_model.specs.Residual.{starting}
 use Rattle.reached_sides.specs.declared.mark.Mark.{Mark}
 use Rattle.path_search.specs.Ground.{IsGround, arc_at, count_at, price_at, sides_of}
 use Rattle.path_search.specs.Search.{HasClosed, distance_at}
 use Rattle.path_search.specs.Ways.{HasComeTo}
-use Rattle.augmenting_path.specs.declared.step.Step.{Step}
-use Rattle.augmenting_path.specs.Path.{StepTakes, pushed}
+use Rattle.path_search.specs.declared.step.Step.{Step}
+use Rattle.path_search.specs.Path.{StepTakes, pushed}
 use Rattle.flow_solver.specs.Excess.{AreExcess, surplus_of, lack_of, surplus, lack, transferred}
 
 -- The counts to start from, and their excess.

@@ -6,16 +6,15 @@ ghost use Rattle.flow_model.specs.Network.{arcs_of};
 ghost use Rattle.path_search.specs.Ground.{count_at, price_at};
 ghost use Rattle.path_search.specs.Search.{HasReached, distance_at};
 ghost use Rattle.path_search.specs.Ways.{HasComeTo, HasWays};
-ghost use Rattle.augmenting_path.specs.Path.{AreApart, IsOpenStep};
+ghost use Rattle.path_search.specs.Path.{AreApart, IsOpenStep};
 ghost use Rattle.flow_solver.specs.Excess.{lack_of, surplus_of};
 ghost use Rattle.flow_solver.specs.State.{CanGoOn, HasMoved, IsAugmented};
 ghost use Rattle.flow_solver.specs.State.{IsClosedFrom, IsState};
 
 use crate::excess::transfer;
 use crate::prices::level;
-use augmenting_path::{Step, least_room, push, trace};
 use flow_network::Net;
-use path_search::{Ground, Search};
+use path_search::{Ground, Search, Step, least_room, push, trace};
 use refusal::NoMemory;
 use std::alloc::Global;
 

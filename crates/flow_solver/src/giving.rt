@@ -4,9 +4,8 @@ ghost use Rattle.flow_model.specs.Network.{arcs_of};
 ghost use Rattle.flow_solver.specs.State.{IsGiven, IsState};
 
 use crate::augmenting::move_counts;
-use augmenting_path::Step;
 use flow_network::Net;
-use path_search::is_tight_along;
+use path_search::{Step, is_tight_along};
 use reached_sides::Way;
 
 /// Takes excess from a side straight to those that its arcs enter, as far as these lack counts and

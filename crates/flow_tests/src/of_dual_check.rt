@@ -1,6 +1,6 @@
 // Counts, prices and cuts of worked functions.
 ghost use Rattle.std.specs.Prelude.{◌≡◌, length, IfOk};
-ghost use Rattle.balance_model.specs.Sound.{AreWeights};
+ghost use Rattle.flow_model.specs.Sound.{AreWeights};
 
 use block_model::{Block, Bound, Edge, Weight};
 use cfg_text::Fun;

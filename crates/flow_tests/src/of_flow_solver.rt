@@ -1,6 +1,6 @@
 // What worked networks cost at least.
 ghost use Rattle.std.specs.Prelude.{◌≡◌};
-ghost use Rattle.balance_model.specs.Sound.{AreWeights, IsSoundBound};
+ghost use Rattle.flow_model.specs.Sound.{AreWeights, IsSoundBound};
 
 use block_model::{Block, Bound, Edge, Weight};
 use cfg_text::Fun;

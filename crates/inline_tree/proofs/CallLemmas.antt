@@ -4,13 +4,13 @@ use Rattle.std.specs.Result.{IsErrAnd}
 use Rattle.refusal.specs.declared.place.Place.{Place}
 use Rattle.refusal.specs.declared.place.Stop.{Stop}
 use Rattle.refusal.specs.declared.place.Stop.TheVariants.{Refused}
-use Rattle.entry_pieces.specs.Told.{Tells}
+use Rattle.entry_facts.specs.Told.{Tells}
 use Rattle.unit_model.specs.Entries.{Entry}
 use Rattle.chain_model.specs.declared.member.Member.{Member}
-use Rattle.piece_model.specs.Pieces.{InUnit, and_then, pieces}
-use Rattle.way_model.specs.Origin as way
-use Rattle.entry_names.specs.declared.origin.Origin.{Origin}
-use Rattle.entry_names.specs.Meaning.{Extends, TellsOrigin}
+use Rattle.tree_model.specs.Pieces.{InUnit, and_then, pieces}
+use Rattle.tree_model.specs.Origin as way
+use Rattle.entry_facts.specs.declared.origin.Origin.{Origin}
+use Rattle.entry_facts.specs.Meaning.{Extends, TellsOrigin}
 use Rattle.tree_model.specs.Members.{Told, call_told}
 use Rattle.member_lists.specs.declared.frame.Frame.{Frame}
 use Rattle.member_lists.specs.Frames.{SoFar, behind_call, behind_other, frame_above, left_out, one_deeper}

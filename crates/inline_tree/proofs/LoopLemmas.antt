@@ -12,8 +12,8 @@ use Rattle.refusal.specs.Place.{JudgesUnlessNoMemory}
 use Rattle.unit_model.specs.Entries.{Entry}
 use Rattle.unit_model.specs.Units as unit_model
 use Rattle.chain_model.specs.declared.member.Member.{Member}
-use Rattle.piece_model.specs.Pieces.{InUnit, and_then}
-use Rattle.entry_names.specs.Meaning.{Extends}
+use Rattle.tree_model.specs.Pieces.{InUnit, and_then}
+use Rattle.entry_facts.specs.Meaning.{Extends}
 use Rattle.tree_model.specs.Members.{Told}
 use Rattle.member_lists.specs.Frames.{SoFar, all_members, nothing}
 use Rattle.tree_model.specs.Tree.{Source, members}

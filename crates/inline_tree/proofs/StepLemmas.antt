@@ -8,15 +8,15 @@ use Rattle.refusal.specs.declared.place.Stop.{Stop}
 use Rattle.refusal.specs.declared.place.Stop.TheVariants.{Refused, NoMemory}
 use Rattle.refusal.specs.declared.kind.Kind.TheVariants.{TooManyRanges}
 use Rattle.refusal.specs.Place.{in_binary}
-use Rattle.entry_pieces.specs.Told.{Tells}
+use Rattle.entry_facts.specs.Told.{Tells}
 use Rattle.unit_model.specs.Constants.{DW_TAG_inlined_subroutine, DW_TAG_subprogram}
 use Rattle.unit_model.specs.Entries.{Entry}
 use Rattle.chain_model.specs.declared.member.Member.{Member}
 use Rattle.key_types.specs.declared.ids.NameId.{NameId}
-use Rattle.piece_model.specs.Pieces.{InUnit, RangesOrPlace, and_then, live_ranges, max_pieces, pieces, spelled_ranges, within_limit}
-use Rattle.way_model.specs.Origin as way
-use Rattle.entry_names.specs.declared.origin.Origin.{Origin}
-use Rattle.entry_names.specs.Meaning.{Extends, IsNumberOf, TellsOrigin}
+use Rattle.tree_model.specs.Pieces.{InUnit, RangesOrPlace, and_then, live_ranges, max_pieces, pieces, spelled_ranges, within_limit}
+use Rattle.tree_model.specs.Origin as way
+use Rattle.entry_facts.specs.declared.origin.Origin.{Origin}
+use Rattle.entry_facts.specs.Meaning.{Extends, IsNumberOf, TellsOrigin}
 use Rattle.tree_model.specs.Members.{Told, function_told}
 use Rattle.member_lists.specs.declared.frame.Frame.{Frame}
 use Rattle.member_lists.specs.Frames.{SoFar, behind_call, behind_function, behind_other, frame_above, frame_of_function, frames_to, outside}

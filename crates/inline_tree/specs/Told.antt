@@ -8,9 +8,9 @@ use Rattle.unit_model.specs.Constants.{DW_AT_GNU_discriminator, DW_AT_call_line}
 use Rattle.unit_model.specs.Entries.{Entry}
 use Rattle.chain_model.specs.declared.member.Member.{Member}
 use Rattle.dwarf_ranges.specs.Meaning.{range_sections_of}
-use Rattle.entry_names.specs.declared.origin.Origin.{Origin}
-use Rattle.entry_names.specs.Meaning.{IsNumberOf}
-use Rattle.entry_names.specs.Memo.{Remembers}
+use Rattle.entry_facts.specs.declared.origin.Origin.{Origin}
+use Rattle.entry_facts.specs.Meaning.{IsNumberOf}
+use Rattle.entry_facts.specs.Memo.{Remembers}
 use Rattle.tree_model.specs.Members.{Told, number_in}
 use Rattle.member_lists.specs.Frames.{SoFar}
 use Rattle.tree_model.specs.Tree as model

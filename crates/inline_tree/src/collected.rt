@@ -1,7 +1,7 @@
 ghost use Rattle.std.specs.Prelude.{◌≡◌, [], IfOk};
 ghost use Rattle.member_lists.specs.Frames.{nothing};
 
-use entry_names::Origins;
+use entry_facts::Origins;
 use key_types::Names;
 use member_lists::SoFar;
 use refusal::NoMemory;

@@ -1,9 +1,9 @@
 // The entries of a unit, one behind the other.
 ghost use Rattle.std.specs.Prelude.{◌≡◌, ◌+◌, ◌-◌, ◌<◌, ◌≤◌, ◌^◌, length, OnOk};
 ghost use Rattle.entry_model.specs.Order.{AreInOrder};
-ghost use Rattle.entry_names.specs.Meaning.{Extends};
-ghost use Rattle.piece_model.specs.Pieces.{pieces as pieces_told};
-ghost use Rattle.entry_pieces.specs.Told.{Tells, in_unit};
+ghost use Rattle.entry_facts.specs.Meaning.{Extends};
+ghost use Rattle.tree_model.specs.Pieces.{pieces as pieces_told};
+ghost use Rattle.entry_facts.specs.Told.{Tells, in_unit};
 ghost use Rattle.member_lists.specs.Frames.{SoFar as so_far_told, frame_above};
 ghost use Rattle.tree_model.specs.Members.{Told};
 ghost use Rattle.member_lists.specs.Collecting.{next_call as next_call_told, next_entry as next_entry_told, next_function as next_function_told};
@@ -13,7 +13,7 @@ use crate::collected::Collected;
 use crate::member::{call_of, function_of};
 use crate::source::Source;
 use dwarf_info::{DW_TAG_INLINED_SUBROUTINE, DW_TAG_SUBPROGRAM, Entry};
-use entry_pieces::{InUnit, pieces};
+use entry_facts::{InUnit, pieces};
 use member_lists::{Frame, SoFar};
 use refusal::{Kind, Place, Stop};
 use std::alloc::Global;

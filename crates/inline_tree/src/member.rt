@@ -1,16 +1,15 @@
 // An entry as a member.
 ghost use Rattle.std.specs.Prelude.{◌≡◌};
 ghost use Rattle.dwarf_forms.specs.Meaning.{meaning_of};
-ghost use Rattle.way_model.specs.Origin.{number_of as number_told};
+ghost use Rattle.tree_model.specs.Origin.{number_of as number_told};
 ghost use Rattle.tree_model.specs.Members.{number_in as number_in_told};
 ghost use Rattle.inline_tree.specs.Told.{call_made, function_made};
 
 use chain_model::Member;
 use dwarf_forms::Value;
 use dwarf_info::{DW_AT_CALL_LINE, DW_AT_GNU_DISCRIMINATOR, Entry};
-use entry_names::Origin;
+use entry_facts::{Origin, attribute};
 use key_types::Chain;
-use unit_bases::attribute;
 
 /// The number that a value is.
 fn number_of(value: Value<'_>) -> u64

@@ -1,13 +1,13 @@
 ghost use Rattle.std.specs.Prelude.{◌<◌, ◌-◌, ◌^◌, length};
 ghost use Rattle.entry_model.specs.Order.{AreInOrder};
-ghost use Rattle.way_model.specs.Origin.{origin as origin_told};
-ghost use Rattle.entry_names.specs.Meaning.{Extends, TellsOrigin};
+ghost use Rattle.tree_model.specs.Origin.{origin as origin_told};
+ghost use Rattle.entry_facts.specs.Meaning.{Extends, TellsOrigin};
 ghost use Rattle.inline_tree.specs.Told.{Knows, source_of};
 
 use dwarf_info::{Entry, Units};
 use dwarf_ranges::RangeParts;
 use elf_sections::Elf;
-use entry_names::{Info, Origin, Origins};
+use entry_facts::{Info, Origin, Origins};
 use key_types::Names;
 use refusal::Stop;
 

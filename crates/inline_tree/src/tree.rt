@@ -3,7 +3,7 @@ ghost use Rattle.std.specs.Prelude.{◌≡◌, ◌+◌, ◌-◌, ◌<◌, ◌≤
 ghost use Rattle.std.specs.Result.{result_err};
 ghost use Rattle.refusal.specs.Place.{JudgesUnlessNoMemory};
 ghost use Rattle.entry_model.specs.Order.{AreInOrder};
-ghost use Rattle.entry_pieces.specs.Told.{in_unit};
+ghost use Rattle.entry_facts.specs.Told.{in_unit};
 ghost use Rattle.member_lists.specs.Frames.{SoFar as so_far_told};
 ghost use Rattle.tree_model.specs.Members.{Told};
 ghost use Rattle.tree_model.specs.Tree.{entries_of_unit, members as members_told};
@@ -15,11 +15,10 @@ use crate::entries::next_entry;
 use crate::source::Source;
 use chain_model::Member;
 use dwarf_info::Unit;
-use entry_pieces::InUnit;
+use entry_facts::{InUnit, base_address, bases_of};
 use key_types::Names;
 use refusal::Stop;
 use std::alloc::Global;
-use unit_bases::{base_address, bases_of};
 
 /// The functions of a file with the calls inlined into them.
 #[derive(Drop)]
@@ -94,8 +93,8 @@ fn next_unit<'a>(
 ///
 /// # Errors
 /// The first bad place, unit by unit: that of the root's base address; then of each function and
-/// inlined call in order `InlineTooDeep` at the entry below 255 others, those of `entry_pieces`,
-/// and where it has pieces those of `entry_names`. `NoMemory` where memory is refused.
+/// inlined call in order `InlineTooDeep` at the entry below 255 others, those of `entry_facts`,
+/// and where it has pieces those of `entry_facts`. `NoMemory` where memory is refused.
 ///
 /// Source: DWARF 5, sections 2.17, 3.3.1 and 3.3.8.
 pub fn make<'a>(alloc: Global, source: &Source<'a, '_>) -> Result<InlineTree<'a>, Stop>

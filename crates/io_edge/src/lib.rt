@@ -1,4 +1,5 @@
-//! The edge between `pgo` and the outside.
+//! The edge between `pgo` and the outside: the traits `Inputs` and `Sink` with their counts of
+//! faults, files in memory and of the system, and what reads and writes whole ones.
 //!
 //! The program reads its files through `Inputs` and writes its output through `Sink`, by
 //! `read_whole` and `write_all`. `FileInputs` and `StdSink` are the files and writers of the

@@ -1,2 +1,5 @@
+pub mod Discriminators
+pub mod SplitLaws
 pub mod Numbers
 pub mod Places
+pub mod Segments

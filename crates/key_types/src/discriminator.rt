@@ -1,12 +1,12 @@
 // Split discriminators.
 ghost use Rattle.std.specs.Prelude.{◌≡◌};
-ghost use Rattle.place_model.specs.Discriminators.{component, rest, split};
+ghost use Rattle.key_types.specs.Discriminators.{component, rest, split};
 
 /// The base and the duplication factor that a discriminator packs. The factor is at least 1.
 ///
 /// Source: LLVM, DILocation.h, `getBaseDiscriminatorFromDiscriminator` and
 /// `getDuplicationFactorFromDiscriminator`.
-#[tactic(auto, unfolding(place_model::specs::Discriminators::split))]
+#[tactic(auto, unfolding(crate::specs::Discriminators::split))]
 pub fn split(disc: u32) -> (u32, u32)
     ensures { result ≡ split disc }
 {

@@ -6,3 +6,4 @@ pub mod Reading
 pub mod Fields
 pub mod Program
 pub mod Laws
+pub mod Rows

@@ -10,9 +10,9 @@ use Rattle.std.proofs.lemmas.List.Sums.{sum_by-cons}
 use Rattle.refusal.specs.declared.place.Place.{Place}
 use Rattle.unit_model.specs.Entries.{Entry}
 use Rattle.unit_model.specs.Units as unit_model
-use Rattle.base_model.specs.Bases.{base_address}
-use Rattle.piece_model.specs.Pieces.{InUnit, and_then, live_ranges, pieces, spelled_ranges, within_limit}
-use Rattle.way_model.specs.Origin.{origin}
+use Rattle.tree_model.specs.Bases.{base_address}
+use Rattle.tree_model.specs.Pieces.{InUnit, and_then, live_ranges, pieces, spelled_ranges, within_limit}
+use Rattle.tree_model.specs.Origin.{origin}
 use Rattle.tree_model.specs.Depths.{Standing, calls_on, function_count, function_number, gives_function, has_pieces, inlined_into, pieces_of, way_up}
 use Rattle.tree_model.specs.Members.{Told, call_told, function_told, is_call, is_function}
 use Rattle.tree_model.specs.Tree.{Source, Tree, entries_of_unit, in_unit, members, not_too_deep, with_call, with_member}

@@ -3,9 +3,9 @@ use Rattle.std.specs.Prelude.{ℕ, ◌+◌, if◌then◌else◌, List, [], ◌�
 use Rattle.refusal.specs.declared.place.Place.{Place}
 use Rattle.unit_model.specs.Entries.{Entry}
 use Rattle.unit_model.specs.Units as model
-use Rattle.base_model.specs.Bases.{base_address}
-use Rattle.piece_model.specs.Pieces.{InUnit, and_then, pieces}
-use Rattle.way_model.specs.Origin.{origin}
+use Rattle.tree_model.specs.Bases.{base_address}
+use Rattle.tree_model.specs.Pieces.{InUnit, and_then, pieces}
+use Rattle.tree_model.specs.Origin.{origin}
 use Rattle.tree_model.specs.Members.{Told, call_told, function_told, is_call, is_function}
 use Rattle.tree_model.specs.Tree.{Source, entries_of_unit, in_unit, not_too_deep}
 use Rattle.member_lists.specs.declared.frame.Frame.{Frame}

@@ -6,8 +6,8 @@ use Rattle.std.proofs.lemmas.Int.{ints}
 use Rattle.std.proofs.lemmas.List.{get_or_past}
 use Rattle.flow_model.specs.declared.arc.Arc.{Arc}
 use Rattle.flow_model.specs.Network.{Network, arcs_of, block_arcs}
-use Rattle.balance_model.specs.Sound.{IsNet}
-use Rattle.balance_model.proofs.NetLemmas.{length-block_arcs}
+use Rattle.flow_model.specs.Sound.{IsNet}
+use Rattle.flow_model.proofs.NetLemmas.{length-block_arcs}
 use Rattle.flow_network.specs.Cost.{IsCheap}
 use Rattle.residual_model.specs.Residual.{cost_of_more, cost_of_less}
 use Rattle.residual_model.proofs.PushLemmas.{more_above, more_below, less_above, less_below}

@@ -6,7 +6,7 @@ use Rattle.std.proofs.lemmas.Bool.{cases_eq}
 use Rattle.std.proofs.lemmas.Int.{ints}
 use Rattle.std.proofs.lemmas.List.Elements.{All-contains}
 use Rattle.flow_model.specs.Network.{Network, arcs_of}
-use Rattle.balance_model.proofs.ArcLemmas.{each_from}
+use Rattle.flow_model.proofs.ArcLemmas.{each_from}
 use Rattle.residual_model.specs.Residual.{StepsOn, reduced}
 use Rattle.reached_sides.specs.declared.mark.Mark.{Mark}
 use Rattle.path_search.specs.Ground.{AreSmall, IsSmallCost, arc_at, count_at, price_at, IsGround}

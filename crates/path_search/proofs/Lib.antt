@@ -7,3 +7,6 @@ pub mod CostLemmas
 pub mod EndLemmas
 pub mod WayLemmas
 pub mod OrderLemmas
+pub mod TraceLemmas
+pub mod PathLemmas
+pub mod RoomLemmas

@@ -9,8 +9,8 @@ use Rattle.flow_model.specs.declared.arc.Arc.{Arc}
 use Rattle.flow_model.specs.Circulation.{EachArc}
 use Rattle.flow_model.specs.Network.{Network, arcs_of, free_arc}
 use Rattle.flow_model.specs.Prices.{FitsOn}
-use Rattle.balance_model.specs.Sound.{IsNet}
-use Rattle.balance_model.proofs.LimitLemmas.{nets_are_limited}
+use Rattle.flow_model.specs.Sound.{IsNet}
+use Rattle.flow_model.proofs.LimitLemmas.{nets_are_limited}
 use Rattle.flow_network.specs.Cost.{IsCheap}
 use Rattle.flow_network.specs.Rows.{places_from, places_of}
 use Rattle.path_search.specs.Ground.{arc_at, count_at, price_at, IsGround}

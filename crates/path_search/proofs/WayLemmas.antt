@@ -7,7 +7,7 @@ use Rattle.std.proofs.lemmas.Bool.{cases_eq}
 use Rattle.std.proofs.lemmas.Int.{ints}
 use Rattle.flow_model.specs.declared.arc.Arc.{Arc}
 use Rattle.flow_model.specs.Network.{Network, arcs_of, free_arc}
-use Rattle.balance_model.specs.Sound.{IsNet}
+use Rattle.flow_model.specs.Sound.{IsNet}
 use Rattle.flow_network.specs.Rows.{places_of}
 use Rattle.residual_model.specs.Residual.{reduced}
 use Rattle.reached_sides.specs.declared.mark.Mark.{Mark}

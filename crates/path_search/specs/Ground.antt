@@ -4,7 +4,7 @@ use Rattle.std.specs.List.{All}
 use Rattle.flow_model.specs.declared.arc.Arc.{Arc}
 use Rattle.flow_model.specs.Network.{Network, arcs_of, free_arc}
 use Rattle.flow_model.specs.Prices.{Fit}
-use Rattle.balance_model.specs.Sound.{IsNet}
+use Rattle.flow_model.specs.Sound.{IsNet}
 
 -- The arc at a place.
 abbrev pub arc_at : List Arc → ℕ → Arc

@@ -12,8 +12,8 @@ use Rattle.elf_model.specs.Segments.{code_loads}
 use Rattle.branch_counts.specs.Tally.{Tally, Tells}
 use Rattle.binary_places.specs.declared.binary.Binary.{Binary}
 use Rattle.binary_places.specs.Binary.{IsBinary}
-use Rattle.sampled_profile.specs.Output.{loading_of, output_text, profile_output, sampled_by}
-use Rattle.sampled_profile.specs.Program.{program_of}
+use Rattle.output_model.specs.Output.{loading_of, output_text, profile_output, sampled_by}
+use Rattle.output_model.specs.Program.{program_of}
 use Rattle.pgo_run.specs.Halt.{IfAnswers}
 use Rattle.pgo_run.specs.Output.{EndsAt, OpensFile}
 use Rattle.pgo_run.specs.BranchText.{JudgesText}

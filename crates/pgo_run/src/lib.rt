@@ -1,4 +1,5 @@
-//! The top call: from a command's words and the files that they name to the bytes that are written.
+//! The top call: from a command's words and the files that they name to the bytes that are written
+//! and the status.
 //!
 //! The layer above calls `run` with its words, a store of files and a sink, prints `status_line`
 //! and ends with `Status::code`.

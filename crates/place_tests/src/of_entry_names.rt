@@ -4,7 +4,7 @@ ghost use Rattle.entry_model.specs.Order.{AreInOrder};
 use byte_view::Part;
 use dwarf_info::{Units, read_units};
 use dwarf_strings::Texts;
-use entry_names::{Info, Origins, origin_of};
+use entry_facts::{Info, Origins, origin_of};
 use key_types::Names;
 use refusal::{Kind, Place, Stop};
 use std::alloc::Global;

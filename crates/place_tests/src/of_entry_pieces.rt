@@ -4,7 +4,7 @@ use dwarf_info::{Entry, Found};
 use dwarf_ranges::RangeParts;
 use dwarf_strings::{Bases, Texts};
 use elf_sections::{Elf, read};
-use entry_pieces::{InUnit, MAX_PIECES, pieces};
+use entry_facts::{InUnit, MAX_PIECES, pieces};
 use refusal::{Kind, Place, Stop};
 use std::alloc::Global;
 use std::test::Fail;

@@ -1,5 +1,5 @@
 use address_spans::Span;
-use function_stretches::Stretches;
+use span_cover::Stretches;
 use std::test;
 
 #[test]

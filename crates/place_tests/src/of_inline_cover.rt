@@ -1,8 +1,8 @@
 use address_spans::{Span, owner_at};
 use chain_model::Member;
-use inline_cover::{cover, function_cover};
 use key_types::Chain;
 use refusal::NoMemory;
+use span_cover::{cover, function_cover};
 use std::alloc::Global;
 use std::test;
 

@@ -1,5 +1,4 @@
-use key_segments::key_at;
-use key_types::{KeyId, Seg};
+use key_types::{KeyId, Seg, key_at};
 
 #[test]
 fn a_key_is_found(rt: HostRuntime) {

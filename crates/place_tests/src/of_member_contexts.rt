@@ -1,6 +1,6 @@
 use chain_model::Member;
+use context_map::{Context, context_of, parents};
 use key_types::{Chain, Frame, NameId};
-use member_contexts::{Context, context_of, parents};
 use refusal::NoMemory;
 use std::alloc::Global;
 use std::test;

@@ -1,10 +1,10 @@
 use byte_view::Part;
 use dwarf_info::{Units, read_units};
 use dwarf_strings::{Bases, Texts};
+use entry_facts::{base_address, bases_of};
 use refusal::{Kind, Place, Stop};
 use std::alloc::Global;
 use std::test::Fail;
-use unit_bases::{base_address, bases_of};
 
 /// The root of a whole unit with three bases and an indexed address, that of a partial unit with
 /// one base and an address, and a function.

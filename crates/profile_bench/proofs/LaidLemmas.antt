@@ -4,14 +4,14 @@ use Rattle.std.proofs.lemmas.List.Sums.{sum_by-le-sum_by}
 use Rattle.std.proofs.lemmas.Option.{slice_get_within, get_or_from_slice_get, slice_get-get_or}
 use Rattle.std.specs.List.{slice_get}
 use Rattle.address_spans.specs.Spans.{AreBetween}
-use Rattle.key_counts.specs.Segments.{AllFit}
-use Rattle.key_segments.specs.Segments.{AreSegments, span_of}
-use Rattle.key_segments.proofs.ToldLemmas.{AreBetween-wider}
+use Rattle.profile_lists.specs.Segments.{AllFit}
+use Rattle.key_types.specs.Segments.{AreSegments, span_of}
+use Rattle.key_types.proofs.ToldLemmas.{AreBetween-wider}
 use Rattle.key_types.specs.Numbers.{Adds}
 use Rattle.key_types.specs.declared.places.Seg.{Seg}
 use Rattle.profile_tree.specs.Sums.{calls_of, entries_of}
 use Rattle.profile_tree.specs.declared.head.Head.{Head}
-use Rattle.target_lists.specs.declared.pairs.Call.{Call}
+use Rattle.profile_lists.specs.declared.pairs.Call.{Call}
 
 -- an item that was added
 below_or_at : (k n m : ℕ) → k < n → n ≤ m + 1 → (k < m) ⊎ (k ≡ m)

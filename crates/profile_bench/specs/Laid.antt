@@ -1,8 +1,8 @@
 -- Segments that were laid one behind the other.
 use Rattle.std.specs.Prelude.{ℕ, List, All, length, map}
 use Rattle.address_spans.specs.Spans.{AreBetween}
-use Rattle.key_counts.specs.Segments.{AllFit}
-use Rattle.key_segments.specs.Segments.{span_of}
+use Rattle.profile_lists.specs.Segments.{AllFit}
+use Rattle.key_types.specs.Segments.{span_of}
 use Rattle.key_types.specs.Numbers.{IsNumbered}
 use Rattle.key_types.specs.declared.key.Key.{Key}
 use Rattle.key_types.specs.declared.places.Seg.{Seg}

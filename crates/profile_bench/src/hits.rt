@@ -1,7 +1,7 @@
 // Ranges without a pattern, and segments that are asked for their hits.
 ghost use Rattle.std.specs.Prelude.{◌≡◌, ◌≤◌, ◌<◌, ◌^◌, ℕ, IfOk};
-ghost use Rattle.hit_model.specs.Hits.{AreRanges, times_of};
-ghost use Rattle.hit_model.specs.Steps.{hits_by};
+ghost use Rattle.profile_model.specs.Hits.{AreRanges, times_of};
+ghost use Rattle.profile_model.specs.Steps.{hits_by};
 
 use range_counts::{Hits, RanRange, sweep};
 use refusal::NoMemory;

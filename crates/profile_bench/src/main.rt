@@ -1,4 +1,4 @@
-//! Sweeps ranges and builds profiles of made-up programs, to be timed from outside.
+//! Sweeps ranges and builds profiles of made-up programs, to be timed by `bench/profiles`.
 //!
 //! `profile_bench sweep RANGES SEGMENTS` sweeps so many ranges, and asks so many segments one
 //! behind the other. `profile_bench keys KEYS 0` makes a program of so many keys, and

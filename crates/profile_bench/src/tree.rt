@@ -1,8 +1,8 @@
 // The profile of a made-up program.
 ghost use Rattle.std.specs.Prelude.{◌≤◌, ◌<◌, ◌*◌, ◌^◌, ℕ, All, IfOk, length};
-ghost use Rattle.hit_model.specs.Steps.{hits_by};
-ghost use Rattle.key_counts.specs.Segments.{AllFit};
-ghost use Rattle.key_segments.specs.Segments.{AreSegments};
+ghost use Rattle.profile_model.specs.Steps.{hits_by};
+ghost use Rattle.profile_lists.specs.Segments.{AllFit};
+ghost use Rattle.key_types.specs.Segments.{AreSegments};
 ghost use Rattle.profile_tree.specs.Known.{HasNames, IsGiven};
 ghost use Rattle.profile_tree.specs.Sums.{calls_of, entries_of};
 ghost use Rattle.profile_tree.specs.Told.{IsOf};

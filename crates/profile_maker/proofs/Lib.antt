@@ -1,3 +1,5 @@
+pub mod NameLemmas
+pub mod SegmentLemmas
 pub mod KeyWayLemmas
 pub mod SampleLemmas
 pub mod ShownLemmas

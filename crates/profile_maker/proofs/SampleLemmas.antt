@@ -8,10 +8,10 @@ use Rattle.sample_model.specs.declared.pair.Pair.{Pair}
 use Rattle.branch_counts.specs.Pair.{pair_cmp}
 use Rattle.branch_counts.specs.Table.{Tallies, total_in}
 use Rattle.branch_counts.specs.Tally.{Tally, Tells, counted, total_of}
-use Rattle.tally_law.proofs.OrderLemmas.{rows_tally_in_any_order}
+use Rattle.branch_counts.proofs.OrderLemmas.{rows_tally_in_any_order}
 use Rattle.profile_report.specs.declared.report.Units.{Units}
 use Rattle.binary_model.specs.Binary.{units_in}
-use Rattle.sampled_profile.specs.Output.{sampled_by}
+use Rattle.output_model.specs.Output.{sampled_by}
 use Rattle.profile_writer.specs.Shown.{ShowsSampled}
 
 pub samples_shown : (loading : Option LoadMap) (file : List ℕ) (lines : List (List ℕ)) (tally : Tally) (branches ranges : List Pair) (units : Units)

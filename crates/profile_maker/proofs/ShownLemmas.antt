@@ -12,22 +12,22 @@ use Rattle.key_types.specs.declared.key.Key.{Key}
 use Rattle.key_types.specs.declared.places.Seg.{Seg}
 use Rattle.key_types.specs.declared.places.Where.{Where}
 use Rattle.key_types.specs.declared.places.Where.TheVariants.{Outside, Nameless, NoLine, At}
-use Rattle.place_model.specs.Discriminators as packed
+use Rattle.key_types.specs.Discriminators as packed
 use Rattle.chain_model.specs.declared.member.Member.{Member}
 use Rattle.chain_model.specs.Chains.{chain, function_of, holds_at, piece_holds}
 use Rattle.chain_model.specs.Places as by_number
 use Rattle.chain_model.specs.Places.{LineAndDisc, Tells, chain_members, entry_name, factor_at, is_entered_at, row_of}
 use Rattle.chain_model.proofs.ChainLemmas.{begin_with_the_function}
-use Rattle.entry_names.specs.Meaning.{IsNumberOf}
+use Rattle.entry_facts.specs.Meaning.{IsNumberOf}
 use Rattle.tree_model.specs.Members.{Told}
 use Rattle.inline_tree.specs.Told.{AreTold, IsTold}
-use Rattle.key_counts.specs.Laws.{factor_by, place_by}
-use Rattle.key_segments.specs.Segments as segments
-use Rattle.key_segments.specs.Segments.{segment_at, key_told}
+use Rattle.profile_lists.specs.Laws.{factor_by, place_by}
+use Rattle.key_types.specs.Segments as segments
+use Rattle.key_types.specs.Segments.{segment_at, key_told}
 use Rattle.line_model.specs.declared.row.Row.{Row}
-use Rattle.row_model.specs.Rows.{Sequence, row_among}
+use Rattle.line_model.specs.Rows.{Sequence, row_among}
 use Rattle.row_table.specs.Told.{data_of, told}
-use Rattle.part_segments.specs.Parts.{line_and_disc, with_factor}
+use Rattle.context_map.specs.Parts.{line_and_disc, with_factor}
 use Rattle.context_map.specs.Maps as maps
 use Rattle.context_map.specs.Maps.{place_told, rows_of}
 use Rattle.profile_model.specs.Ways.{to_body, to_call, to_function}

@@ -1,13 +1,13 @@
 -- What follows from the definitions.
 use Rattle.std.specs.Prelude.{ℕ, Bool, List}
 use Rattle.context_map.specs.Maps.{entry_told, place_told}
-use Rattle.function_stretches.specs.Stretches.{function_at}
+use Rattle.span_cover.specs.Stretches.{function_at}
 use Rattle.binary_places.specs.Binary.{IsBinary}
 use Rattle.binary_places.specs.declared.binary.Binary.{Binary}
 use Rattle.report_model.specs.Report.{Sampled}
 use Rattle.profile_laws.specs.Totals.{HasKeyWays}
-use Rattle.sampled_profile.specs.Program.{program_of}
-use Rattle.sampled_profile.specs.Sampled.{profile_of}
+use Rattle.output_model.specs.Program.{program_of}
+use Rattle.output_model.specs.Sampled.{profile_of}
 use Rattle.profile_writer.specs.Shown.{ShowsProgram}
 
 -- The map of a binary shows the program in it.

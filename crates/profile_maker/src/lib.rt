@@ -1,9 +1,14 @@
 //! The profile of a binary and the report on its samples, from the binary's map and what was
 //! counted of a branch text.
+//!
+//! By the laws what was read of a binary, the segments of its map, the numbers of its keys and the
+//! names in them, meets all that making a profile asks of these.
 #![tactic(auto)]
 
 mod laws;
 mod maker;
+mod map_laws;
 
 pub use laws::{binaries_show_programs, key_ways_are_told};
 pub use maker::make;
+pub use map_laws::{entries_are_given, keys_have_names, places_are_given, segments_fit};

@@ -2,8 +2,8 @@ ghost use Rattle.std.specs.Prelude.{◌≡◌, ℕ, Bool, List, Option, true, If
 ghost use Rattle.binary_places.specs.Binary.{IsBinary};
 ghost use Rattle.branch_counts.specs.Tally.{Tells};
 ghost use Rattle.sample_model.specs.Moves.{LoadMap};
-ghost use Rattle.sampled_profile.specs.Output.{output_text, sampled_by};
-ghost use Rattle.sampled_profile.specs.Program.{program_of};
+ghost use Rattle.output_model.specs.Output.{output_text, sampled_by};
+ghost use Rattle.output_model.specs.Program.{program_of};
 
 use binary_places::Binary;
 use branch_counts::Counts;

@@ -4,3 +4,6 @@ pub mod Orders
 pub mod Profile
 pub mod Text
 pub mod Ways
+pub mod Hits
+pub mod HitLaws
+pub mod Steps

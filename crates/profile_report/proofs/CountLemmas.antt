@@ -8,12 +8,12 @@ use Rattle.std.proofs.lemmas.Grind.{flat_map-append}
 use Rattle.std.proofs.lemmas.List.Elements.{filter-append}
 use Rattle.std.proofs.lemmas.List.Sums.{sum_by-append, sum_by-cons, sum_by-take-le, sum_by_push}
 use Rattle.profile_report.specs.declared.classed.Classed.{Classed}
-use Rattle.class_model.specs.declared.class.Class.{Class}
-use Rattle.class_model.specs.declared.class.Class.TheVariants.{Entry}
-use Rattle.class_model.specs.declared.class.RangeClass.{RangeClass}
-use Rattle.class_model.specs.declared.class.RangeClass.TheVariants.{Ran}
-use Rattle.class_model.specs.declared.class.Reason.{Reason}
-use Rattle.class_model.specs.Branches.{is_unmapped}
+use Rattle.report_model.specs.declared.class.Class.{Class}
+use Rattle.report_model.specs.declared.class.Class.TheVariants.{Entry}
+use Rattle.report_model.specs.declared.class.RangeClass.{RangeClass}
+use Rattle.report_model.specs.declared.class.RangeClass.TheVariants.{Ran}
+use Rattle.report_model.specs.declared.class.Reason.{Reason}
+use Rattle.report_model.specs.Branches.{is_unmapped}
 use Rattle.profile_report.specs.Classed.{all_times, line_for, lines_for, times_where}
 
 -- what stands behind the rows, as a loop over them asks

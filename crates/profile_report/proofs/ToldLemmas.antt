@@ -6,15 +6,15 @@ use Rattle.std.proofs.lemmas.List.Sums.{sum_by-cons}
 use Rattle.sample_model.specs.Pairs.{distinct_pairs, times_of}
 use Rattle.sample_model.specs.declared.pair.Pair.{Pair}
 use Rattle.branch_counts.specs.Table.{Tallies, total_in}
-use Rattle.tally_law.specs.Laws.{times_where as pairs_where, told_of}
-use Rattle.tally_law.proofs.OrderLemmas.{sorted_rows_are_distinct_pairs}
-use Rattle.tally_law.proofs.TallyLemmas.{tables_count_members}
-use Rattle.class_model.specs.declared.class.Class.{Class}
-use Rattle.class_model.specs.declared.class.RangeClass.{RangeClass}
-use Rattle.class_model.specs.declared.class.RangeClass.TheVariants.{Ran, Reversed, RangeOutside, Crossing}
-use Rattle.class_model.specs.declared.class.Reason.{Reason}
-use Rattle.class_model.specs.Branches.{is_entry, is_inside, is_unmapped}
-use Rattle.class_model.specs.Ranges.{is_class}
+use Rattle.branch_counts.specs.Laws.{times_where as pairs_where, told_of}
+use Rattle.branch_counts.proofs.OrderLemmas.{sorted_rows_are_distinct_pairs}
+use Rattle.branch_counts.proofs.TallyLemmas.{tables_count_members}
+use Rattle.report_model.specs.declared.class.Class.{Class}
+use Rattle.report_model.specs.declared.class.RangeClass.{RangeClass}
+use Rattle.report_model.specs.declared.class.RangeClass.TheVariants.{Ran, Reversed, RangeOutside, Crossing}
+use Rattle.report_model.specs.declared.class.Reason.{Reason}
+use Rattle.report_model.specs.Branches.{is_entry, is_inside, is_unmapped}
+use Rattle.report_model.specs.Ranges.{is_class}
 use Rattle.report_model.specs.Report.{Classes, Sampled, branches_text, branches_where, number_line, ranges_of_class, ranges_text, reasons, unmapped_line}
 use Rattle.report_model.specs.Report.{lines_for as told_lines_for}
 use Rattle.profile_report.specs.declared.classed.Classed.{Classed}

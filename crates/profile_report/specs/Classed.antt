@@ -3,9 +3,9 @@ use Rattle.std.specs.Prelude.{ℕ, Bool, List, filter, sum_by}
 use Rattle.std.specs.List.{flat_map}
 use Rattle.sample_model.specs.declared.pair.Pair.{Pair}
 use Rattle.branch_counts.specs.Table.{pair_of}
-use Rattle.class_model.specs.declared.class.Class.{Class}
-use Rattle.class_model.specs.declared.class.Reason.{Reason}
-use Rattle.class_model.specs.Branches.{is_unmapped}
+use Rattle.report_model.specs.declared.class.Class.{Class}
+use Rattle.report_model.specs.declared.class.Reason.{Reason}
+use Rattle.report_model.specs.Branches.{is_unmapped}
 use Rattle.report_model.specs.Report.{unmapped_line}
 use Rattle.profile_report.specs.declared.classed.Classed.{Classed}
 

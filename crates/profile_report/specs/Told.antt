@@ -4,8 +4,8 @@ use Rattle.std.specs.List.Sorted.{IsSorted}
 use Rattle.sample_model.specs.declared.pair.Pair.{Pair}
 use Rattle.branch_counts.specs.Pair.{pair_cmp}
 use Rattle.branch_counts.specs.Table.{Tallies}
-use Rattle.class_model.specs.declared.class.Class.{Class}
-use Rattle.class_model.specs.declared.class.RangeClass.{RangeClass}
+use Rattle.report_model.specs.declared.class.Class.{Class}
+use Rattle.report_model.specs.declared.class.RangeClass.{RangeClass}
 use Rattle.report_model.specs.Report.{Classes, Sampled}
 use Rattle.profile_report.specs.declared.classed.Classed.{Classed}
 use Rattle.profile_report.specs.declared.report.Units.{Units}

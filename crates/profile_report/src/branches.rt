@@ -1,6 +1,6 @@
 // How often branches of each class were taken.
 ghost use Rattle.std.specs.Prelude.{◌≡◌, ◌≤◌};
-ghost use Rattle.class_model.specs.Branches.{is_entry, is_inside};
+ghost use Rattle.report_model.specs.Branches.{is_entry, is_inside};
 ghost use Rattle.sample_model.specs.Limits.{max_branches};
 ghost use Rattle.profile_report.specs.Classed.{all_times, times_where};
 

@@ -1,7 +1,7 @@
 // Rows of a table, each with the class of its pair.
 ghost use Rattle.std.specs.Prelude.{◌≡◌, map, IfOk};
-ghost use Rattle.class_model.specs.Branches.{branch_class};
-ghost use Rattle.class_model.specs.Ranges.{range_class};
+ghost use Rattle.report_model.specs.Branches.{branch_class};
+ghost use Rattle.report_model.specs.Ranges.{range_class};
 ghost use Rattle.profile_report.specs.Classed.{classed_by};
 
 use branch_class::{Class, RangeClass, classify, classify_range};

@@ -1,4 +1,5 @@
-//! The report of a profile: what became of each sampled branch and range.
+//! The report of a profile: the sampled branches and ranges with their classes, and what became of
+//! each.
 //!
 //! `class_branches` and `class_ranges` say what each distinct branch and sampled range is. `write`
 //! counts the classes, lists what is unmapped with its reason, and tells how many units of the

@@ -1,7 +1,7 @@
 // How often sampled ranges of each class stand.
 ghost use Rattle.std.specs.Prelude.{◌≡◌, ◌≤◌};
-ghost use Rattle.class_model.specs.Ranges.{is_class};
-ghost use Rattle.class_model.specs.declared.class.RangeClass.TheVariants.{Ran, Reversed, RangeOutside, Crossing};
+ghost use Rattle.report_model.specs.Ranges.{is_class};
+ghost use Rattle.report_model.specs.declared.class.RangeClass.TheVariants.{Ran, Reversed, RangeOutside, Crossing};
 ghost use Rattle.sample_model.specs.Limits.{max_branches};
 ghost use Rattle.profile_report.specs.Classed.{all_times, times_where};
 

@@ -2,7 +2,7 @@
 ghost use Rattle.std.specs.Prelude.{◌≡◌, ◌++◌, filter, OnErr, OnOk};
 ghost use Rattle.std.specs.Io.{StartsWith};
 ghost use Rattle.std.specs.List.{flat_map};
-ghost use Rattle.class_model.specs.Branches.{is_unmapped};
+ghost use Rattle.report_model.specs.Branches.{is_unmapped};
 ghost use Rattle.report_model.specs.Report.{reasons};
 ghost use Rattle.profile_report.specs.Classed.{line_for, lines_for};
 

@@ -1,8 +1,8 @@
 -- Ranges that are written out.
 use Rattle.std.proofs.Common.{◌≤◌, List, [], ◌∷◌, arith}
 use Rattle.std.proofs.lemmas.List.Elements.{All-cons}
-use Rattle.hit_model.specs.declared.ran_range.RanRange.{RanRange}
-use Rattle.hit_model.specs.Hits.{AreRanges}
+use Rattle.profile_model.specs.declared.ran_range.RanRange.{RanRange}
+use Rattle.profile_model.specs.Hits.{AreRanges}
 
 pub ranges-nil : AreRanges []
 ranges-nil k d within = absurd (omega (arith, within))

@@ -1,6 +1,6 @@
 // The counts of two keys, one of them with two segments.
-use key_counts::counts_of;
 use key_types::{KeyId, Seg};
+use profile_lists::counts_of;
 use range_counts::{RanRange, sweep};
 use refusal::NoMemory;
 use std::alloc::Global;

@@ -1,9 +1,9 @@
 // The targets of a key that called two functions.
 use key_types::{KeyId, NameId};
+use profile_lists::{Call, Target, targets_of};
 use refusal::NoMemory;
 use std::alloc::Global;
 use std::cmp::Reverse;
-use target_lists::{Call, Target, targets_of};
 
 fn targets(alloc: Global, key: u32) -> Result<Vec<Target>, NoMemory> {
     let calls = [

@@ -1,7 +1,7 @@
 // The rows of two keys that share a call, and ways that are equal up to a later part.
+use profile_lists::{Item, Kind, Row, Step, rows_of, sort_items};
 use refusal::NoMemory;
 use std::alloc::{AllocError, Global};
-use way_rows::{Item, Kind, Row, Step, rows_of, sort_items};
 
 const F: Step = Step {
     kind: Kind::Function,

@@ -13,8 +13,8 @@ use Rattle.profile_tree.proofs.ListLemmas.{all_among, all_places, among_filter_b
 use Rattle.profile_tree.specs.Items.{Told, entered, is_written, of_count, ranked_source, sources, told_item, written}
 use Rattle.profile_tree.specs.declared.head.Head.{Head}
 use Rattle.profile_tree.specs.declared.items.Written.{Written}
-use Rattle.target_lists.specs.declared.pairs.Call.{Call}
-use Rattle.way_rows.specs.declared.item.Item.{Item}
+use Rattle.profile_lists.specs.declared.pairs.Call.{Call}
+use Rattle.profile_lists.specs.declared.item.Item.{Item}
 
 -- what holds the images in another order has an order of its own
 map_swaps : {S T : Type 0} (f : S → T) (xs : List S) (moves : List (ℕ × ℕ)) → map f (apply_swaps xs moves) ≡ apply_swaps (map f xs) moves

@@ -4,7 +4,7 @@ use Rattle.std.proofs.lemmas.List.{length-map, length-replicate}
 use Rattle.std.specs.List.{AllByRecursion, AllZip}
 use Rattle.key_types.specs.declared.key.Key.{Key}
 use Rattle.profile_model.specs.Profile.{Line as told_line, function_line, body_line, call_line, count_of, head_of, targets_of, total_of, line_by, line_at, lines_of}
-use Rattle.name_ranks.specs.Ranks.{AreRanks}
+use Rattle.profile_lists.specs.Ranks.{AreRanks}
 use Rattle.profile_model.specs.Ways.{to_function}
 use Rattle.profile_tree.proofs.ItemLemmas.{permuted_back}
 use Rattle.std.proofs.lemmas.List.Sorted.{IsPermutation-sym, IsPermutation-trans}
@@ -22,14 +22,14 @@ use Rattle.profile_tree.specs.Told.{IsOf, told, told_target}
 use Rattle.profile_tree.specs.declared.head.Head.{Head}
 use Rattle.profile_tree.specs.declared.line.Target.{Target}
 use Rattle.profile_tree.specs.declared.lines.Parts.{Parts}
-use Rattle.target_lists.specs.Lists.{AreTargets}
-use Rattle.target_lists.specs.declared.lists.Target.{Target as RankedTarget}
-use Rattle.target_lists.specs.declared.pairs.Call.{Call}
-use Rattle.way_rows.specs.Rows.{AreRowsOf, IsRowOf}
-use Rattle.way_rows.specs.declared.item.Item.{Item}
-use Rattle.way_rows.specs.declared.item.Kind.TheVariants.{Function, Body, Call as Inlined}
-use Rattle.way_rows.specs.declared.item.Step.{Step as RankedStep}
-use Rattle.way_rows.specs.declared.rows.Row.{Row}
+use Rattle.profile_lists.specs.Lists.{AreTargets}
+use Rattle.profile_lists.specs.declared.lists.Target.{Target as RankedTarget}
+use Rattle.profile_lists.specs.declared.pairs.Call.{Call}
+use Rattle.profile_lists.specs.Rows.{AreRowsOf, IsRowOf}
+use Rattle.profile_lists.specs.declared.item.Item.{Item}
+use Rattle.profile_lists.specs.declared.item.Kind.TheVariants.{Function, Body, Call as Inlined}
+use Rattle.profile_lists.specs.declared.item.Step.{Step as RankedStep}
+use Rattle.profile_lists.specs.declared.rows.Row.{Row}
 
 some_inner : (s t : RankedStep) → Some s ≡ Some t → s ≡ t
 some_inner s t e = cc

@@ -23,15 +23,15 @@ use Rattle.profile_tree.specs.Known.{IsGiven}
 use Rattle.profile_tree.specs.Said.{said, way_at}
 use Rattle.profile_tree.specs.Steps.{NumberedStep, at_function, at_line, at_call, frame_step, name_at, named, steps_of, steps_of_given}
 use Rattle.profile_tree.specs.declared.head.Head.{Head}
-use Rattle.target_lists.specs.Pairs.{was_made}
-use Rattle.target_lists.specs.declared.pairs.Call.{Call}
-use Rattle.way_rows.proofs.FrontLemmas.{lists_tell_apart}
-use Rattle.way_rows.proofs.OrderLemmas.{steps_tell_apart}
-use Rattle.way_rows.specs.Rows.{IsRowOf, OneIs, TellsOf, leads_to as row_leads_to, same_step as same_rank, ways_of}
-use Rattle.way_rows.specs.Ways.{step_cmp as rank_cmp, way_cmp as ranks_cmp}
-use Rattle.way_rows.specs.declared.item.Item.{Item}
-use Rattle.way_rows.specs.declared.item.Step.{Step as RankedStep}
-use Rattle.way_rows.specs.declared.rows.Row.{Row}
+use Rattle.profile_lists.specs.Pairs.{was_made}
+use Rattle.profile_lists.specs.declared.pairs.Call.{Call}
+use Rattle.profile_lists.proofs.FrontLemmas.{lists_tell_apart}
+use Rattle.profile_lists.proofs.OrderLemmas.{steps_tell_apart}
+use Rattle.profile_lists.specs.Rows.{IsRowOf, OneIs, TellsOf, leads_to as row_leads_to, same_step as same_rank, ways_of}
+use Rattle.profile_lists.specs.Ways.{step_cmp as rank_cmp, way_cmp as ranks_cmp}
+use Rattle.profile_lists.specs.declared.item.Item.{Item}
+use Rattle.profile_lists.specs.declared.item.Step.{Step as RankedStep}
+use Rattle.profile_lists.specs.declared.rows.Row.{Row}
 
 -- the last step of a way by numbers
 abbrev pub last_of : NumberedStep → List NumberedStep → NumberedStep

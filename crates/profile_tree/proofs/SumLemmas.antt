@@ -7,7 +7,7 @@ use Rattle.std.specs.List.{AllByRecursion, range_with_len, slice_get}
 use Rattle.key_types.proofs.NumberLemmas.{one_number_each}
 use Rattle.key_types.specs.Numbers.{IsNumbered}
 use Rattle.key_types.specs.declared.key.Key.{Key}
-use Rattle.name_ranks.specs.Ranks.{AreRanks}
+use Rattle.profile_lists.specs.Ranks.{AreRanks}
 use Rattle.profile_model.specs.Profile.{capped, count_of, target_of, head_of, total_of, total_of_function}
 use Rattle.profile_model.specs.Ways.{Way, to_function, same_name, same_step, same_way, leads_to}
 use Rattle.profile_tree.proofs.ListLemmas.{and_first, and_second, and_both, bool_same, bool_cases, nat_same, nat_refl, Among, all_among, among_range, sum_map, sum_filter, sum_same, sum_at_most, one_of_range}
@@ -17,8 +17,8 @@ use Rattle.profile_tree.specs.Said.{said, way_at}
 use Rattle.profile_tree.specs.Steps.{named, name_at, steps_of_given, steps_at}
 use Rattle.profile_tree.specs.Sums.{calls_of, entries_of, root_total, share}
 use Rattle.profile_tree.specs.declared.head.Head.{Head}
-use Rattle.target_lists.specs.Pairs.{pair_of, sum_at, times_at, was_made}
-use Rattle.target_lists.specs.declared.pairs.Call.{Call}
+use Rattle.profile_lists.specs.Pairs.{pair_of, sum_at, times_at, was_made}
+use Rattle.profile_lists.specs.declared.pairs.Call.{Call}
 
 pub all_to_each : {T : Type 0} (P : T → Type 0) (x : T) (xs : List T) → All P xs → Among x xs → P x
 all_to_each P x [] all h = absurd h

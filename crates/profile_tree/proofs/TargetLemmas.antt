@@ -8,7 +8,7 @@ use Rattle.std.specs.List.Sorted.{IsStrictlySortedBy}
 use Rattle.std.specs.declared.cmp.Ordering.TheVariants.{Less, Equal}
 use Rattle.std.specs.Ordering.{nat_cmp, ordering_then}
 use Rattle.key_types.specs.declared.key.Key.{Key}
-use Rattle.name_ranks.specs.Ranks.{AreRanks}
+use Rattle.profile_lists.specs.Ranks.{AreRanks}
 use Rattle.profile_model.proofs.OrderLemmas.{targets_tell_apart}
 use Rattle.profile_model.proofs.OrderedLemmas.{only_ordered_is_in_order}
 use Rattle.profile_model.specs.Laws.{has}
@@ -25,10 +25,10 @@ use Rattle.profile_tree.specs.Steps.{name_at}
 use Rattle.profile_tree.specs.Sums.{calls_of}
 use Rattle.profile_tree.specs.Told.{told_target}
 use Rattle.profile_tree.specs.declared.head.Head.{Head}
-use Rattle.target_lists.specs.Lists.{AreTargets, target_cmp as rank_cmp, tells}
-use Rattle.target_lists.specs.Pairs.{is_at, pair_of, sum_at, times_at, was_made}
-use Rattle.target_lists.specs.declared.lists.Target.{Target}
-use Rattle.target_lists.specs.declared.pairs.Call.{Call}
+use Rattle.profile_lists.specs.Lists.{AreTargets, target_cmp as rank_cmp, tells}
+use Rattle.profile_lists.specs.Pairs.{is_at, pair_of, sum_at, times_at, was_made}
+use Rattle.profile_lists.specs.declared.lists.Target.{Target}
+use Rattle.profile_lists.specs.declared.pairs.Call.{Call}
 
 -- a call that a target tells of
 pub record IsCallOf (nr : List ℕ) (calls : List Call) (key rank times : ℕ) (call : Call) : Type 0 where

@@ -13,7 +13,7 @@ use Rattle.key_types.proofs.NumberLemmas.{one_number_each}
 use Rattle.key_types.specs.Numbers.{IsNumbered}
 use Rattle.key_types.specs.declared.key.Frame.{Frame}
 use Rattle.key_types.specs.declared.key.Key.{Key}
-use Rattle.name_ranks.specs.Ranks.{AreRanks}
+use Rattle.profile_lists.specs.Ranks.{AreRanks}
 use Rattle.profile_model.proofs.OrderLemmas.{names_apart, step_total, steps_apart}
 pub use Rattle.profile_model.proofs.StepLemmas.{same_steps, step_itself, same_ways, way_itself}
 use Rattle.profile_model.specs.Orders.{step_cmp, name_cmp}
@@ -22,9 +22,9 @@ use Rattle.profile_tree.proofs.ListLemmas.{bool_same}
 use Rattle.profile_tree.specs.Items.{ranked}
 use Rattle.profile_tree.specs.Known.{HasNames}
 use Rattle.profile_tree.specs.Steps.{NumberedStep, at_function, at_line, at_call, frame_step, steps_of, name_at, named}
-use Rattle.way_rows.proofs.FrontLemmas.{equal_from_same}
-use Rattle.way_rows.specs.Rows.{same_step as same_rank}
-use Rattle.way_rows.specs.Ways.{step_cmp as rank_cmp}
+use Rattle.profile_lists.proofs.FrontLemmas.{equal_from_same}
+use Rattle.profile_lists.specs.Rows.{same_step as same_rank}
+use Rattle.profile_lists.specs.Ways.{step_cmp as rank_cmp}
 
 -- steps of named ways
 tied_or_same : (total : List ℕ → ℕ) (s t : Step) → is_eq (step_cmp total s t) ≡ same_step s t

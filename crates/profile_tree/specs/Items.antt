@@ -4,11 +4,11 @@ use Rattle.std.specs.List.{list_any, range_with_len}
 use Rattle.key_types.specs.declared.key.Key.{Key}
 use Rattle.profile_tree.specs.Steps.{NumberedStep, at_function, at_line, at_call, steps_at}
 use Rattle.profile_tree.specs.declared.head.Head.{Head}
-use Rattle.target_lists.specs.Pairs.{was_made}
-use Rattle.target_lists.specs.declared.pairs.Call.{Call}
-use Rattle.way_rows.specs.declared.item.Item.{Item}
-use Rattle.way_rows.specs.declared.item.Kind.TheVariants.{Function, Body, Call as Inlined}
-use Rattle.way_rows.specs.declared.item.Step.{Step}
+use Rattle.profile_lists.specs.Pairs.{was_made}
+use Rattle.profile_lists.specs.declared.pairs.Call.{Call}
+use Rattle.profile_lists.specs.declared.item.Item.{Item}
+use Rattle.profile_lists.specs.declared.item.Kind.TheVariants.{Function, Body, Call as Inlined}
+use Rattle.profile_lists.specs.declared.item.Step.{Step}
 
 -- A step with the ranks of names: those of functions go by total, those of callees by name alone.
 abbrev pub ranked : List ℕ → List ℕ → NumberedStep → Step

@@ -2,7 +2,7 @@
 use Rattle.std.specs.Prelude.{◌<◌, ℕ}
 use Rattle.std.specs.List.{AllByRecursion}
 use Rattle.key_types.specs.declared.key.Key.{Key}
-use Rattle.target_lists.specs.declared.pairs.Call.{Call}
+use Rattle.profile_lists.specs.declared.pairs.Call.{Call}
 
 -- The names of a key were given.
 abbrev pub HasNames : ℕ → Key → Type 0

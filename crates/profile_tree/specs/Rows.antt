@@ -4,10 +4,10 @@ use Rattle.profile_tree.specs.declared.line.Line.{Line}
 use Rattle.profile_tree.specs.declared.line.Line.TheVariants.{Function, Body, Call}
 use Rattle.profile_tree.specs.declared.line.Target.{Target}
 use Rattle.profile_tree.specs.declared.lines.Parts.{Parts}
-use Rattle.target_lists.specs.declared.lists.Target.{Target as ranked_target}
-use Rattle.way_rows.specs.declared.item.Kind.{Kind}
-use Rattle.way_rows.specs.declared.item.Kind.TheVariants.{Function as of_function, Body as of_body, Call as of_call}
-use Rattle.way_rows.specs.declared.rows.Row.{Row}
+use Rattle.profile_lists.specs.declared.lists.Target.{Target as ranked_target}
+use Rattle.profile_lists.specs.declared.item.Kind.{Kind}
+use Rattle.profile_lists.specs.declared.item.Kind.TheVariants.{Function as of_function, Body as of_body, Call as of_call}
+use Rattle.profile_lists.specs.declared.rows.Row.{Row}
 
 -- A target with the number of its name.
 abbrev pub target_of : List ℕ → ranked_target → Target

@@ -1,7 +1,7 @@
 -- What was counted, as a profile says it.
 use Rattle.std.specs.Prelude.{◌<◌, ℕ, List, map, length, slice_index}
 use Rattle.std.specs.List.{range_with_len}
-use Rattle.key_counts.specs.Laws.{factor_by, place_by}
+use Rattle.profile_lists.specs.Laws.{factor_by, place_by}
 use Rattle.key_types.specs.declared.key.Key.{Key}
 use Rattle.key_types.specs.declared.places.Seg.{Seg}
 use Rattle.profile_model.specs.Counts.{IsCount}
@@ -9,7 +9,7 @@ use Rattle.profile_model.specs.Profile.{Profile}
 use Rattle.profile_model.specs.Ways.{Way}
 use Rattle.profile_tree.specs.Steps.{name_at, named, steps_at}
 use Rattle.profile_tree.specs.declared.head.Head.{Head}
-use Rattle.target_lists.specs.declared.pairs.Call.{Call}
+use Rattle.profile_lists.specs.declared.pairs.Call.{Call}
 
 -- The way of the key of a number.
 abbrev pub way_at : List (List ℕ) → List Key → ℕ → Way

@@ -4,7 +4,7 @@ use Rattle.std.specs.List.{range_with_len}
 use Rattle.key_types.specs.declared.key.Key.{Key}
 use Rattle.profile_model.specs.Profile.{capped}
 use Rattle.profile_tree.specs.declared.head.Head.{Head}
-use Rattle.target_lists.specs.declared.pairs.Call.{Call}
+use Rattle.profile_lists.specs.declared.pairs.Call.{Call}
 
 -- How often a function was entered.
 abbrev pub entries_of : List Head → ℕ → ℕ

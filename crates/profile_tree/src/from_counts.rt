@@ -1,8 +1,8 @@
 // A profile, from what was counted.
 ghost use Rattle.std.specs.Prelude.{◌≡◌, ◌<◌, ◌^◌, ℕ, All, IfOk, length, map};
-ghost use Rattle.hit_model.specs.Steps.{hits_by};
-ghost use Rattle.key_counts.specs.Segments.{AllFit};
-ghost use Rattle.key_segments.specs.Segments.{AreSegments};
+ghost use Rattle.profile_model.specs.Steps.{hits_by};
+ghost use Rattle.profile_lists.specs.Segments.{AllFit};
+ghost use Rattle.key_types.specs.Segments.{AreSegments};
 ghost use Rattle.key_types.specs.Numbers.{IsNumbered};
 ghost use Rattle.profile_model.specs.Profile.{lines_of};
 ghost use Rattle.profile_tree.specs.Known.{HasNames, IsGiven};
@@ -17,13 +17,11 @@ use crate::lines::{Parts, lines_of};
 use crate::order::{by_name, by_total};
 use crate::sums::{heads_of, totals_of};
 use crate::tree::Tree;
-use key_counts::counts_of;
 use key_types::{Chain, Keys, Names, Seg};
+use profile_lists::{Call, counts_of, rows_of, sort_items, targets_of};
 use range_counts::Hits;
 use refusal::NoMemory;
 use std::alloc::Global;
-use target_lists::{Call, targets_of};
-use way_rows::{rows_of, sort_items};
 
 /// The profile of what was counted: how often addresses ran, what was called, and what was entered.
 ///

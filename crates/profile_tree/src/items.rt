@@ -7,10 +7,9 @@ ghost use Rattle.profile_tree.specs.Steps.{at_function, frame_step, steps_at, st
 
 use crate::head::Head;
 use key_types::{Frame, Key, KeyId, Keys, NameId};
+use profile_lists::{Call, Item, Kind, Step, sort_items};
 use refusal::NoMemory;
 use std::alloc::{AllocError, Global};
-use target_lists::Call;
-use way_rows::{Item, Kind, Step, sort_items};
 
 /// Ranks of functions: by total, and by name alone.
 #[derive(Clone, Copy)]

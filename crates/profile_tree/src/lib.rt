@@ -1,5 +1,5 @@
-//! A profile in memory: its lines in the order in which they are written, and the counts of its
-//! keys.
+//! A profile in memory: its lines in the order in which they are written and the counts of its
+//! keys, from segments, hits, calls and heads.
 //!
 //! The tree of functions and inlined calls is flat: a line knows its depth, and what belongs to a
 //! function or a call stands behind it, one deeper. `build` makes it in one call from the parts of
@@ -18,5 +18,5 @@ mod tree;
 pub use from_counts::build;
 pub use head::Head;
 pub use line::{Line, Target};
-pub use target_lists::Call;
+pub use profile_lists::Call;
 pub use tree::Tree;

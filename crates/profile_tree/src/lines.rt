@@ -4,11 +4,9 @@ ghost use Rattle.profile_tree.specs.Rows.{IsKnown, line_of, target_of};
 
 use crate::line::{Line, Target};
 use key_types::{Chain, NameId};
-use name_ranks::Ranks;
+use profile_lists::{Kind, Ranks, Row, Targets};
 use refusal::NoMemory;
 use std::alloc::Global;
-use target_lists::Targets;
-use way_rows::{Kind, Row};
 
 /// What the lines of rows are made of.
 #[derive(Clone, Copy)]

@@ -1,9 +1,9 @@
 // Functions in two orders.
 ghost use Rattle.std.specs.Prelude.{◌≡◌, ◌≤◌, ◌<◌, ◌-◌, ◌^◌, IfOk, length, map, replicate};
-ghost use Rattle.name_ranks.specs.Ranks.{AreRanks};
+ghost use Rattle.profile_lists.specs.Ranks.{AreRanks};
 
 use key_types::Names;
-use name_ranks::{Ranks, ranks_of};
+use profile_lists::{Ranks, ranks_of};
 use refusal::NoMemory;
 use std::alloc::Global;
 

@@ -13,10 +13,10 @@ use Rattle.key_types.specs.declared.places.Where.TheVariants.{Outside, Nameless,
 use Rattle.sample_model.specs.Limits.{max_branches}
 use Rattle.sample_model.specs.declared.pair.Pair.{Pair}
 use Rattle.branch_counts.specs.Table.{Tallies, total_in}
-use Rattle.class_model.specs.declared.class.Class.{Class}
-use Rattle.class_model.specs.declared.class.Class.TheVariants.{Entry, Inside, Unmapped}
-use Rattle.class_model.specs.declared.class.Reason.{Reason}
-use Rattle.class_model.specs.Branches.{branch_class, class_by, class_by_reason, reason_of}
+use Rattle.report_model.specs.declared.class.Class.{Class}
+use Rattle.report_model.specs.declared.class.Class.TheVariants.{Entry, Inside, Unmapped}
+use Rattle.report_model.specs.declared.class.Reason.{Reason}
+use Rattle.report_model.specs.Branches.{branch_class, class_by, class_by_reason, reason_of}
 use Rattle.binary_model.specs.Places.{Place, outside, nameless, no_line, at_way}
 use Rattle.profile_model.specs.Profile.{head_of, target_of}
 use Rattle.profile_model.specs.Ways.{Way, same_name, same_way}
@@ -28,10 +28,10 @@ use Rattle.profile_tree.specs.Said.{said, way_at}
 use Rattle.profile_tree.specs.Steps.{name_at}
 use Rattle.profile_tree.specs.Sums.{calls_of, entries_of}
 use Rattle.profile_tree.specs.declared.head.Head.{Head}
-use Rattle.target_lists.specs.declared.pairs.Call.{Call}
-use Rattle.sampled_profile.specs.Program.{Program, way_of_place}
-use Rattle.sampled_profile.specs.Sampled as told
-use Rattle.sampled_profile.specs.Sampled.{call_by, call_of, has_way}
+use Rattle.profile_lists.specs.declared.pairs.Call.{Call}
+use Rattle.output_model.specs.Program.{Program, way_of_place}
+use Rattle.output_model.specs.Sampled as told
+use Rattle.output_model.specs.Sampled.{call_by, call_of, has_way}
 use Rattle.profile_writer.proofs.SumLemmas.{kept_all, kept_sum, members}
 use Rattle.profile_writer.specs.Items.{call_from, call_from_key, call_in, head_by, head_in}
 use Rattle.profile_writer.specs.Shown.{ShowsName, ShowsPlace, ShowsProgram}

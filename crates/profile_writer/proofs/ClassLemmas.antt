@@ -9,15 +9,15 @@ use Rattle.key_types.specs.declared.places.Seg.{Seg}
 use Rattle.key_types.specs.declared.places.Where.{Where}
 use Rattle.key_types.specs.declared.places.Where.TheVariants.{Outside, Nameless, NoLine, At}
 use Rattle.sample_model.specs.Pairs.{distinct_pairs, times_of}
-use Rattle.class_model.specs.declared.class.Class.{Class}
-use Rattle.class_model.specs.declared.class.Class.TheVariants.{Entry, Inside, Unmapped}
-use Rattle.class_model.specs.declared.class.Reason.{Reason}
-use Rattle.class_model.specs.Branches.{branch_class, class_by, class_by_reason, is_entry, is_inside, is_unmapped, reason_of}
-use Rattle.class_model.specs.Ranges.{range_class}
+use Rattle.report_model.specs.declared.class.Class.{Class}
+use Rattle.report_model.specs.declared.class.Class.TheVariants.{Entry, Inside, Unmapped}
+use Rattle.report_model.specs.declared.class.Reason.{Reason}
+use Rattle.report_model.specs.Branches.{branch_class, class_by, class_by_reason, is_entry, is_inside, is_unmapped, reason_of}
+use Rattle.report_model.specs.Ranges.{range_class}
 use Rattle.binary_model.specs.Places.{Place, outside, nameless, no_line, at_way}
 use Rattle.report_model.specs.Report.{Classes, Sampled, number_line, ranges_text, reasons, report_text, units_text, unmapped_line}
-use Rattle.sampled_profile.specs.Program.{Program}
-use Rattle.sampled_profile.specs.Sampled.{class_of_branch, class_of_places, classes_of, reason_of_places}
+use Rattle.output_model.specs.Program.{Program}
+use Rattle.output_model.specs.Sampled.{class_of_branch, class_of_places, classes_of, reason_of_places}
 use Rattle.profile_writer.specs.Shown.{ShowsName, ShowsPlace, ShowsProgram}
 
 -- a class in which all names are one

@@ -9,9 +9,9 @@ use Rattle.std.specs.declared.cmp.Ordering.{Ordering}
 use Rattle.std.specs.declared.cmp.Ordering.TheVariants.{Less}
 use Rattle.std.proofs.lemmas.Bool.{true≢false}
 use Rattle.std.proofs.lemmas.List.Sums.{sum_by-cons}
-use Rattle.hit_model.specs.Hits.{hits_at, holds}
-use Rattle.hit_model.specs.declared.ran_range.RanRange.{RanRange}
-use Rattle.key_counts.specs.Laws.{factor_by, place_by}
+use Rattle.profile_model.specs.Hits.{hits_at, holds}
+use Rattle.profile_model.specs.declared.ran_range.RanRange.{RanRange}
+use Rattle.profile_lists.specs.Laws.{factor_by, place_by}
 use Rattle.key_types.specs.declared.ids.KeyId.{KeyId}
 use Rattle.key_types.specs.declared.ids.NameId.{NameId}
 use Rattle.key_types.specs.declared.key.Key.{Key}
@@ -19,9 +19,9 @@ use Rattle.key_types.specs.declared.places.Seg.{Seg}
 use Rattle.key_types.specs.declared.places.Where.{Where}
 use Rattle.sample_model.specs.declared.pair.Pair.{Pair}
 use Rattle.branch_counts.specs.Table.{Tallies}
-use Rattle.class_model.specs.declared.class.RangeClass.{RangeClass}
-use Rattle.class_model.specs.declared.class.RangeClass.TheVariants.{Ran, Reversed, RangeOutside, Crossing}
-use Rattle.class_model.specs.Ranges.{is_class, range_class}
+use Rattle.report_model.specs.declared.class.RangeClass.{RangeClass}
+use Rattle.report_model.specs.declared.class.RangeClass.TheVariants.{Ran, Reversed, RangeOutside, Crossing}
+use Rattle.report_model.specs.Ranges.{is_class, range_class}
 use Rattle.binary_model.specs.Places.{Place, outside, nameless, no_line, at_way}
 use Rattle.profile_model.specs.Counts.{IsCount, weighed}
 use Rattle.profile_model.specs.Laws.{TellsApart, has}
@@ -36,11 +36,11 @@ use Rattle.profile_tree.proofs.SumLemmas.{Given, count_is, ways_apart}
 use Rattle.profile_tree.proofs.WayLemmas.{same_ways, way_itself}
 use Rattle.profile_tree.specs.Said.{AreCountsOfPlaces, said, way_at}
 use Rattle.profile_tree.specs.declared.head.Head.{Head}
-use Rattle.target_lists.specs.declared.pairs.Call.{Call}
+use Rattle.profile_lists.specs.declared.pairs.Call.{Call}
 use Rattle.report_model.specs.Report.{Sampled}
-use Rattle.sampled_profile.specs.Program.{Program, way_of_place}
-use Rattle.sampled_profile.specs.Program as program_told
-use Rattle.sampled_profile.specs.Sampled.{count_among, has_way, hits_of, largest, profile_among, ran_over, ways_among}
+use Rattle.output_model.specs.Program.{Program, way_of_place}
+use Rattle.output_model.specs.Program as program_told
+use Rattle.output_model.specs.Sampled.{count_among, has_way, hits_of, largest, profile_among, ran_over, ways_among}
 use Rattle.profile_writer.proofs.SumLemmas.{kept_among, kept_from, kept_sum, members}
 use Rattle.profile_writer.specs.Items.{ran_by, ran_in}
 use Rattle.profile_writer.specs.Shown.{ShowsPlace, ShowsProgram, key_of}

@@ -2,17 +2,17 @@
 use Rattle.std.proofs.Common.{◌≡◌, ◌<◌, ℕ, ◌^◌, nat_lt, true, false, List, [], ◌++◌, map, length, Option, sym, ap, subst, ◌∙◌, arith}
 use Rattle.std.specs.List.{All, filter_map}
 use Rattle.std.proofs.lemmas.Bool.Decides.{nat_tests}
-use Rattle.hit_model.specs.Hits.{hits_at}
+use Rattle.profile_model.specs.Hits.{hits_at}
 use Rattle.key_types.specs.Numbers.{IsNumbered}
 use Rattle.key_types.specs.declared.ids.NameId.{NameId}
 use Rattle.key_types.specs.declared.key.Key.{Key}
 use Rattle.key_types.specs.declared.places.Seg.{Seg}
 use Rattle.key_types.specs.declared.places.Where.{Where}
 use Rattle.sample_model.specs.declared.pair.Pair.{Pair}
-use Rattle.class_model.specs.declared.class.Class.{Class}
-use Rattle.class_model.specs.declared.class.RangeClass.{RangeClass}
-use Rattle.class_model.specs.Branches.{branch_class}
-use Rattle.class_model.specs.Ranges.{range_class}
+use Rattle.report_model.specs.declared.class.Class.{Class}
+use Rattle.report_model.specs.declared.class.RangeClass.{RangeClass}
+use Rattle.report_model.specs.Branches.{branch_class}
+use Rattle.report_model.specs.Ranges.{range_class}
 use Rattle.profile_laws.proofs.CountLemmas.{lines_are_by_counts}
 use Rattle.profile_model.specs.Profile.{lines_of}
 use Rattle.profile_model.specs.Text.{text_of_lines}
@@ -27,9 +27,9 @@ use Rattle.profile_tree.specs.Said.{AreCountsOfPlaces, said}
 use Rattle.profile_tree.specs.Told.{told}
 use Rattle.profile_tree.specs.declared.line.Line.{Line}
 use Rattle.report_model.specs.Report.{Classes, Sampled, report_text}
-use Rattle.sampled_profile.specs.Output.{output_text}
-use Rattle.sampled_profile.specs.Program.{Program}
-use Rattle.sampled_profile.specs.Sampled.{all_addresses, hits_of, profile_of}
+use Rattle.output_model.specs.Output.{output_text}
+use Rattle.output_model.specs.Program.{Program}
+use Rattle.output_model.specs.Sampled.{all_addresses, hits_of, profile_of}
 use Rattle.profile_writer.proofs.BranchLemmas.{calls_given, heads_alike, heads_given, targets_alike}
 use Rattle.profile_writer.proofs.ClassLemmas.{classes_told, report_alike}
 use Rattle.profile_writer.proofs.CountLemmas.{counts_alike, hits_alike}

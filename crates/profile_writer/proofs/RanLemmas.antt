@@ -3,17 +3,17 @@ use Rattle.std.proofs.Common.{◌≡◌, ◌≤◌, ◌<◌, ℕ, ◌^◌, nat_l
 use Rattle.std.specs.Prelude.{OnOk, if◌then◌else◌}
 use Rattle.std.specs.List.{filter_map}
 use Rattle.std.specs.Option.{option_map_or}
-use Rattle.hit_model.specs.Hits.{AreRanges, hits_at, times_of}
-use Rattle.hit_model.specs.Steps.{hits_by, hits_on}
-use Rattle.hit_model.specs.declared.step.Step.{Step}
-use Rattle.hit_model.specs.declared.ran_range.RanRange.{RanRange}
-use Rattle.hit_model.proofs.HitLemmas.{hits_are_within_times}
+use Rattle.profile_model.specs.Hits.{AreRanges, hits_at, times_of}
+use Rattle.profile_model.specs.Steps.{hits_by, hits_on}
+use Rattle.profile_model.specs.declared.step.Step.{Step}
+use Rattle.profile_model.specs.declared.ran_range.RanRange.{RanRange}
+use Rattle.profile_model.proofs.HitLemmas.{hits_are_within_times}
 use Rattle.sample_model.specs.Limits.{max_branches}
 use Rattle.sample_model.specs.declared.pair.Pair.{Pair}
-use Rattle.class_model.specs.declared.class.RangeClass.{RangeClass}
-use Rattle.class_model.specs.declared.class.RangeClass.TheVariants.{Ran, Reversed, RangeOutside, Crossing}
-use Rattle.class_model.specs.Ranges.{range_class}
-use Rattle.class_model.proofs.RangeLemmas.{ran_is_one_function}
+use Rattle.report_model.specs.declared.class.RangeClass.{RangeClass}
+use Rattle.report_model.specs.declared.class.RangeClass.TheVariants.{Ran, Reversed, RangeOutside, Crossing}
+use Rattle.report_model.specs.Ranges.{range_class}
+use Rattle.report_model.proofs.RangeLemmas.{ran_is_one_function}
 use Rattle.profile_report.specs.Classed.{all_times, classed_by}
 use Rattle.profile_report.specs.declared.classed.Classed.{Classed}
 use Rattle.profile_tree.proofs.ListLemmas.{all_among, among_map_back, sum_at_most}

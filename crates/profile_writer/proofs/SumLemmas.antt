@@ -7,7 +7,7 @@ use Rattle.std.proofs.lemmas.List.Elements.{All-from_recursion}
 use Rattle.std.proofs.lemmas.List.Sums.{sum_by-cons}
 use Rattle.sample_model.specs.declared.pair.Pair.{Pair}
 use Rattle.branch_counts.specs.Table.{Tallies, pair_of}
-use Rattle.tally_law.proofs.TallyLemmas.{tables_count_members}
+use Rattle.branch_counts.proofs.TallyLemmas.{tables_count_members}
 use Rattle.profile_tree.proofs.ListLemmas.{Among, sum_filter}
 
 -- a sum over what is kept of some items

@@ -3,14 +3,14 @@ use Rattle.std.specs.Prelude.{ℕ, Option, None, Some}
 use Rattle.key_types.specs.declared.ids.KeyId.{KeyId}
 use Rattle.key_types.specs.declared.places.Where.{Where}
 use Rattle.key_types.specs.declared.places.Where.TheVariants.{Outside, Nameless, NoLine, At}
-use Rattle.class_model.specs.declared.class.Class.{Class}
-use Rattle.class_model.specs.declared.class.Class.TheVariants.{Entry, Inside, Unmapped}
-use Rattle.class_model.specs.declared.class.RangeClass.{RangeClass}
-use Rattle.class_model.specs.declared.class.RangeClass.TheVariants.{Ran, Reversed, RangeOutside, Crossing}
-use Rattle.hit_model.specs.declared.ran_range.RanRange.{RanRange}
+use Rattle.report_model.specs.declared.class.Class.{Class}
+use Rattle.report_model.specs.declared.class.Class.TheVariants.{Entry, Inside, Unmapped}
+use Rattle.report_model.specs.declared.class.RangeClass.{RangeClass}
+use Rattle.report_model.specs.declared.class.RangeClass.TheVariants.{Ran, Reversed, RangeOutside, Crossing}
+use Rattle.profile_model.specs.declared.ran_range.RanRange.{RanRange}
 use Rattle.profile_report.specs.declared.classed.Classed.{Classed}
 use Rattle.profile_tree.specs.declared.head.Head.{Head}
-use Rattle.target_lists.specs.declared.pairs.Call.{Call}
+use Rattle.profile_lists.specs.declared.pairs.Call.{Call}
 
 -- A branch of a class from a key is a call where it enters a function.
 abbrev pub call_from_key : KeyId → Class → ℕ → Option Call

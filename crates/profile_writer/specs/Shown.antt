@@ -1,7 +1,7 @@
 -- How a map of places shows a program, and rows show what was sampled of it.
 use Rattle.std.specs.Prelude.{◌≡◌, ℕ, ◌<◌, List, length, slice_get, Option, None, Some, IsSome}
 use Rattle.std.specs.List.Sorted.{IsSorted}
-use Rattle.key_counts.specs.Laws.{factor_by, place_by}
+use Rattle.profile_lists.specs.Laws.{factor_by, place_by}
 use Rattle.key_types.specs.declared.ids.KeyId.{KeyId}
 use Rattle.key_types.specs.declared.ids.NameId.{NameId}
 use Rattle.key_types.specs.declared.key.Key.{Key}
@@ -17,7 +17,7 @@ use Rattle.binary_model.specs.Shown.{ShowsBy}
 use Rattle.profile_report.specs.declared.report.Units.{Units}
 use Rattle.profile_tree.specs.Said.{way_at}
 use Rattle.report_model.specs.Report.{Sampled}
-use Rattle.sampled_profile.specs.Program.{Program}
+use Rattle.output_model.specs.Program.{Program}
 
 -- The number of the key of an answer.
 abbrev pub key_of : Where → Option ℕ

@@ -1,13 +1,13 @@
 // The whole output.
 ghost use Rattle.std.specs.Prelude.{◌≡◌, ◌≤◌, All, IfOk, length};
 ghost use Rattle.branch_counts.specs.Table.{total_in};
-ghost use Rattle.key_counts.specs.Segments.{AllFit};
-ghost use Rattle.key_segments.specs.Segments.{AreSegments};
+ghost use Rattle.profile_lists.specs.Segments.{AllFit};
+ghost use Rattle.key_types.specs.Segments.{AreSegments};
 ghost use Rattle.profile_tree.specs.Known.{HasNames};
 ghost use Rattle.report_model.specs.Report.{Sampled};
 ghost use Rattle.sample_model.specs.Limits.{max_branches};
-ghost use Rattle.sampled_profile.specs.Output.{output_text};
-ghost use Rattle.sampled_profile.specs.Program.{Program};
+ghost use Rattle.output_model.specs.Output.{output_text};
+ghost use Rattle.output_model.specs.Program.{Program};
 ghost use Rattle.profile_writer.specs.Shown.{ShowsProgram, ShowsSampled};
 
 use crate::tree::tree_of;

@@ -1,9 +1,9 @@
 // The lines of a profile, from classed branches and ranges.
 ghost use Rattle.std.specs.Prelude.{◌≡◌, ◌<◌, ◌≤◌, ◌^◌, ℕ, All, IfOk, OnOk, false, length, map, nat_lt};
 ghost use Rattle.std.specs.List.{filter_map};
-ghost use Rattle.hit_model.specs.Hits.{AreRanges, hits_at};
-ghost use Rattle.key_counts.specs.Segments.{AllFit};
-ghost use Rattle.key_segments.specs.Segments.{AreSegments};
+ghost use Rattle.profile_model.specs.Hits.{AreRanges, hits_at};
+ghost use Rattle.profile_lists.specs.Segments.{AllFit};
+ghost use Rattle.key_types.specs.Segments.{AreSegments};
 ghost use Rattle.key_types.specs.Numbers.{IsNumbered};
 ghost use Rattle.profile_model.specs.Profile.{lines_of};
 ghost use Rattle.profile_report.specs.Classed.{all_times};

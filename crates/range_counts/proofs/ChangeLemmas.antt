@@ -7,9 +7,9 @@ use Rattle.std.proofs.lemmas.List.{flat_map_more, take_more}
 use Rattle.std.proofs.lemmas.List.Elements.{All-head, All-tail, filter-append}
 use Rattle.std.proofs.lemmas.List.Sorted.{sum_by-IsPermutation}
 use Rattle.std.proofs.lemmas.List.Sums.{sum_by-append, sum_by-cons}
-use Rattle.hit_model.specs.declared.ran_range.RanRange.{RanRange}
-use Rattle.hit_model.specs.Hits.{AreRanges, hits_at, times_of}
-use Rattle.hit_model.proofs.HitLemmas.{hits-cons, share}
+use Rattle.profile_model.specs.declared.ran_range.RanRange.{RanRange}
+use Rattle.profile_model.specs.Hits.{AreRanges, hits_at, times_of}
+use Rattle.profile_model.proofs.HitLemmas.{hits-cons, share}
 use Rattle.range_counts.specs.declared.changes.Change.{Change}
 use Rattle.range_counts.specs.Changes.{AreSound, begun_by, changes_at, ended_by, running_at}
 

@@ -3,9 +3,9 @@ use Rattle.std.proofs.Common.{◌≡◌, ℕ, suc, ◌^◌, ◌<◌, ◌≤◌, 
 use Rattle.std.specs.List.{AllWithin}
 use Rattle.std.proofs.lemmas.Bool.{cases_lt}
 use Rattle.std.proofs.lemmas.List.{get_or_default}
-use Rattle.hit_model.specs.declared.step.Step.{Step}
-use Rattle.hit_model.specs.Hits.{IsLargestIn}
-use Rattle.hit_model.specs.Steps.{ground, hits_by, hits_on, last_of}
+use Rattle.profile_model.specs.declared.step.Step.{Step}
+use Rattle.profile_model.specs.Hits.{IsLargestIn}
+use Rattle.profile_model.specs.Steps.{ground, hits_by, hits_on, last_of}
 use Rattle.range_counts.specs.Steps.{Ascend, IsFirstAbove}
 use Rattle.range_counts.proofs.StepLemmas.{none, above, first_above-at, hits-behind, hits-from, hits_by-is}
 

@@ -5,8 +5,8 @@ use Rattle.std.proofs.lemmas.List.{get_or_default}
 use Rattle.std.specs.List.{AllWithin}
 use Rattle.std.specs.List.Sorted.{IsNonDecreasingBy}
 use Rattle.std.proofs.Math.Seq.{take-suc}
-use Rattle.hit_model.specs.declared.step.Step.{Step}
-use Rattle.hit_model.specs.Steps.{ground, hits_by, hits_on, last_of}
+use Rattle.profile_model.specs.declared.step.Step.{Step}
+use Rattle.profile_model.specs.Steps.{ground, hits_by, hits_on, last_of}
 use Rattle.range_counts.specs.Steps.{Ascend, AscendBetween, IsFirstAbove}
 use Rattle.range_counts.proofs.PartLemmas.{filter_is_take}
 

@@ -7,10 +7,10 @@ use Rattle.std.proofs.lemmas.Bool.{cases_lt, le-ltb, lt-leb}
 use Rattle.std.proofs.lemmas.List.{get_or_default, get_or_past}
 use Rattle.std.proofs.lemmas.List.Elements.{filter-append}
 use Rattle.std.proofs.lemmas.List.Sums.{sum_by_more, sum_by_more_le}
-use Rattle.hit_model.specs.declared.ran_range.RanRange.{RanRange}
-use Rattle.hit_model.specs.declared.step.Step.{Step}
-use Rattle.hit_model.specs.Hits.{hits_at}
-use Rattle.hit_model.specs.Steps.{ground, hits_by, hits_on, last_of}
+use Rattle.profile_model.specs.declared.ran_range.RanRange.{RanRange}
+use Rattle.profile_model.specs.declared.step.Step.{Step}
+use Rattle.profile_model.specs.Hits.{hits_at}
+use Rattle.profile_model.specs.Steps.{ground, hits_by, hits_on, last_of}
 use Rattle.range_counts.specs.declared.changes.Change.{Change}
 use Rattle.range_counts.specs.Changes.{AreSound, address_of, no_change, running_at}
 use Rattle.range_counts.specs.Steps.{Ascend, AscendBetween}

@@ -2,8 +2,8 @@
 use Rattle.std.proofs.Common.{ℕ, zero, suc, ◌<◌, ◌≤◌, List, ap, arith, inl, inr, length, take}
 use Rattle.std.specs.List.{AllWithin}
 use Rattle.std.proofs.lemmas.Bool.{cases_lt}
-use Rattle.hit_model.specs.declared.step.Step.{Step}
-use Rattle.hit_model.specs.Steps.{ground, last_of}
+use Rattle.profile_model.specs.declared.step.Step.{Step}
+use Rattle.profile_model.specs.Steps.{ground, last_of}
 use Rattle.range_counts.specs.Steps.{Ascend, IsFirstAbove}
 use Rattle.range_counts.proofs.StepLemmas.{none, last_of-take, not_below_before}
 

@@ -1,6 +1,6 @@
 -- Changes: the addresses at which ranges begin and those behind the ones at which they end.
 use Rattle.std.specs.Prelude.{ℕ, ◌+◌, ◌-◌, ◌^◌, ◌<◌, ◌≤◌, nat_le, nat_lt, List, [], ◌∷◌, filter, sum_by, slice_index_or, if◌then◌else◌}
-use Rattle.hit_model.specs.declared.ran_range.RanRange.{RanRange}
+use Rattle.profile_model.specs.declared.ran_range.RanRange.{RanRange}
 use Rattle.range_counts.specs.declared.changes.Change.{Change}
 
 -- A range begins at its first address, and has ended behind its last where there is an address behind.

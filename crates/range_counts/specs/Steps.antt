@@ -1,7 +1,7 @@
 -- Steps in order, and the first one above an address.
 use Rattle.std.specs.Prelude.{ℕ, suc, ◌^◌, ◌≤◌, ◌<◌, List, [], ◌∷◌, length}
 use Rattle.std.specs.List.{AllWithin}
-use Rattle.hit_model.specs.declared.step.Step.{Step}
+use Rattle.profile_model.specs.declared.step.Step.{Step}
 
 -- The steps lie between two addresses, each above the one before it.
 abbrev pub AscendBetween : ℕ → ℕ → List Step → Type 0

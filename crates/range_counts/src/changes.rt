@@ -1,12 +1,12 @@
 ghost use Rattle.std.specs.Prelude.{◌≡◌, ℕ, ◌+◌, ◌^◌, ◌<◌, ◌++◌, length, nat_lt, flat_map, All, IfOk, OnOk};
 ghost use Rattle.std.specs.List.Sorted.{IsNonDecreasingBy};
-ghost use Rattle.hit_model.specs.Hits.{AreRanges, hits_at, times_of};
-ghost use Rattle.hit_model.specs.Steps.{hits_by, hits_on};
+ghost use Rattle.profile_model.specs.Hits.{AreRanges, hits_at, times_of};
+ghost use Rattle.profile_model.specs.Steps.{hits_by, hits_on};
 ghost use Rattle.range_counts.specs.Changes.{AreSound, address_of, changes_at, running_at};
 ghost use Rattle.range_counts.specs.Steps.{Ascend};
 
 use crate::hits::Hits;
-use hit_model::{RanRange, Step};
+use profile_model::{RanRange, Step};
 use refusal::NoMemory;
 use std::alloc::Global;
 

@@ -1,10 +1,10 @@
 ghost use Rattle.std.specs.Prelude.{◌≡◌, ◌<◌};
-ghost use Rattle.hit_model.specs.Hits.{IsLargestIn};
-ghost use Rattle.hit_model.specs.Steps.{hits_by};
+ghost use Rattle.profile_model.specs.Hits.{IsLargestIn};
+ghost use Rattle.profile_model.specs.Steps.{hits_by};
 
 use crate::steps::{first_above, hits_behind, largest_from};
 use crate::walk::Walk;
-use hit_model::Step;
+use profile_model::Step;
 use std::marker::Model;
 
 /// How often each address ran.
@@ -16,7 +16,7 @@ pub struct Hits {
 // Clauses see steps that tell the hits, each above the one before it.
 impl Model for Hits {
     ghost use Rattle.std.specs.Prelude.{List};
-    ghost use Rattle.hit_model.specs.declared.step.Step.{Step};
+    ghost use Rattle.profile_model.specs.declared.step.Step.{Step};
     ghost use Rattle.range_counts.specs.Steps.{Ascend};
 
     ghost Value = { List Step };

@@ -1,10 +1,10 @@
 ghost use Rattle.std.specs.Prelude.{◌≡◌, ℕ, ◌<◌, ◌≤◌, length, take};
 ghost use Rattle.std.specs.List.{AllWithin};
-ghost use Rattle.hit_model.specs.Hits.{IsLargestIn};
-ghost use Rattle.hit_model.specs.Steps.{ground, hits_by, last_of};
+ghost use Rattle.profile_model.specs.Hits.{IsLargestIn};
+ghost use Rattle.profile_model.specs.Steps.{ground, hits_by, last_of};
 ghost use Rattle.range_counts.specs.Steps.{Ascend, IsFirstAbove};
 
-use hit_model::Step;
+use profile_model::Step;
 
 /// The hits behind the first `next` steps and before the others.
 pub(crate) fn hits_behind(steps: &[Step], next: usize) -> u64

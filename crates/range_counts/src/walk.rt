@@ -1,10 +1,10 @@
 ghost use Rattle.std.specs.Prelude.{◌≡◌, ◌<◌, ◌≤◌};
-ghost use Rattle.hit_model.specs.Hits.{IsLargestIn};
-ghost use Rattle.hit_model.specs.Steps.{hits_by};
+ghost use Rattle.profile_model.specs.Hits.{IsLargestIn};
+ghost use Rattle.profile_model.specs.Steps.{hits_by};
 ghost use Rattle.range_counts.specs.Steps.{Ascend};
 
 use crate::steps::{first_above_from, largest_from};
-use hit_model::Step;
+use profile_model::Step;
 use std::marker::Model;
 
 /// A way up the addresses, on which parts of the program are asked one behind the other.
@@ -20,7 +20,7 @@ pub struct Walk<'h> {
 // the last step that was passed.
 impl<'h> Model for Walk<'h> {
     ghost use Rattle.std.specs.Prelude.{◌≤◌, length, take};
-    ghost use Rattle.hit_model.specs.Steps.{ground, last_of};
+    ghost use Rattle.profile_model.specs.Steps.{ground, last_of};
     ghost use Rattle.range_counts.specs.Steps.{Ascend};
     ghost use Rattle.range_counts.specs.Walked.{Walked};
 

@@ -23,11 +23,11 @@ use Rattle.line_model.specs.declared.row.Row.{Row}
 use Rattle.line_model.specs.Fields.{unit_at, version_at, sizes_at, opcodes_at, operations_at, lengths_at, header_at, program_at}
 use Rattle.line_model.specs.Program.{rows_at, rows_in}
 use Rattle.line_model.specs.Reading.{operation_at, code_at, extended_at, ulebs_at}
-use Rattle.row_model.specs.Rows.{Sequence, row_in, sequences_of}
-use Rattle.abbrev_model.specs.Abbrev.{find_code}
-use Rattle.abbrev_model.specs.Table.{next_abbrev, table}
+use Rattle.line_model.specs.Rows.{Sequence, row_in, sequences_of}
+use Rattle.unit_model.specs.Abbrev.{find_code}
+use Rattle.unit_model.specs.Table.{next_abbrev, table}
 use Rattle.placed_view.specs.Reader.{field, uleb}
-use Rattle.base_model.specs.Bases.{root_of}
+use Rattle.tree_model.specs.Bases.{root_of}
 use Rattle.binary_model.specs.LinePrograms.{row_count, rows_of_unit, rows_of_units}
 use Rattle.unit_model.specs.Values.{Found}
 use Rattle.unit_model.specs.Entries.{Entry as UnitEntry, entries as unit_entries}

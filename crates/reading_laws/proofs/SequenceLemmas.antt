@@ -11,7 +11,7 @@ use Rattle.std.proofs.lemmas.List.Folds.{find-append}
 use Rattle.std.proofs.lemmas.List.Kept.{AllPairs-cons}
 use Rattle.elf_model.specs.Segments.{is_live}
 use Rattle.line_model.specs.declared.row.Row.{Row}
-use Rattle.row_model.specs.Rows.{Sequence, ends, holds, is_live_sequence, never_fall, sequences_of}
+use Rattle.line_model.specs.Rows.{Sequence, ends, holds, is_live_sequence, never_fall, sequences_of}
 use Rattle.reading_laws.specs.Sequences.{NoneEnds, AreCutInto, SequencesAreCut, Ascend, IsLive, LiveSequencesAscend, RowsCoverAddresses}
 
 -- ---- what rows are cut into

@@ -8,7 +8,7 @@ use Rattle.std.proofs.lemmas.List.Sums.{sum_by-append, sum_by-cons}
 use Rattle.byte_view.specs.Cursor.{Cursor}
 use Rattle.placed_view.specs.Reader.{Reader, behind, gives, elsewhere, piece_of, cursor_behind}
 use Rattle.placed_view.specs.Steps.{goes_on, steps, if_left, step_if_left}
-use Rattle.abbrev_model.specs.Table.{table}
+use Rattle.unit_model.specs.Table.{table}
 use Rattle.unit_model.specs.Entries.{entries}
 use Rattle.unit_model.specs.Header.{Header, header, unit_length}
 use Rattle.unit_model.specs.Units.{Unit as UnitRead, Units, no_units, Extent, with_skipped, with_unit, unit_behind, some_unit, unit_body, next_unit, units}

@@ -2,7 +2,7 @@
 use Rattle.std.specs.Prelude.{◌≡◌, ◌<◌, ◌≤◌, ◌+◌, ◌↔◌, ℕ, true, false, List, [], ◌∷◌, ◌++◌, All, AllPairs, slice_get, Some}
 use Rattle.elf_model.specs.Segments.{is_live}
 use Rattle.line_model.specs.declared.row.Row.{Row}
-use Rattle.row_model.specs.Rows.{Sequence, ends, holds, is_live_sequence, row_in, sequences_of}
+use Rattle.line_model.specs.Rows.{Sequence, ends, holds, is_live_sequence, row_in, sequences_of}
 
 -- The rows of a sequence, and behind them the one that ends it.
 abbrev pub all_rows : Sequence → List Row

@@ -1,5 +1,5 @@
-//! What is read of a branch text and of a binary, seen from the other side: by where its parts
-//! stand, where the definition goes through them one by one.
+//! What is read of a branch text and of a binary (load lines, range lists, units, rows), seen from
+//! the other side: by where its parts stand, where the definition goes through them one by one.
 #![tactic(auto)]
 
 mod laws;

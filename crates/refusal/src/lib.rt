@@ -1,4 +1,5 @@
-//! Where an input is refused, and why.
+//! Where an input is refused, and why: kinds and places of refusals, which of them is the first,
+//! and want of memory.
 //!
 //! An input is judged item by item, in a fixed order. `Place` is where the first bad item stands,
 //! `Kind` why it is bad, and `refuse_if` judges one item. `Stop` and `NoMemory` are the answers of

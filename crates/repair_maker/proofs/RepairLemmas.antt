@@ -11,8 +11,8 @@ use Rattle.block_model.specs.declared.parts.Weight.{Weight}
 use Rattle.block_model.specs.declared.parts.Weight.TheVariants.{Unknown}
 use Rattle.block_model.specs.Limits.{bound_bits}
 use Rattle.block_model.specs.Function.{Function, unbounded}
-use Rattle.balance_model.specs.Sound.{AreWeights}
-use Rattle.balance_model.proofs.NetLemmas.{length-block_arcs, length-edge_arcs}
+use Rattle.flow_model.specs.Sound.{AreWeights}
+use Rattle.flow_model.proofs.NetLemmas.{length-block_arcs, length-edge_arcs}
 use Rattle.cfg_text.specs.declared.fun.Fun.{Fun}
 use Rattle.cfg_text.specs.Fun.{function_of}
 use Rattle.flow_model.specs.Cut.{most_out}

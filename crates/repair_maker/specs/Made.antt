@@ -8,7 +8,7 @@ use Rattle.block_model.specs.declared.parts.Edge.{Edge}
 use Rattle.block_model.specs.declared.parts.Weight.{Weight}
 use Rattle.block_model.specs.declared.parts.Weight.TheVariants.{Unknown}
 use Rattle.block_model.specs.Function.{Function}
-use Rattle.hit_model.specs.Steps.{hits_by}
+use Rattle.profile_model.specs.Steps.{hits_by}
 use Rattle.flow_model.specs.Cut.{least_in, most_out}
 use Rattle.flow_model.specs.Network.{Network, arcs_of, network_of}
 use Rattle.flow_model.specs.Repair.{AreLeast, FitCounts, cost_of}
@@ -17,7 +17,7 @@ use Rattle.repair_model.specs.Repair.{Repair, Solution, flow, cut, has_counts}
 use Rattle.repair_model.specs.Text.{repair_text}
 use Rattle.weight_model.specs.Blocks.{IsWeightOf}
 use Rattle.weight_model.specs.Edges.{taken, weight_by}
-use Rattle.edge_weights.specs.Sampled.{Sampled}
+use Rattle.block_weights.specs.Sampled.{Sampled}
 
 -- What tells the weight of an edge: how often branches led from a block to an address, and how often ranges ran past
 -- one.

@@ -2,16 +2,15 @@
 ghost use Rattle.std.specs.Prelude.{◌≡◌, ◌++◌, ◌<◌, ◌^◌, List, ℕ, OnErr, OnOk, length, map};
 ghost use Rattle.std.specs.List.{All};
 ghost use Rattle.block_model.specs.Limits.{bound_bits};
-ghost use Rattle.balance_model.specs.Sound.{IsSound};
+ghost use Rattle.flow_model.specs.Sound.{IsSound};
 ghost use Rattle.block_weights.specs.Counts.{count_in};
 ghost use Rattle.cfg_text.specs.Fun.{function_of};
-ghost use Rattle.key_segments.specs.Segments.{AreSegments, key_told};
+ghost use Rattle.key_types.specs.Segments.{AreSegments, key_told};
 ghost use Rattle.repair_maker.specs.Made.{AreRepairsOf, IsRepairOf, edges_told};
 
 use crate::weighed::weighed;
-use block_weights::weights;
+use block_weights::{EdgeSamples, weights};
 use cfg_text::Fun;
-use edge_weights::EdgeSamples;
 use flow_network::net_of;
 use flow_solver::solve;
 use key_types::Seg;

@@ -1,11 +1,10 @@
 // The weights of the edges of a function, where they are asked for.
 ghost use Rattle.std.specs.Prelude.{◌≡◌, [], IfOk, None, length};
-ghost use Rattle.balance_model.specs.Sound.{AreWeights};
+ghost use Rattle.flow_model.specs.Sound.{AreWeights};
 ghost use Rattle.repair_maker.specs.Made.{edges_told, weighed_edges};
 
-use block_weights::Weight;
+use block_weights::{EdgeSamples, Weight, edge_weights};
 use cfg_text::Fun;
-use edge_weights::{EdgeSamples, edge_weights};
 use refusal::NoMemory;
 use std::alloc::Global;
 

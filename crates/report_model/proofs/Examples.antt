@@ -3,11 +3,11 @@ use Rattle.std.proofs.Common.{◌≡◌, ℕ, [], ◌∷◌, ◌++◌, Option, N
 use Rattle.std.specs.Prelude.{codes}
 use Rattle.std.specs.Fmt.{digits}
 use Rattle.text_model.specs.Numbers.{hex_text}
-use Rattle.class_model.specs.Ranges.{range_class}
-use Rattle.class_model.specs.declared.class.Class.{Class}
-use Rattle.class_model.specs.declared.class.Class.TheVariants.{Entry, Inside, Unmapped}
-use Rattle.class_model.specs.declared.class.RangeClass.TheVariants.{RangeOutside, Reversed, Crossing}
-use Rattle.class_model.specs.declared.class.Reason.TheVariants.{FromNameless, FromNoLine, FromOutside, ToNameless, ToOutside}
+use Rattle.report_model.specs.Ranges.{range_class}
+use Rattle.report_model.specs.declared.class.Class.{Class}
+use Rattle.report_model.specs.declared.class.Class.TheVariants.{Entry, Inside, Unmapped}
+use Rattle.report_model.specs.declared.class.RangeClass.TheVariants.{RangeOutside, Reversed, Crossing}
+use Rattle.report_model.specs.declared.class.Reason.TheVariants.{FromNameless, FromNoLine, FromOutside, ToNameless, ToOutside}
 use Rattle.report_model.specs.Report.{Classes, Sampled, report_text}
 
 -- three samples of two branches each, one end of each branch outside

@@ -1,2 +1,5 @@
+pub mod AddLemmas
+mod ClassExamples
+pub mod RangeLemmas
 mod Examples
 pub mod ReportLemmas

@@ -8,12 +8,12 @@ use Rattle.std.proofs.lemmas.List.Sums.{sum_by-cons}
 use Rattle.sample_model.specs.Laws.{IsAscending, has_pair}
 use Rattle.sample_model.specs.Pairs.{same_pair, times_of, distinct_pairs}
 use Rattle.sample_model.proofs.PairLemmas.{same_pair-refl, same_pair-equal, has_pair-below, distinct_pairs_ascend}
-use Rattle.class_model.specs.declared.class.RangeClass.TheVariants.{Ran, Reversed, RangeOutside, Crossing}
-use Rattle.class_model.specs.declared.class.Reason.TheVariants.{FromOutside, FromNameless, FromNoLine, ToOutside, ToNameless}
-use Rattle.class_model.specs.Branches.{is_entry, is_inside, is_unmapped}
-use Rattle.class_model.specs.Ranges.{is_class}
-use Rattle.class_model.specs.Laws.{times_where}
-use Rattle.class_model.proofs.AddLemmas.{branches_add_up, ranges_add_up}
+use Rattle.report_model.specs.declared.class.RangeClass.TheVariants.{Ran, Reversed, RangeOutside, Crossing}
+use Rattle.report_model.specs.declared.class.Reason.TheVariants.{FromOutside, FromNameless, FromNoLine, ToOutside, ToNameless}
+use Rattle.report_model.specs.Branches.{is_entry, is_inside, is_unmapped}
+use Rattle.report_model.specs.Ranges.{is_class}
+use Rattle.report_model.specs.ClassLaws.{times_where}
+use Rattle.report_model.proofs.AddLemmas.{branches_add_up, ranges_add_up}
 use Rattle.report_model.specs.Laws.{EachBranchOnce, EachRangeOnce}
 
 -- one for a pair that is the same

@@ -1,8 +1,8 @@
 -- What follows from the definitions.
 use Rattle.std.specs.Prelude.{◌≡◌, ℕ, ◌+◌, length, sum_by}
-use Rattle.class_model.specs.declared.class.Reason.{Reason}
-use Rattle.class_model.specs.declared.class.RangeClass.TheVariants.{Ran, Reversed, RangeOutside, Crossing}
-use Rattle.class_model.specs.Branches.{is_entry, is_inside}
+use Rattle.report_model.specs.declared.class.Reason.{Reason}
+use Rattle.report_model.specs.declared.class.RangeClass.TheVariants.{Ran, Reversed, RangeOutside, Crossing}
+use Rattle.report_model.specs.Branches.{is_entry, is_inside}
 use Rattle.sample_model.specs.Pairs.{times_of}
 use Rattle.report_model.specs.Report.{Classes, Sampled, branches_where, ranges_of_class, reasons, unmapped_for}
 

@@ -1,2 +1,5 @@
+pub mod Branches
+pub mod ClassLaws
+pub mod Ranges
 pub mod Laws
 pub mod Report

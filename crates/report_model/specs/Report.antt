@@ -3,13 +3,13 @@ use Rattle.std.specs.Prelude.{ℕ, Bool, List, [], ◌∷◌, ◌++◌, codes, c
 use Rattle.std.specs.List.{flat_map}
 use Rattle.text_model.specs.Numbers.{hex_text, decimal_text}
 use Rattle.sample_model.specs.Pairs.{distinct_pairs, times_of}
-use Rattle.class_model.specs.declared.class.Class.{Class}
-use Rattle.class_model.specs.declared.class.RangeClass.{RangeClass}
-use Rattle.class_model.specs.declared.class.RangeClass.TheVariants.{Ran, Reversed, RangeOutside, Crossing}
-use Rattle.class_model.specs.declared.class.Reason.{Reason}
-use Rattle.class_model.specs.declared.class.Reason.TheVariants.{FromOutside, FromNameless, FromNoLine, ToOutside, ToNameless}
-use Rattle.class_model.specs.Branches.{is_entry, is_inside, is_unmapped}
-use Rattle.class_model.specs.Ranges.{is_class}
+use Rattle.report_model.specs.declared.class.Class.{Class}
+use Rattle.report_model.specs.declared.class.RangeClass.{RangeClass}
+use Rattle.report_model.specs.declared.class.RangeClass.TheVariants.{Ran, Reversed, RangeOutside, Crossing}
+use Rattle.report_model.specs.declared.class.Reason.{Reason}
+use Rattle.report_model.specs.declared.class.Reason.TheVariants.{FromOutside, FromNameless, FromNoLine, ToOutside, ToNameless}
+use Rattle.report_model.specs.Branches.{is_entry, is_inside, is_unmapped}
+use Rattle.report_model.specs.Ranges.{is_class}
 
 -- The class of each branch, and of each sampled range.
 pub record Classes : Type 0 where

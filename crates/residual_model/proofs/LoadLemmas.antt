@@ -10,8 +10,8 @@ use Rattle.flow_model.specs.declared.arc.Arc.{Arc}
 use Rattle.flow_model.specs.Circulation.{root, IsWithin, sum_where, Conserve, IsCirculation}
 use Rattle.flow_model.specs.Network.{in_side, out_side, free_arc, return_arcs, Network, arcs_of, network_of, Counts, calls, returns, loads}
 use Rattle.flow_model.specs.Repair.{AreCounts}
-use Rattle.balance_model.proofs.ArcLemmas.{sum_where-append, sum_where_none, each-length}
-use Rattle.balance_model.proofs.NetLemmas.{no_block_heads, no_block_tails, no_edge_heads, no_edge_tails, no_return_before, no_return_heads, no_return_tails, sides_apart}
+use Rattle.flow_model.proofs.ArcLemmas.{sum_where-append, sum_where_none, each-length}
+use Rattle.flow_model.proofs.NetLemmas.{no_block_heads, no_block_tails, no_edge_heads, no_edge_tails, no_return_before, no_return_heads, no_return_tails, sides_apart}
 use Rattle.residual_model.specs.Loads.{own_counts, CirculationsAreLoads}
 
 -- ---- the returns

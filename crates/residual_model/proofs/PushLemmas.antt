@@ -6,7 +6,7 @@ use Rattle.std.proofs.lemmas.Int.{ints}
 use Rattle.flow_model.specs.declared.arc.Arc.{Arc}
 use Rattle.flow_model.specs.Circulation.{IsAtMost, cost_on}
 use Rattle.flow_model.specs.Prices.{IsBelow}
-use Rattle.balance_model.specs.Sound.{IsSoundUpper}
+use Rattle.flow_model.specs.Sound.{IsSoundUpper}
 use Rattle.residual_model.specs.Residual.{cost_of_more, cost_of_less, capped, starting, TakesMore, TakesLess}
 use Rattle.residual_model.specs.Laws.{StartingCountsFit, PushesAlongFit, PushesAgainstFit}
 

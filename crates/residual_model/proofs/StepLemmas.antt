@@ -4,7 +4,7 @@ use Rattle.std.specs.Prelude.{ℤ, pos, ◌+ℤ◌, ◌-ℤ◌, ◌≤ℤ◌}
 use Rattle.std.proofs.lemmas.Bool.{cases_lt}
 use Rattle.std.proofs.lemmas.Int.{ints}
 use Rattle.flow_model.specs.Prices.{FitsOn}
-use Rattle.balance_model.proofs.ArcLemmas.{each_from, each_from_both}
+use Rattle.flow_model.proofs.ArcLemmas.{each_from, each_from_both}
 use Rattle.residual_model.specs.Residual.{StepsOn, reduced, moved}
 use Rattle.residual_model.specs.Laws.{StepsJudgePrices, MovedPricesFit}
 

@@ -3,7 +3,7 @@ use Rattle.std.specs.Prelude.{◌≡◌, ◌↔◌, ℕ, ◌+◌, ◌≤◌, fal
 use Rattle.block_model.specs.Judging.{exceeds}
 use Rattle.flow_model.specs.Circulation.{IsAtMost}
 use Rattle.flow_model.specs.Prices.{IsBelow}
-use Rattle.balance_model.specs.Sound.{IsSoundUpper}
+use Rattle.flow_model.specs.Sound.{IsSoundUpper}
 use Rattle.residual_model.specs.Residual.{capped}
 
 -- A number is at most an upper bound where it does not exceed it; it is below the bound where one more is at most it;

@@ -4,7 +4,7 @@ use Rattle.flow_model.specs.declared.arc.Arc.{Arc}
 use Rattle.flow_model.specs.Circulation.{EachArc, IsWithin, inflow, outflow}
 use Rattle.flow_model.specs.Cut.{IsCut}
 use Rattle.flow_model.specs.Prices.{FitsOn, Fit}
-use Rattle.balance_model.specs.Sound.{IsSoundUpper}
+use Rattle.flow_model.specs.Sound.{IsSoundUpper}
 use Rattle.residual_model.specs.Residual.{cost_of_more, cost_of_less, EachStep, reduced, starting, TakesMore, TakesLess, moved}
 
 -- Prices fit exactly where no step has a reduced cost below 0.

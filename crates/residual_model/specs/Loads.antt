@@ -3,7 +3,7 @@ use Rattle.std.specs.Prelude.{◌≡◌, ℕ, List, length, take, drop}
 use Rattle.flow_model.specs.Circulation.{IsCirculation}
 use Rattle.flow_model.specs.Network.{Network, Counts, arcs_of, loads}
 use Rattle.flow_model.specs.Repair.{ConserveWithinBounds}
-use Rattle.balance_model.specs.Sound.{IsNet}
+use Rattle.flow_model.specs.Sound.{IsNet}
 
 -- The counts of the blocks and of the edges: behind that of the calls, in this order.
 abbrev pub own_counts : Network → List ℕ → Counts

@@ -1,4 +1,5 @@
-//! What is left to do on a network: the steps that counts leave, along arcs and against them.
+//! What is left to do on a network: the steps that counts leave, along arcs and against them, their
+//! reduced costs, and what keeps fitting as prices move and counts are pushed.
 //!
 //! A step along an arc raises its count and a step against it lowers it. Laws say what each part of
 //! a solver rests on: that no step costs less than prices allow, that a set of nodes which no step

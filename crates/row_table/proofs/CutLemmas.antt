@@ -13,7 +13,7 @@ use Rattle.std.proofs.lemmas.List.Sorted.{Contains-permutation, length_permutati
 use Rattle.std.proofs.lemmas.List.Kept.{Contains-dedup_nat}
 use Rattle.std.proofs.lemmas.Map.Keys.{IsStrictlyIncreasing-dedup}
 use Rattle.line_model.specs.declared.row.Row.{Row}
-use Rattle.row_model.specs.Rows.{Sequence, addresses_of, holds, row_in, row_among}
+use Rattle.line_model.specs.Rows.{Sequence, addresses_of, holds, row_in, row_among}
 use Rattle.row_table.specs.Index.{HaveAddresses}
 use Rattle.row_table.specs.Told.{AreCuts, NoneBetween, data_of, told}
 

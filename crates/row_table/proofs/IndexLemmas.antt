@@ -14,7 +14,7 @@ use Rattle.address_spans.specs.declared.span.Span.{Span}
 use Rattle.address_spans.specs.Spans.{owner_at}
 use Rattle.address_spans.proofs.SpanLemmas.{owner-append}
 use Rattle.line_model.specs.declared.row.Row.{Row}
-use Rattle.row_model.specs.Rows.{Sequence, holds, with_range, row_in, is_live_sequence, live_sequences, never_fall, addresses_of, sequences_of}
+use Rattle.line_model.specs.Rows.{Sequence, holds, with_range, row_in, is_live_sequence, live_sequences, never_fall, addresses_of, sequences_of}
 use Rattle.elf_model.specs.Segments.{is_live}
 use Rattle.row_table.specs.Index.{IsRising}
 use Rattle.row_table.specs.Told.{data_of, told}

@@ -8,7 +8,7 @@ use Rattle.std.proofs.lemmas.Bool.Decides.{nat_tests}
 use Rattle.std.proofs.lemmas.List.{reverse-append, take-append-drop, get_or-drop, map-append}
 use Rattle.std.proofs.lemmas.List.Folds.{find-append}
 use Rattle.line_model.specs.declared.row.Row.{Row}
-use Rattle.row_model.specs.Rows.{Sequence, never_fall}
+use Rattle.line_model.specs.Rows.{Sequence, never_fall}
 use Rattle.row_table.specs.Index.{IsRising}
 
 -- the addresses of a rising sequence, one not below the other

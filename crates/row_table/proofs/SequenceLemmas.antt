@@ -6,7 +6,7 @@ use Rattle.std.proofs.lemmas.List.{length-map}
 use Rattle.std.proofs.lemmas.List.Elements.{filter-append}
 use Rattle.std.proofs.lemmas.List.Splits.{slice_split_at, slice_split_none}
 use Rattle.line_model.specs.declared.row.Row.{Row}
-use Rattle.row_model.specs.Rows.{Sequence, addresses_of, ends, sequences_of, is_live_sequence, live_sequences}
+use Rattle.line_model.specs.Rows.{Sequence, addresses_of, ends, sequences_of, is_live_sequence, live_sequences}
 use Rattle.row_table.specs.Told.{row_count}
 
 -- rows that end no sequence

@@ -4,7 +4,7 @@ use Rattle.std.specs.List.{AllByRecursion}
 use Rattle.std.specs.List.Sorted.{IsStrictlyIncreasing}
 use Rattle.address_spans.specs.declared.span.Span.{Span}
 use Rattle.address_spans.specs.Spans.{owner_at, AreDisjoint}
-use Rattle.row_model.specs.Rows.{Sequence, addresses_of, holds, never_fall}
+use Rattle.line_model.specs.Rows.{Sequence, addresses_of, holds, never_fall}
 use Rattle.row_table.specs.Told.{row_count}
 
 -- The addresses of a sequence never fall.

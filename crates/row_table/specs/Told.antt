@@ -4,7 +4,7 @@ use Rattle.std.specs.List.{flat_map}
 use Rattle.std.specs.Option.{option_map}
 use Rattle.std.specs.List.Sorted.{IsStrictlyIncreasing}
 use Rattle.line_model.specs.declared.row.Row.{Row}
-use Rattle.row_model.specs.Rows.{Sequence, addresses_of, row_among}
+use Rattle.line_model.specs.Rows.{Sequence, addresses_of, row_among}
 use Rattle.row_table.specs.declared.row_data.RowData.{RowData}
 
 -- Line and discriminator of a row.

@@ -1,6 +1,6 @@
 ghost use Rattle.std.specs.Prelude.{IfOk, ◌++◌, ◌≡◌, OnOk, vec_len, map};
 ghost use Rattle.std.specs.List.{flat_map};
-ghost use Rattle.row_model.specs.Rows.{addresses_of};
+ghost use Rattle.line_model.specs.Rows.{addresses_of};
 ghost use Rattle.row_table.specs.Index.{HaveAddresses};
 
 use crate::sequence::Sequence;

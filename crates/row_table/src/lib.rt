@@ -1,4 +1,4 @@
-//! The row of an address in the line table of one unit.
+//! The row of an address in the line table of one unit, and where rows change.
 //!
 //! `RowTable::make` keeps the live sequences of a table's rows, `row_at` finds the row of an
 //! address by two binary searches, and `cuts` are the addresses between which it does not change.

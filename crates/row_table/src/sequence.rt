@@ -1,6 +1,6 @@
 ghost use Rattle.std.specs.Prelude.{◌≡◌};
 ghost use Rattle.std.specs.Option.{option_map};
-ghost use Rattle.row_model.specs.Rows.{addresses_of, is_live_sequence, never_fall, row_in};
+ghost use Rattle.line_model.specs.Rows.{addresses_of, is_live_sequence, never_fall, row_in};
 ghost use Rattle.row_table.specs.Index.{IsRising};
 ghost use Rattle.row_table.specs.Told.{data_of};
 
@@ -19,7 +19,7 @@ pub(crate) struct Sequence {
 }
 
 impl Model for Sequence {
-    ghost use Rattle.row_model.specs.Rows.{Sequence};
+    ghost use Rattle.line_model.specs.Rows.{Sequence};
 
     ghost Value = { Sequence };
 

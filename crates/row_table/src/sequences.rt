@@ -1,5 +1,5 @@
 ghost use Rattle.std.specs.Prelude.{◌≡◌, [], ◌∷◌, ◌++◌, filter, IfOk, OnOk};
-ghost use Rattle.row_model.specs.Rows.{is_live_sequence, live_sequences};
+ghost use Rattle.line_model.specs.Rows.{is_live_sequence, live_sequences};
 
 use crate::sequence::Sequence;
 use elf_sections::Elf;

@@ -1,6 +1,6 @@
 ghost use Rattle.std.specs.Prelude.{◌≡◌, ◌≤◌, ℕ, IfOk, length, position};
 ghost use Rattle.address_spans.specs.Spans.{owner_at as owner_of};
-ghost use Rattle.row_model.specs.Rows.{holds, live_sequences};
+ghost use Rattle.line_model.specs.Rows.{holds, live_sequences};
 ghost use Rattle.row_table.specs.Index.{IsIndex};
 
 use crate::cuts::cuts_of;
@@ -27,7 +27,7 @@ pub struct RowTable {
 impl Model for RowTable {
     ghost use Rattle.std.specs.Prelude.{List};
     ghost use Rattle.std.specs.List.{AllByRecursion};
-    ghost use Rattle.row_model.specs.Rows.{Sequence};
+    ghost use Rattle.line_model.specs.Rows.{Sequence};
     ghost use Rattle.row_table.specs.Index.{HaveAddresses, IsIndex, IsRising};
 
     ghost Value = { List Sequence };

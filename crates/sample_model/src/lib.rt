@@ -1,5 +1,6 @@
 //! What a branch text says: which of its lines are samples, the branches and sampled ranges of a
-//! sample, and which line of the text is its first bad one.
+//! sample, its distinct pairs in order, its load lines and how they move addresses, and which line
+//! of the text is its first bad one.
 //!
 //! The text is what `perf script -F ip,brstack` prints (perf-script(1), "brstack"). Definitions in
 //! `specs/`, with examples in `proofs/`, and laws about them as functions with an empty body. The

@@ -2,7 +2,7 @@
 use Rattle.std.specs.Prelude.{ℕ, List}
 use Rattle.std.specs.List.{All}
 use Rattle.block_model.specs.declared.parts.Edge.{Edge}
-use Rattle.balance_model.specs.Sound.{JoinsBlocks, IsSoundBound}
+use Rattle.flow_model.specs.Sound.{JoinsBlocks, IsSoundBound}
 
 -- Edges without bounds between so many blocks.
 pub record AreEdges (count : ℕ) (edges : List Edge) : Type 0 where

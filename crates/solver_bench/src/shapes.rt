@@ -2,7 +2,7 @@
 ghost use Rattle.std.specs.Prelude.{◌≡◌, ◌+◌, ◌*◌, ◌^◌, ◌<◌, ◌≤◌, length, IfOk, OnOk};
 ghost use Rattle.std.specs.List.{All};
 ghost use Rattle.flow_model.specs.Network as model;
-ghost use Rattle.balance_model.specs.Sound.{AreWeights, IsSoundBound};
+ghost use Rattle.flow_model.specs.Sound.{AreWeights, IsSoundBound};
 ghost use Rattle.solver_bench.specs.Edges.{AreEdges};
 
 use block_model::{Block, Bound, Edge, Weight};

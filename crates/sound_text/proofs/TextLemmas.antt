@@ -20,7 +20,7 @@ use Rattle.block_model.specs.Judging.{exceeds, is_bad_bound, cause_of_block, cau
 use Rattle.block_model.specs.Limits.{max_blocks, max_edges}
 use Rattle.block_model.specs.Line.{Line, passed, begins, tells_block, tells_edge, ends, line_of}
 use Rattle.block_model.specs.Text.{open_behind_line, closed_by_line, functions_from, functions_of}
-use Rattle.balance_model.specs.Sound.{IsSoundUpper, IsSoundBound, JoinsBlocks, IsSound}
+use Rattle.flow_model.specs.Sound.{IsSoundUpper, IsSoundBound, JoinsBlocks, IsSound}
 use Rattle.sound_text.specs.Laws.{GoodTextsAreSound, GoodTextsAreApart, AreApart, ShareNone, LeadApart}
 use Rattle.sound_text.proofs.LineLemmas.{IsSmallUpper, IsSmall, SaysSmall, Of, small_line}
 

@@ -5,7 +5,7 @@ use Rattle.block_model.specs.declared.parts.Block.{Block}
 use Rattle.block_model.specs.declared.parts.Edge.{Edge}
 use Rattle.block_model.specs.Judging.{first_bad_of_text}
 use Rattle.block_model.specs.Text.{functions_of}
-use Rattle.balance_model.specs.Sound.{IsSound}
+use Rattle.flow_model.specs.Sound.{IsSound}
 
 -- Each function of a text in which no line is bad keeps those rules on which its network rests.
 abbrev pub GoodTextsAreSound : Type 0

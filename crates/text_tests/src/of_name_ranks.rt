@@ -1,6 +1,6 @@
 // The ranks of four names, one of which begins another.
 use key_types::Names;
-use name_ranks::{Ranks, ranks_of};
+use profile_lists::{Ranks, ranks_of};
 use refusal::NoMemory;
 use std::alloc::Global;
 

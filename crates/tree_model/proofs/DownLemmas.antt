@@ -1,7 +1,7 @@
 -- Entries that are read go down one at a time.
 use Rattle.std.proofs.Common.{◌≡◌, ℕ, ◌+◌, ◌-◌, ◌≤◌, Bool, true, false, cond, List, [], ◌∷◌, ap, arith}
 use Rattle.byte_view.specs.Cursor.{Cursor}
-use Rattle.abbrev_model.specs.Abbrev.{Abbrev}
+use Rattle.unit_model.specs.Abbrev.{Abbrev}
 use Rattle.unit_model.specs.Entries.{Entry, InUnit}
 use Rattle.entry_model.specs.Entries.{SpellsEntries, no_entry, level_closed, entry_first}
 use Rattle.entry_model.proofs.EntryLemmas.{entries-read}

@@ -10,10 +10,10 @@ use Rattle.unit_model.specs.Values.{Found}
 use Rattle.unit_model.specs.Entries.{Entry}
 use Rattle.elf_model.specs.Fields.{number_at}
 use Rattle.elf_model.specs.Segments.{is_live}
-use Rattle.base_model.specs.Bases.{base_address, bases_of_unit, root_of}
-use Rattle.piece_model.specs.Pieces.{InUnit, pieces, spelled_ranges}
-use Rattle.way_model.specs.Way.{next_on_way, way}
-use Rattle.way_model.specs.Origin.{origin}
+use Rattle.tree_model.specs.Bases.{base_address, bases_of_unit, root_of}
+use Rattle.tree_model.specs.Pieces.{InUnit, pieces, spelled_ranges}
+use Rattle.tree_model.specs.Way.{next_on_way, way}
+use Rattle.tree_model.specs.Origin.{origin}
 use Rattle.tree_model.specs.Members.{Told}
 use Rattle.tree_model.specs.Depths.{Standing, calls_on, inlined_into, way_up}
 use Rattle.tree_model.specs.Tree.{Source, Tree, members, next_call, next_entry, next_function, next_unit}

@@ -1,2 +1,5 @@
+mod BaseExamples
+mod PieceExamples
+mod WayExamples
 mod DownLemmas
 mod Examples

@@ -4,7 +4,7 @@ use Rattle.std.specs.List.{before_first, count_by, list_all}
 use Rattle.std.specs.Option.{option_and_then}
 use Rattle.std.specs.Result.{result_unwrap_or}
 use Rattle.unit_model.specs.Entries.{Entry}
-use Rattle.piece_model.specs.Pieces.{InUnit, live_ranges, spelled_ranges}
+use Rattle.tree_model.specs.Pieces.{InUnit, live_ranges, spelled_ranges}
 use Rattle.tree_model.specs.Members.{is_call, is_function}
 
 -- An entry, and the entries of its unit before it, the last one first.

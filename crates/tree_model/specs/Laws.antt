@@ -1,7 +1,7 @@
 -- What follows from the definitions.
 use Rattle.std.specs.Prelude.{◌≡◌, ◌≤◌, ◌+◌, ℕ, List, [], ◌∷◌, ◌++◌, length, Ok}
 use Rattle.byte_view.specs.Cursor.{Cursor}
-use Rattle.abbrev_model.specs.Abbrev.{Abbrev}
+use Rattle.unit_model.specs.Abbrev.{Abbrev}
 use Rattle.unit_model.specs.Entries.{Entry, entries, max_entries}
 use Rattle.unit_model.specs.Entries as unit_model
 

@@ -3,8 +3,8 @@ use Rattle.std.specs.Prelude.{ℕ, ◌%◌, ◌^◌, Bool, ◌==◌, List, Optio
 use Rattle.std.specs.Option.{option_map_or}
 use Rattle.unit_model.specs.Constants.{DW_AT_GNU_discriminator, DW_AT_call_line, DW_TAG_inlined_subroutine, DW_TAG_subprogram}
 use Rattle.unit_model.specs.Entries.{Entry}
-use Rattle.base_model.specs.Bases.{attribute}
-use Rattle.way_model.specs.Origin.{Origin, number_of}
+use Rattle.tree_model.specs.Bases.{attribute}
+use Rattle.tree_model.specs.Origin.{Origin, number_of}
 
 -- An entry is of a function, or of an inlined call.
 abbrev pub is_function : Entry → Bool

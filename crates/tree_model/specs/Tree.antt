@@ -7,10 +7,10 @@ use Rattle.refusal.specs.Place.{in_binary}
 use Rattle.range_model.specs.Lists.{RangeSections}
 use Rattle.unit_model.specs.Entries.{Entry}
 use Rattle.unit_model.specs.Units as model
-use Rattle.base_model.specs.Bases.{base_address, bases_of_unit}
-use Rattle.piece_model.specs.Pieces.{InUnit, and_then, pieces}
-use Rattle.way_model.specs.Way.{Info}
-use Rattle.way_model.specs.Origin.{origin}
+use Rattle.tree_model.specs.Bases.{base_address, bases_of_unit}
+use Rattle.tree_model.specs.Pieces.{InUnit, and_then, pieces}
+use Rattle.tree_model.specs.Way.{Info}
+use Rattle.tree_model.specs.Origin.{origin}
 use Rattle.tree_model.specs.Members.{Told, call_told, function_told, is_call, is_function}
 use Rattle.tree_model.specs.Depths.{Standing, calls_on, inlined_into, way_up}
 

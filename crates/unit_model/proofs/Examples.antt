@@ -11,8 +11,8 @@ use Rattle.placed_view.specs.Reader.{Read, field, sleb, uleb}
 use Rattle.value_model.specs.Value.{Value, addr, addr_index, block, const, flag, line_str_at, loc_index, offset, range_index, ref, ref_info, sig, str_at, str_index, text}
 use Rattle.value_model.specs.Forms.{operand_of}
 use Rattle.value_model.specs.Reading.{value_at}
-use Rattle.abbrev_model.specs.Abbrev.{find_code}
-use Rattle.abbrev_model.specs.Table.{abbrev_behind, abbrev_of, attrs, children_byte, implicit, next_abbrev, next_attr, table}
+use Rattle.unit_model.specs.Abbrev.{find_code}
+use Rattle.unit_model.specs.Table.{abbrev_behind, abbrev_of, attrs, children_byte, implicit, next_abbrev, next_attr, table}
 use Rattle.unit_model.specs.Wanted.{accepts, wanted}
 use Rattle.unit_model.specs.Values.{next_value, value, values}
 use Rattle.unit_model.specs.Entries.{entries, entry_of, entry_of_code, max_depth, max_entries, next_entry}

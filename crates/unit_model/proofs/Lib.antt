@@ -1,1 +1,2 @@
+mod AbbrevExamples
 mod Examples

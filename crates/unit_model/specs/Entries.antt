@@ -3,7 +3,7 @@ use Rattle.std.specs.Prelude.{ℕ, ◌+◌, ◌-◌, ◌^◌, Bool, ◌==◌, na
 use Rattle.refusal.specs.declared.kind.Kind.TheVariants.{UnknownAbbrev, TooDeep, TooManyEntries}
 use Rattle.placed_view.specs.Reader.{Reader, ◌>>=◌, ◌>>◌, gives, place, refuse, refuse_if, uleb}
 use Rattle.placed_view.specs.Steps.{while_left}
-use Rattle.abbrev_model.specs.Abbrev.{Abbrev, find_code}
+use Rattle.unit_model.specs.Abbrev.{Abbrev, find_code}
 use Rattle.unit_model.specs.Values.{Found, values}
 
 -- An entry: where it stands in the file, how deep it stands among the entries of its unit, its tag, the number of its

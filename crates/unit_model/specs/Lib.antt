@@ -1,3 +1,5 @@
+pub mod Abbrev
+pub mod Table
 pub mod Constants
 pub mod Entries
 pub mod Header

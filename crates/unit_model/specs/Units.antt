@@ -3,7 +3,7 @@ use Rattle.std.specs.Prelude.{ℕ, ◌+◌, ◌-◌, Bool, ◌==◌, if◌then�
 use Rattle.byte_view.specs.Cursor.{Cursor}
 use Rattle.placed_view.specs.Reader.{Reader, ◌>>=◌, gives, place, within, elsewhere}
 use Rattle.placed_view.specs.Steps.{while_left}
-use Rattle.abbrev_model.specs.Table.{table}
+use Rattle.unit_model.specs.Table.{table}
 use Rattle.unit_model.specs.Header.{Header, header, unit_length}
 use Rattle.unit_model.specs.Entries.{Entry, entries}
 

@@ -8,7 +8,7 @@ use Rattle.refusal.specs.declared.kind.Kind.TheVariants.{BadForm, IndirectTwice,
 use Rattle.value_model.specs.Value.{Value, Fault, bad_form, indirect_twice, view}
 use Rattle.value_model.specs.Reading.{ValueReading, value_at}
 use Rattle.placed_view.specs.Reader.{Read, Reader, ◌>>=◌, ◌>>◌, gives, place, refuse_if, kind_of}
-use Rattle.abbrev_model.specs.Abbrev.{Attr}
+use Rattle.unit_model.specs.Abbrev.{Attr}
 use Rattle.unit_model.specs.Wanted.{Use, unused, accepts, wanted}
 
 -- A wanted attribute of an entry: its name, where its value stands in the file, and the value.

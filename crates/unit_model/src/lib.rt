@@ -1,5 +1,5 @@
-//! What the units of debugging information say: their headers, and the entries with their wanted
-//! attributes.
+//! What the abbreviation tables and the units of debugging information say: headers, the entries
+//! with their wanted attributes, and the first bad place.
 //!
 //! Definitions in `specs/`, with examples in `proofs/`.
 //!

@@ -5,7 +5,7 @@ use Rattle.block_model.specs.declared.parts.Edge.{Edge}
 use Rattle.block_model.specs.declared.parts.Weight.TheVariants.{Unknown, Known}
 use Rattle.block_model.specs.Function.{unbounded}
 use Rattle.sample_model.specs.declared.pair.Pair.{Pair}
-use Rattle.hit_model.specs.declared.ran_range.RanRange.{RanRange}
+use Rattle.profile_model.specs.declared.ran_range.RanRange.{RanRange}
 use Rattle.weight_model.specs.Blocks.{IsWeightOf}
 use Rattle.weight_model.specs.Edges.{edge_weight, passed, taken}
 use Rattle.std.proofs.Common.{false}

@@ -5,8 +5,8 @@ use Rattle.block_model.specs.declared.parts.Edge.{Edge}
 use Rattle.block_model.specs.declared.parts.Weight.{Weight}
 use Rattle.block_model.specs.declared.parts.Weight.TheVariants.{Unknown, Known}
 use Rattle.sample_model.specs.declared.pair.Pair.{Pair}
-use Rattle.hit_model.specs.declared.ran_range.RanRange.{RanRange}
-use Rattle.hit_model.specs.Hits.{times_of}
+use Rattle.profile_model.specs.declared.ran_range.RanRange.{RanRange}
+use Rattle.profile_model.specs.Hits.{times_of}
 
 -- Whether a branch leads from a block to an address.
 abbrev pub leads : Block → ℕ → Pair → Bool

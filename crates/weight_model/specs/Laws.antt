@@ -1,8 +1,8 @@
 -- What follows from the definitions.
 use Rattle.std.specs.Prelude.{◌≡◌, ℕ, ◌+◌, ◌&&◌, Option}
 use Rattle.block_model.specs.declared.parts.Weight.{Weight}
-use Rattle.hit_model.specs.declared.ran_range.RanRange.{RanRange}
-use Rattle.hit_model.specs.Hits.{holds}
+use Rattle.profile_model.specs.declared.ran_range.RanRange.{RanRange}
+use Rattle.profile_model.specs.Hits.{holds}
 use Rattle.weight_model.specs.Blocks.{IsWeightIn}
 use Rattle.weight_model.specs.Edges.{runs_past}
 

@@ -3,7 +3,7 @@ use Rattle.std.specs.Result.{result_err}
 use Rattle.refusal.specs.Place.{first_bad}
 use Rattle.elf_model.specs.Segments.{code_loads}
 use Rattle.placed_view.specs.Reader.{refused_at}
-use Rattle.key_segments.specs.Segments.{HaveSegments}
+use Rattle.key_types.specs.Segments.{HaveSegments}
 use Rattle.context_map.specs.Maps.{IsMap, rows_of}
 use Rattle.binary_model.specs.Binary.{tables_in}
 use Rattle.binary_places.proofs.Items.{in_headers, in_members, in_rows, in_sections, in_units}

@@ -1,7 +1,7 @@
 use Rattle.std.proofs.Common.{◌<◌, List, Option, length, ap, arith, subst, sym, ◌∙◌}
 use Rattle.std.specs.Option.{option_map}
 use Rattle.placed_view.specs.Reader.{start_of}
-use Rattle.row_model.specs.Rows.{Sequence}
+use Rattle.line_model.specs.Rows.{Sequence}
 use Rattle.binary_places.specs.Shared.{HasTable, IsTable}
 use Rattle.binary_places.proofs.SharedLemmas.{AreKnown-more, AreKnown-none, has_table, is_unit}
 use Rattle.binary_places.proofs.TableLemmas.{TablesSoFar-more, TablesSoFar-start, TablesSoFar-stop}

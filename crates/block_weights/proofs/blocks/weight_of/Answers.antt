@@ -1,6 +1,6 @@
 use Rattle.std.proofs.Common.{rules, add-one, leb, leb-true, leb-false}
 use Rattle.std.proofs.lemmas.List.Sorted.{IsPartitionPoint-from_clause, IsPartitionedBy-leb}
-use Rattle.key_segments.proofs.SearchLemmas.{ends-rise-segments}
+use Rattle.key_types.proofs.SearchLemmas.{ends-rise-segments}
 use Rattle.key_types.specs.declared.places.Seg.{Seg}
 use Rattle.block_weights.proofs.WeightLemmas.{WeightSoFar-none, WeightSoFar-more}
 use Rattle.block_weights.proofs.blocks.weight_of.Goals as goal

@@ -2,7 +2,7 @@ use Rattle.std.proofs.Common.{List, false, None, subst, ◌∙◌}
 use Rattle.std.specs.List.{AllZip}
 use Rattle.std.proofs.lemmas.List.{take_all, take_more}
 use Rattle.block_model.specs.declared.parts.Block.{Block}
-use Rattle.key_segments.specs.Segments.{key_told}
+use Rattle.key_types.specs.Segments.{key_told}
 use Rattle.weight_model.specs.Blocks.{IsWeightOf}
 use Rattle.block_weights.specs.Counts.{count_in}
 use Rattle.block_weights.proofs.SmallLemmas.{weights_are_small}

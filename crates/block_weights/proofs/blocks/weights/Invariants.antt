@@ -1,6 +1,6 @@
 use Rattle.std.proofs.Common.{take}
 use Rattle.std.specs.List.{AllZip}
-use Rattle.key_segments.specs.Segments.{key_told}
+use Rattle.key_types.specs.Segments.{key_told}
 use Rattle.weight_model.specs.Blocks.{IsWeightOf}
 use Rattle.block_weights.specs.Counts.{count_in}
 use Rattle.block_weights.proofs.blocks.weights.Given as goal

@@ -2,7 +2,7 @@ use Rattle.std.proofs.Common.{◌≡◌, ℕ, List, sym, ap, ◌∙◌, refl}
 use Rattle.address_spans.specs.declared.span.Span.{Span}
 use Rattle.address_spans.specs.Spans.{owner_at}
 use Rattle.chain_model.specs.Chains.{function_at}
-use Rattle.function_stretches.specs.Stretches as stretches
+use Rattle.span_cover.specs.Stretches as stretches
 use Rattle.context_map.proofs.MapLemmas.{tells, entry}
 use Rattle.context_map.proofs.map.make.Goals as goal
 

@@ -1,9 +1,9 @@
 use Rattle.std.proofs.Common.{◌≡◌, Option, Some, None, sym, ap, ◌∙◌, arith}
 use Rattle.std.specs.Option.{option_map}
 use Rattle.row_table.specs.Told.{told}
-use Rattle.member_contexts.specs.declared.named.Named.{Named}
-use Rattle.part_segments.specs.Parts.{line_and_disc, shown}
-use Rattle.part_segments.proofs.PartLemmas.{Extends-none, on_ok}
+use Rattle.context_map.specs.declared.named.Named.{Named}
+use Rattle.context_map.specs.Parts.{line_and_disc, shown}
+use Rattle.context_map.proofs.PartLemmas.{Extends-none, on_ok}
 use Rattle.context_map.specs.Maps.{rows_of, table_of}
 use Rattle.context_map.proofs.PartsLemmas.{show-nameless, show-rowless, rowless, rows-by, Extends-same}
 use Rattle.context_map.proofs.span.push_span.Goals as goal

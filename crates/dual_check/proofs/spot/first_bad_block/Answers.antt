@@ -2,10 +2,10 @@ use Rattle.std.proofs.Common.{None, arith, length}
 use Rattle.std.proofs.lemmas.Bool.{iff_false}
 use Rattle.std.proofs.lemmas.List.Elements.{All-get_or}
 use Rattle.flow_model.specs.declared.arc.Arc.{Arc}
-use Rattle.balance_model.specs.Sound.{IsLimitedArc}
+use Rattle.flow_model.specs.Sound.{IsLimitedArc}
 use Rattle.flow_network.specs.Flow.{counts_of, price_of}
 use Rattle.flow_network.proofs.CostLemmas.{few_blocks}
-use Rattle.balance_model.specs.Passing.{PassesBlock}
+use Rattle.flow_model.specs.Passing.{PassesBlock}
 use Rattle.dual_check.proofs.FirstLemmas.{each_more, first_fails, limited_blocks}
 use Rattle.dual_check.proofs.spot.first_bad_block.Goals as goal
 

@@ -1,7 +1,7 @@
 use Rattle.std.proofs.Common.{take}
 use Rattle.flow_model.specs.Circulation.{EachArc}
 use Rattle.flow_network.specs.Flow.{counts_of, price_of}
-use Rattle.balance_model.specs.Passing.{PassesBlock}
+use Rattle.flow_model.specs.Passing.{PassesBlock}
 use Rattle.dual_check.proofs.spot.first_bad_block.Given as goal
 
 abbrev pub invariant-loop-at : goal.invariant-loop-at

@@ -3,7 +3,7 @@ use Rattle.std.proofs.lemmas.Bool.{iff_false}
 use Rattle.flow_model.specs.declared.arc.Arc.{Arc}
 use Rattle.flow_network.specs.Flow.{price_of}
 use Rattle.flow_network.proofs.CostLemmas.{few_edges}
-use Rattle.balance_model.specs.Passing.{PassesEdge}
+use Rattle.flow_model.specs.Passing.{PassesEdge}
 use Rattle.dual_check.proofs.FirstLemmas.{each_more, first_fails}
 use Rattle.dual_check.proofs.spot.first_bad_edge.Goals as goal
 

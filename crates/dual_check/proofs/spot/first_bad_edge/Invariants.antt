@@ -1,7 +1,7 @@
 use Rattle.std.proofs.Common.{take}
 use Rattle.flow_model.specs.Circulation.{EachArc}
 use Rattle.flow_network.specs.Flow.{price_of}
-use Rattle.balance_model.specs.Passing.{PassesEdge}
+use Rattle.flow_model.specs.Passing.{PassesEdge}
 use Rattle.dual_check.proofs.spot.first_bad_edge.Given as goal
 
 abbrev pub invariant-loop-at : goal.invariant-loop-at

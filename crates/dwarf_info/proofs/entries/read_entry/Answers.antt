@@ -1,5 +1,5 @@
 use Rattle.std.proofs.Common.{◌≡◌, Ok, length, refl, subst, arith}
-use Rattle.abbrev_model.specs.Abbrev.{Abbrev}
+use Rattle.unit_model.specs.Abbrev.{Abbrev}
 use Rattle.unit_model.specs.Entries.{entry_of}
 use Rattle.dwarf_info.specs.Entries.{all_of, ReadsSoFar}
 use Rattle.dwarf_info.proofs.EntryLemmas.{entry-read, entry-full, entry-stop}

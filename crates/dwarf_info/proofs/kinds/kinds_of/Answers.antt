@@ -1,5 +1,5 @@
 use Rattle.std.proofs.Common.{[], ◌∷◌, ◌++◌, ap, ◌∙◌}
-use Rattle.abbrev_model.specs.Abbrev.{Abbrev}
+use Rattle.unit_model.specs.Abbrev.{Abbrev}
 use Rattle.dwarf_info.proofs.TellingLemmas.{kinds-more}
 use Rattle.dwarf_info.proofs.kinds.kinds_of.Goals as goal
 

@@ -1,5 +1,5 @@
 use Rattle.std.proofs.Common.{length, ap, arith}
-use Rattle.abbrev_model.specs.Abbrev.{Abbrev}
+use Rattle.unit_model.specs.Abbrev.{Abbrev}
 use Rattle.dwarf_info.proofs.TellingLemmas.{room-more}
 use Rattle.dwarf_info.proofs.kinds.room_of.Goals as goal
 

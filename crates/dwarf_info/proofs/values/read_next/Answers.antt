@@ -1,5 +1,5 @@
 use Rattle.std.proofs.Common.{◌≤◌, length, sym, ap, arith}
-use Rattle.abbrev_model.specs.Abbrev.{Attr}
+use Rattle.unit_model.specs.Abbrev.{Attr}
 use Rattle.dwarf_info.proofs.ValueLemmas.{IsFound-added}
 use Rattle.dwarf_info.proofs.values.read_next.Goals as goal
 

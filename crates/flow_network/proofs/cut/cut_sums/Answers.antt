@@ -1,8 +1,8 @@
 use Rattle.std.proofs.Common.{◌∙◌, sym, ap, Some}
 use Rattle.std.specs.List.{All}
 use Rattle.flow_model.specs.declared.arc.Arc.{Arc}
-use Rattle.balance_model.specs.Sound.{IsLimitedArc}
-use Rattle.balance_model.proofs.LimitLemmas.{nets_are_limited}
+use Rattle.flow_model.specs.Sound.{IsLimitedArc}
+use Rattle.flow_model.proofs.LimitLemmas.{nets_are_limited}
 use Rattle.flow_network.proofs.CutLemmas.{summed_more}
 use Rattle.flow_network.proofs.cut.cut_sums.Goals as goal
 use Rattle.std.proofs.Common.{List, length, subst}

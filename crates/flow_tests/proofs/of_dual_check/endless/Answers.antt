@@ -1,7 +1,7 @@
 use Rattle.std.proofs.Common.{◌≡◌, ◌∙◌, List, length, ap, sym}
 use Rattle.block_model.specs.declared.parts.Block.{Block}
 use Rattle.flow_model.specs.Network.{Network}
-use Rattle.balance_model.proofs.NetLemmas.{length-block_arcs}
+use Rattle.flow_model.proofs.NetLemmas.{length-block_arcs}
 use Rattle.flow_tests.proofs.of_dual_check.endless.Goals as goal
 
 pub returns : goal.returns

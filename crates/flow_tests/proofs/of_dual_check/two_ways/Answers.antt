@@ -2,7 +2,7 @@ use Rattle.std.proofs.Common.{◌≡◌, ◌∙◌, List, length, ap, sym}
 use Rattle.block_model.specs.declared.parts.Block.{Block}
 use Rattle.block_model.specs.declared.parts.Edge.{Edge}
 use Rattle.flow_model.specs.Network.{Network}
-use Rattle.balance_model.proofs.NetLemmas.{length-block_arcs, length-edge_arcs}
+use Rattle.flow_model.proofs.NetLemmas.{length-block_arcs, length-edge_arcs}
 use Rattle.flow_tests.proofs.of_dual_check.two_ways.Goals as goal
 
 pub returns-clause-blocks : goal.returns-clause-blocks

@@ -1,6 +1,6 @@
 use Rattle.std.proofs.Common.{◌≡◌, ◌≤◌, length}
 use Rattle.std.specs.List.{All}
-use Rattle.balance_model.specs.Sound.{AreWeights, IsSoundBound, JoinsBlocks}
+use Rattle.flow_model.specs.Sound.{AreWeights, IsSoundBound, JoinsBlocks}
 use Rattle.flow_tests.proofs.of_flow_solver.chain.Given as goal
 
 abbrev pub invariant-loop-number : goal.invariant-loop-number

@@ -1,6 +1,6 @@
 use Rattle.std.proofs.Common.{◌≡◌, ◌<◌, length, ap, ◌∙◌, arith, rules}
 use Rattle.unit_model.specs.Entries.{Entry}
-use Rattle.entry_pieces.specs.Told.{in_unit}
+use Rattle.entry_facts.specs.Told.{in_unit}
 use Rattle.member_lists.specs.Frames.{frame_above}
 use Rattle.inline_tree.specs.Told.{source_of}
 use Rattle.inline_tree.proofs.StepLemmas.{few_pieces}

@@ -1,7 +1,7 @@
 use Rattle.std.proofs.Common.{◌≢◌, ap}
 use Rattle.unit_model.specs.Constants.{DW_TAG_inlined_subroutine, DW_TAG_subprogram}
 use Rattle.unit_model.specs.Entries.{Entry}
-use Rattle.entry_pieces.specs.Told.{in_unit}
+use Rattle.entry_facts.specs.Told.{in_unit}
 use Rattle.inline_tree.specs.Told.{source_of}
 use Rattle.inline_tree.proofs.StepLemmas.{entry-passed}
 use Rattle.inline_tree.proofs.entries.next_entry.Goals as goal

@@ -2,7 +2,7 @@ use Rattle.std.proofs.Common.{◌≡◌, ◌<◌, length, ap, ◌∙◌, arith, 
 use Rattle.member_lists.specs.declared.frame.Frame.{Frame}
 use Rattle.member_lists.specs.Frames.{behind_other}
 use Rattle.unit_model.specs.Entries.{Entry}
-use Rattle.entry_pieces.specs.Told.{in_unit}
+use Rattle.entry_facts.specs.Told.{in_unit}
 use Rattle.inline_tree.specs.Told.{source_of}
 use Rattle.inline_tree.proofs.StepLemmas.{few_pieces, function-none, function-some, function-stop_origin, function-stop_pieces}
 use Rattle.inline_tree.proofs.entries.next_function.Goals as goal

@@ -1,7 +1,7 @@
 use Rattle.std.proofs.Common.{ap, arith}
 use Rattle.std.specs.Prelude.{sum_by}
 use Rattle.unit_model.specs.Units.{Unit}
-use Rattle.entry_names.proofs.MemoLemmas.{Remembers-none}
+use Rattle.entry_facts.proofs.MemoLemmas.{Remembers-none}
 use Rattle.inline_tree.specs.Told.{source_of}
 use Rattle.inline_tree.proofs.LoopLemmas.{UnitsSoFar-end, UnitsSoFar-more, UnitsSoFar-start, UnitsSoFar-stop}
 use Rattle.inline_tree.proofs.tree.make.Goals as goal

@@ -1,5 +1,5 @@
 use Rattle.std.proofs.Common.{sym, ◌∙◌}
-use Rattle.entry_pieces.specs.Told.{in_unit}
+use Rattle.entry_facts.specs.Told.{in_unit}
 use Rattle.inline_tree.specs.Told.{source_of}
 use Rattle.inline_tree.proofs.LoopLemmas.{EntriesSoFar-end, EntriesSoFar-more, EntriesSoFar-start, EntriesSoFar-stop, Grows-end, GrowsSoFar-more, GrowsSoFar-start}
 use Rattle.inline_tree.proofs.tree.next_entries.Goals as goal

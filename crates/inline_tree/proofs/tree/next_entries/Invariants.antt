@@ -1,5 +1,5 @@
 use Rattle.std.proofs.Common.{◌≤◌, ◌^◌}
-use Rattle.entry_pieces.specs.Told.{in_unit}
+use Rattle.entry_facts.specs.Told.{in_unit}
 use Rattle.tree_model.specs.Tree.{entries_of_unit}
 use Rattle.inline_tree.specs.Told.{Knows, source_of}
 use Rattle.inline_tree.proofs.LoopLemmas.{EntriesSoFar, GrowsSoFar}

@@ -1,5 +1,5 @@
 use Rattle.std.proofs.Common.{Some, arith}
-use Rattle.entry_names.proofs.OrderLemmas.{entries_read}
+use Rattle.entry_facts.proofs.OrderLemmas.{entries_read}
 use Rattle.place_tests.proofs.of_entry_names.read_parts.Goals as goal
 
 pub returns-in-Ok : goal.returns-in-Ok

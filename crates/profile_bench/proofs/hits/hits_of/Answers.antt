@@ -1,8 +1,8 @@
 use Rattle.std.proofs.Common.{◌≡◌, ap, arith}
 use Rattle.std.proofs.lemmas.Result.{IfOk-weaker}
-use Rattle.hit_model.proofs.HitLemmas.{hits_are_within_times}
-use Rattle.hit_model.specs.Hits.{hits_at, times_of}
-use Rattle.hit_model.specs.Steps.{hits_by}
+use Rattle.profile_model.proofs.HitLemmas.{hits_are_within_times}
+use Rattle.profile_model.specs.Hits.{hits_at, times_of}
+use Rattle.profile_model.specs.Steps.{hits_by}
 use Rattle.profile_bench.proofs.hits.hits_of.Goals as goal
 
 pub returns : goal.returns

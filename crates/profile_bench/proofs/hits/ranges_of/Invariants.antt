@@ -1,5 +1,5 @@
 use Rattle.std.proofs.Common.{◌≤◌}
-use Rattle.hit_model.specs.Hits.{AreRanges, times_of}
+use Rattle.profile_model.specs.Hits.{AreRanges, times_of}
 use Rattle.profile_bench.proofs.hits.ranges_of.Given as goal
 
 abbrev pub invariant-loop : goal.invariant-loop

@@ -1,6 +1,6 @@
 use Rattle.std.proofs.Common.{length, subst, sym}
-use Rattle.key_counts.specs.Segments.{AllFit}
-use Rattle.key_segments.specs.Segments.{AreSegments}
+use Rattle.profile_lists.specs.Segments.{AllFit}
+use Rattle.key_types.specs.Segments.{AreSegments}
 use Rattle.profile_bench.proofs.tree.counted.Goals as goal
 
 pub build-requires-clause-segments : goal.build-requires-clause-segments

@@ -1,17 +1,17 @@
 use Rattle.std.proofs.Common.{◌≤◌, ℕ, List, IsPermutation, subst, sym, ◌∙◌}
 use Rattle.std.specs.List.Sorted.{IsSorted}
 use Rattle.std.proofs.lemmas.Result.{IfOk-weaker}
-use Rattle.key_counts.specs.Segments.{AllFit}
-use Rattle.key_segments.specs.Segments.{AreSegments}
+use Rattle.profile_lists.specs.Segments.{AllFit}
+use Rattle.key_types.specs.Segments.{AreSegments}
 use Rattle.key_types.specs.declared.places.Seg.{Seg}
 use Rattle.sample_model.specs.Limits.{max_branches}
 use Rattle.branch_counts.specs.Pair.{pair_cmp}
 use Rattle.context_map.specs.Maps.{entry_told, place_told}
-use Rattle.function_stretches.specs.Stretches.{function_at}
-use Rattle.map_laws.proofs.NameLemmas.{keys_have_names}
-use Rattle.map_laws.proofs.SegmentLemmas.{segments_fit}
-use Rattle.sampled_profile.specs.Output.{sampled_by}
-use Rattle.sampled_profile.specs.Program.{program_of}
+use Rattle.span_cover.specs.Stretches.{function_at}
+use Rattle.profile_maker.proofs.NameLemmas.{keys_have_names}
+use Rattle.profile_maker.proofs.SegmentLemmas.{segments_fit}
+use Rattle.output_model.specs.Output.{sampled_by}
+use Rattle.output_model.specs.Program.{program_of}
 use Rattle.profile_writer.specs.Shown.{ShowsProgram}
 use Rattle.profile_maker.proofs.SampleLemmas.{branches_fit, samples_shown}
 use Rattle.profile_maker.proofs.ShownLemmas.{programs_shown}

@@ -1,5 +1,5 @@
 use Rattle.std.proofs.Common.{◌-◌, ◌^◌, arith}
-use Rattle.class_model.specs.Branches.{is_entry, is_inside}
+use Rattle.report_model.specs.Branches.{is_entry, is_inside}
 use Rattle.profile_report.proofs.CountLemmas.{no_branch, where-fits}
 use Rattle.profile_report.proofs.branches.count_taken.Goals as goal
 

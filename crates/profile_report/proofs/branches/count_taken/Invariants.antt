@@ -1,5 +1,5 @@
 use Rattle.std.proofs.Common.{◌≡◌, take}
-use Rattle.class_model.specs.Branches.{is_entry, is_inside}
+use Rattle.report_model.specs.Branches.{is_entry, is_inside}
 use Rattle.profile_report.specs.Classed.{all_times, times_where}
 use Rattle.profile_report.proofs.branches.count_taken.Given as goal
 

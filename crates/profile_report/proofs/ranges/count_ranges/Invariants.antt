@@ -1,6 +1,6 @@
 use Rattle.std.proofs.Common.{◌≡◌, take}
-use Rattle.class_model.specs.Ranges.{is_class}
-use Rattle.class_model.specs.declared.class.RangeClass.TheVariants.{Ran, Reversed, RangeOutside, Crossing}
+use Rattle.report_model.specs.Ranges.{is_class}
+use Rattle.report_model.specs.declared.class.RangeClass.TheVariants.{Ran, Reversed, RangeOutside, Crossing}
 use Rattle.profile_report.specs.Classed.{times_where}
 use Rattle.profile_report.proofs.ranges.count_ranges.Given as goal
 

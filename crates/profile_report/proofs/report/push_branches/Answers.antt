@@ -2,7 +2,7 @@ use Rattle.std.proofs.Common.{◌≡◌, ◌++◌, List, ℕ, ap, ◌∙◌}
 use Rattle.std.specs.Prelude.{codes}
 use Rattle.std.specs.List.{flat_map}
 use Rattle.indexmap.proofs.MapLemmas.{OnOk-map}
-use Rattle.class_model.specs.declared.class.RangeClass.{RangeClass}
+use Rattle.report_model.specs.declared.class.RangeClass.{RangeClass}
 use Rattle.report_model.specs.Report.{Classes, Sampled, branches_text, number_line, reasons}
 use Rattle.profile_report.specs.declared.classed.Classed.{Classed}
 use Rattle.profile_report.specs.declared.report.Units.{Units}

@@ -1,7 +1,7 @@
 use Rattle.std.proofs.Common.{◌≡◌, ◌++◌, List, ℕ, ap, ◌∙◌}
 use Rattle.std.specs.Prelude.{codes}
 use Rattle.indexmap.proofs.MapLemmas.{OnOk-map}
-use Rattle.class_model.specs.declared.class.Class.{Class}
+use Rattle.report_model.specs.declared.class.Class.{Class}
 use Rattle.report_model.specs.Report.{Classes, Sampled, number_line, ranges_text}
 use Rattle.profile_report.specs.declared.classed.Classed.{Classed}
 use Rattle.profile_report.specs.declared.report.Units.{Units}

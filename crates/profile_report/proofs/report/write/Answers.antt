@@ -1,7 +1,7 @@
 use Rattle.std.proofs.Common.{◌≡◌, ◌++◌, List, ℕ, ap, append_assoc, ◌∙◌}
 use Rattle.indexmap.proofs.MapLemmas.{OnOk-map}
-use Rattle.class_model.specs.declared.class.Class.{Class}
-use Rattle.class_model.specs.declared.class.RangeClass.{RangeClass}
+use Rattle.report_model.specs.declared.class.Class.{Class}
+use Rattle.report_model.specs.declared.class.RangeClass.{RangeClass}
 use Rattle.report_model.specs.Report.{Classes, Sampled, branches_text, ranges_text, report_text, units_text}
 use Rattle.profile_report.specs.declared.classed.Classed.{Classed}
 use Rattle.profile_report.specs.Told.{Tells}

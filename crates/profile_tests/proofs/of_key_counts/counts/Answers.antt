@@ -1,7 +1,7 @@
 use Rattle.std.proofs.Common.{◌<◌, ℕ, not, List, [], ◌∷◌, refl, sym, subst, arith}
 use Rattle.std.proofs.lemmas.List.Filters.{sum_by-filter_both}
-use Rattle.hit_model.specs.Hits.{hits_at, holds}
-use Rattle.hit_model.specs.declared.ran_range.RanRange.{RanRange}
+use Rattle.profile_model.specs.Hits.{hits_at, holds}
+use Rattle.profile_model.specs.declared.ran_range.RanRange.{RanRange}
 use Rattle.profile_tests.proofs.of_key_counts.counts.Goals as goal
 
 ranges : List RanRange

@@ -1,5 +1,5 @@
 use Rattle.std.proofs.Common.{List, [], ◌∷◌}
-use Rattle.hit_model.specs.declared.ran_range.RanRange.{RanRange}
+use Rattle.profile_model.specs.declared.ran_range.RanRange.{RanRange}
 use Rattle.profile_tests.proofs.RangeLemmas.{ranges-cons, ranges-nil}
 use Rattle.profile_tests.proofs.of_range_counts.hits_are_sums_over_ranges.Goals as goal
 

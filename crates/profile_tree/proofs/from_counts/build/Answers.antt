@@ -1,6 +1,6 @@
 use Rattle.std.proofs.Common.{subst, sym}
-use Rattle.hit_model.specs.Steps.{hits_by}
-use Rattle.key_counts.proofs.PlaceLemmas.{counts_are_those_of_places}
+use Rattle.profile_model.specs.Steps.{hits_by}
+use Rattle.profile_lists.proofs.PlaceLemmas.{counts_are_those_of_places}
 use Rattle.profile_tree.specs.Said.{AreCountsOfPlaces}
 use Rattle.profile_tree.proofs.from_counts.build.Goals as goal
 

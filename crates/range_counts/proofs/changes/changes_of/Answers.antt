@@ -1,6 +1,6 @@
 use Rattle.std.proofs.Common.{◌^◌, ◌<◌}
 use Rattle.std.proofs.lemmas.List.Elements.{All-more}
-use Rattle.hit_model.specs.declared.ran_range.RanRange.{RanRange}
+use Rattle.profile_model.specs.declared.ran_range.RanRange.{RanRange}
 use Rattle.range_counts.proofs.ChangeLemmas.{changes_more}
 use Rattle.range_counts.proofs.changes.changes_of.Goals as goal
 

@@ -1,7 +1,7 @@
 use Rattle.std.proofs.Common.{List, sym, subst, rules}
 use Rattle.std.specs.List.Sorted.{IsNonDecreasingBy}
 use Rattle.std.proofs.lemmas.List.Sorted.{IsNonDecreasingBy-from_sort_by_key}
-use Rattle.hit_model.specs.Hits.{hits_at}
+use Rattle.profile_model.specs.Hits.{hits_at}
 use Rattle.range_counts.specs.declared.changes.Change.{Change}
 use Rattle.range_counts.specs.Changes.{AreSound}
 use Rattle.range_counts.proofs.ChangeLemmas.{Tell, Tell-permutation, changes_tell, sound}

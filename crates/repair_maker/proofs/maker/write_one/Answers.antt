@@ -4,7 +4,7 @@ use Rattle.block_model.specs.declared.parts.Weight.{Weight}
 use Rattle.block_weights.specs.Counts.{count_in}
 use Rattle.cfg_text.specs.Fun.{function_of}
 use Rattle.flow_model.specs.Network.{network_of}
-use Rattle.key_segments.specs.Segments.{key_told}
+use Rattle.key_types.specs.Segments.{key_told}
 use Rattle.repair_model.specs.Text.{repair_text}
 use Rattle.repair_text.specs.Repair.{repair_by}
 use Rattle.repair_maker.specs.Made.{edges_told, weighed_edges}

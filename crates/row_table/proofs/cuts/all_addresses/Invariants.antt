@@ -1,6 +1,6 @@
 use Rattle.std.proofs.Common.{◌≡◌, take}
 use Rattle.std.specs.List.{flat_map}
-use Rattle.row_model.specs.Rows.{addresses_of}
+use Rattle.line_model.specs.Rows.{addresses_of}
 use Rattle.row_table.proofs.cuts.all_addresses.Given as goal
 
 abbrev pub invariant-loop-sequence : goal.invariant-loop-sequence

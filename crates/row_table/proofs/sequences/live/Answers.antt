@@ -1,7 +1,7 @@
 use Rattle.std.proofs.Common.{◌≡◌, ◌∷◌, [], suc, drop, drop-cons, false, get_or, add-one, ap, ◌∙◌, ◌++◌, filter}
 use Rattle.std.proofs.lemmas.List.{drop_all}
 use Rattle.line_model.specs.declared.row.Row.{Row}
-use Rattle.row_model.specs.Rows.{is_live_sequence}
+use Rattle.line_model.specs.Rows.{is_live_sequence}
 use Rattle.row_table.proofs.SequenceLemmas.{LiveSoFar-ended, LiveSoFar-all}
 use Rattle.row_table.proofs.sequences.live.Goals as goal
 

@@ -1,6 +1,6 @@
 use Rattle.std.proofs.Common.{◌≡◌, length}
 use Rattle.std.specs.List.{All}
-use Rattle.balance_model.specs.Sound.{IsSoundBound}
+use Rattle.flow_model.specs.Sound.{IsSoundBound}
 use Rattle.solver_bench.proofs.shapes.blocks_of.Given as goal
 
 abbrev pub invariant-loop-block : goal.invariant-loop-block

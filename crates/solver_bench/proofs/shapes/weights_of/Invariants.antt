@@ -1,4 +1,4 @@
-use Rattle.balance_model.specs.Sound.{AreWeights}
+use Rattle.flow_model.specs.Sound.{AreWeights}
 use Rattle.solver_bench.proofs.shapes.weights_of.Given as goal
 
 abbrev pub invariant-loop-block : goal.invariant-loop-block

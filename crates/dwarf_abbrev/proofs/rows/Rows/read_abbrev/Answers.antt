@@ -1,5 +1,5 @@
 use Rattle.std.proofs.Common.{◌≡◌, length, refl, rules, arith}
-use Rattle.abbrev_model.specs.Table.{abbrev_of}
+use Rattle.unit_model.specs.Table.{abbrev_of}
 use Rattle.dwarf_abbrev.proofs.RowLemmas.{AddsAbbrev-row}
 use Rattle.dwarf_abbrev.proofs.rows.Rows.read_abbrev.Goals as goal
 

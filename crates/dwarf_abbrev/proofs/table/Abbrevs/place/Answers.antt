@@ -1,6 +1,6 @@
 use Rattle.std.proofs.Common.{List, sym, ap, ◌∙◌}
 use Rattle.std.specs.Prelude.{◌==◌, position}
-use Rattle.abbrev_model.specs.Abbrev.{Abbrev}
+use Rattle.unit_model.specs.Abbrev.{Abbrev}
 use Rattle.dwarf_abbrev.proofs.RowLemmas.{place-is}
 use Rattle.dwarf_abbrev.proofs.table.Abbrevs.place.Goals as goal
 

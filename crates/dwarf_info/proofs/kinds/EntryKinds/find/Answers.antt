@@ -1,6 +1,6 @@
 use Rattle.std.proofs.Common.{List, Some, ap, sym, ◌∙◌}
 use Rattle.std.specs.Option.{option_map}
-use Rattle.abbrev_model.specs.Abbrev.{Abbrev, find_code}
+use Rattle.unit_model.specs.Abbrev.{Abbrev, find_code}
 use Rattle.dwarf_info.specs.Telling.{shortened}
 use Rattle.dwarf_info.proofs.TellingLemmas.{kind-found, kind-none}
 use Rattle.dwarf_info.proofs.kinds.EntryKinds.find.Goals as goal

@@ -1,7 +1,7 @@
 use Rattle.std.proofs.Common.{◌<◌, List, length, map, subst, sym, arith}
 use Rattle.address_spans.specs.Spans.{AreBetween}
-use Rattle.key_counts.specs.Segments.{AllFit}
-use Rattle.key_segments.specs.Segments.{span_of}
+use Rattle.profile_lists.specs.Segments.{AllFit}
+use Rattle.key_types.specs.Segments.{span_of}
 use Rattle.key_types.specs.declared.places.Seg.{Seg}
 use Rattle.profile_bench.proofs.LaidLemmas.{all_added, not_fewer, laid_more, fit_more}
 use Rattle.profile_tree.specs.Known.{HasNames}

@@ -1,6 +1,6 @@
 use Rattle.std.proofs.Common.{List, ap, arith, subst, take, ◌∙◌}
-use Rattle.hit_model.specs.declared.step.Step.{Step}
-use Rattle.hit_model.specs.Steps.{ground, last_of}
+use Rattle.profile_model.specs.declared.step.Step.{Step}
+use Rattle.profile_model.specs.Steps.{ground, last_of}
 use Rattle.range_counts.specs.Steps.{IsFirstAbove}
 use Rattle.range_counts.proofs.StepLemmas.{hits-found}
 use Rattle.range_counts.proofs.hits.Hits.at.Goals as goal

@@ -1,7 +1,7 @@
 use Rattle.std.proofs.Common.{List, sym, subst, ◌∙◌}
-use Rattle.hit_model.specs.declared.step.Step.{Step}
-use Rattle.hit_model.specs.Hits.{IsLargestIn}
-use Rattle.hit_model.specs.Steps.{hits_by}
+use Rattle.profile_model.specs.declared.step.Step.{Step}
+use Rattle.profile_model.specs.Hits.{IsLargestIn}
+use Rattle.profile_model.specs.Steps.{hits_by}
 use Rattle.range_counts.specs.Steps.{IsFirstAbove}
 use Rattle.range_counts.proofs.hits.Hits.max_in.Goals as goal
 

@@ -1,6 +1,6 @@
 use Rattle.std.proofs.Common.{ap, arith, subst}
-use Rattle.hit_model.specs.Hits.{IsLargestIn}
-use Rattle.hit_model.specs.Steps.{hits_by}
+use Rattle.profile_model.specs.Hits.{IsLargestIn}
+use Rattle.profile_model.specs.Steps.{hits_by}
 use Rattle.range_counts.specs.Walked.{Walked}
 use Rattle.range_counts.proofs.WalkLemmas.{passed-last, last-passed}
 use Rattle.range_counts.proofs.walk.Walk.max_in.Goals as goal

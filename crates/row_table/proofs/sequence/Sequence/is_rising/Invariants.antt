@@ -1,5 +1,5 @@
 use Rattle.std.proofs.Common.{◌≡◌, ◌++◌, ◌∷◌, [], map, drop}
-use Rattle.row_model.specs.Rows.{addresses_of, never_fall}
+use Rattle.line_model.specs.Rows.{addresses_of, never_fall}
 use Rattle.row_table.proofs.sequence.Sequence.is_rising.Given as goal
 
 abbrev pub invariant-loop-row : goal.invariant-loop-row

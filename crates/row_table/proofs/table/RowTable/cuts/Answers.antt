@@ -1,5 +1,5 @@
 use Rattle.std.proofs.Common.{◌≤◌, List, length, subst}
-use Rattle.row_model.specs.Rows.{Sequence}
+use Rattle.line_model.specs.Rows.{Sequence}
 use Rattle.row_table.specs.Told.{AreCuts, row_count, told}
 use Rattle.row_table.proofs.CutLemmas.{are_cuts}
 use Rattle.row_table.proofs.table.RowTable.cuts.Goals as goal

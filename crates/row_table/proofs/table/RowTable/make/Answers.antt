@@ -1,6 +1,6 @@
 use Rattle.std.proofs.Common.{◌≤◌, List, length, subst, sym}
 use Rattle.std.specs.List.{AllByRecursion}
-use Rattle.row_model.specs.Rows.{Sequence}
+use Rattle.line_model.specs.Rows.{Sequence}
 use Rattle.row_table.specs.Index.{IsRising, IsIndex, HaveAddresses}
 use Rattle.row_table.specs.Told.{row_count}
 use Rattle.row_table.proofs.IndexLemmas.{live_rise}

@@ -1,2 +1,0 @@
-pub mod Abbrev
-pub mod Table

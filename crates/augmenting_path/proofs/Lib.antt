@@ -1,3 +1,0 @@
-pub mod TraceLemmas
-pub mod PathLemmas
-pub mod RoomLemmas

@@ -1,4 +1,0 @@
-use Rattle.augmenting_path.proofs.room.room.Goals as goal
-
-pub returns-in-Against-clause-greatest : goal.returns-in-Against-clause-greatest
-returns-in-Against-clause-greatest c = rw c.in-Against.is c.room_against.ensures.greatest

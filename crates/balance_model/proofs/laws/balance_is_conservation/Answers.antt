@@ -1,5 +1,0 @@
-use Rattle.balance_model.proofs.NumberLemmas.{balance_is_conservation}
-use Rattle.balance_model.proofs.laws.balance_is_conservation.Goals as goal
-
-pub returns : goal.returns
-returns c = balance_is_conservation

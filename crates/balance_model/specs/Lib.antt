@@ -1,4 +1,0 @@
-pub mod Balance
-pub mod Laws
-pub mod Passing
-pub mod Sound

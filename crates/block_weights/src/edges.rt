@@ -1,0 +1,62 @@
+ghost use Rattle.std.specs.Prelude.{◌≡◌, ◌<◌, ◌^◌, length, map, IfOk};
+ghost use Rattle.flow_model.specs.Network.{weight_of as number_of};
+ghost use Rattle.flow_model.specs.Sound.{AreWeights};
+ghost use Rattle.profile_model.specs.Steps.{hits_by};
+ghost use Rattle.weight_model.specs.Edges.{known_block, taken, weight_by};
+
+use crate::samples::EdgeSamples;
+use block_model::{Block, Edge, Weight};
+use cfg_text::Fun;
+use refusal::NoMemory;
+use std::alloc::Global;
+
+/// The weight of each edge of a function, known where both its blocks are: how often branches lead
+/// from the one to the start of the other, and where the one ends there, how often ranges ran on.
+/// Each is below 2^44.
+///
+/// `weights` are those of the blocks, in their order. A block behind its end has none.
+///
+/// # Errors
+/// `NoMemory`.
+pub fn edge_weights(
+    alloc: Global,
+    fun: &Fun<'_>,
+    samples: &EdgeSamples,
+    weights: &[Weight],
+) -> Result<Vec<Weight>, NoMemory>
+    ensures told { IfOk result (λ made. made.items ≡ map
+        (weight_by (taken samples.now.branches) (hits_by samples.now.passing)
+        fun.now.blocks weights.now)
+        fun.now.edges) }
+    ensures small { IfOk result (λ made. AreWeights (length fun.now.edges) made.items) }
+{
+    let mut made = Vec::new(alloc);
+    for edge in fun.edges.as_slice() {
+        made.push(weight_of(edge, fun.blocks.as_slice(), samples, weights))?;
+    }
+    Ok(made)
+}
+
+/// The weight of an edge.
+fn weight_of(edge: &Edge, blocks: &[Block], samples: &EdgeSamples, weights: &[Weight]) -> Weight
+    ensures told { result ≡ weight_by (taken samples.now.branches) (hits_by samples.now.passing)
+        blocks.now weights.now edge.now }
+    ensures small { number_of result < 2 ^ 44 }
+{
+    let from = known_block(blocks, weights, edge.from);
+    let to = known_block(blocks, weights, edge.to);
+    match (from, to) {
+        (Some(from), Some(to)) => Weight::Known(samples.went_over(&from, &to)),
+        _ => Weight::Unknown,
+    }
+}
+
+/// The block of a number, if it has a known weight.
+fn known_block(blocks: &[Block], weights: &[Weight], number: u32) -> Option<Block>
+    ensures { result ≡ known_block blocks.now weights.now number }
+{
+    match weights.get(number as usize) {
+        Some(Weight::Known(_)) => blocks.get(number as usize).copied(),
+        _ => None,
+    }
+}

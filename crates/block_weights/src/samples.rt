@@ -1,0 +1,66 @@
+ghost use Rattle.std.specs.Prelude.{◌≡◌, ◌<◌, ◌^◌, IfOk};
+ghost use Rattle.profile_model.specs.Hits.{times_of};
+ghost use Rattle.profile_model.specs.Steps.{hits_by};
+ghost use Rattle.weight_model.specs.Edges.{taken as times_taken, went_over};
+ghost use Rattle.block_weights.specs.Sampled.{Tell, branches_taken};
+
+use crate::passing::behind_firsts;
+use crate::taken::taken;
+use block_model::Block;
+use profile_model::RanRange;
+use range_counts::{Hits, sweep};
+use refusal::NoMemory;
+use sample_model::Pair;
+use std::alloc::Global;
+use std::marker::Model;
+
+/// Sampled branches by their sources, and how often ranges ran past each address.
+#[derive(Debug, Drop)]
+pub struct EdgeSamples {
+    branches: Vec<Pair>,
+    passing: Hits,
+}
+
+impl Model for EdgeSamples {
+    ghost use Rattle.block_weights.specs.Sampled.{IsInOrder, Sampled};
+
+    ghost Value = { Sampled };
+
+    ghost view = { λ s. record { branches = s.branches.items; passing = s.passing } };
+
+    ghost invariant = { λ s. IsInOrder
+        (record { branches = s.branches.items; passing = s.passing }) };
+}
+
+impl EdgeSamples {
+    /// Puts branches and ranges that ran in order. The times of either add up to less than 2^32.
+    ///
+    /// It takes a sort of each.
+    ///
+    /// # Errors
+    /// `NoMemory`.
+    pub fn new(alloc: Global, branches: &[Pair], ran: &[RanRange]) -> Result<EdgeSamples, NoMemory>
+        requires branches { branches_taken branches.now < 2 ^ 32 }
+        requires ran { times_of ran.now < 2 ^ 32 }
+        ensures { IfOk result (Tell branches.now ran.now) }
+    {
+        let passing = sweep(alloc, &behind_firsts(alloc, ran)?)?;
+        let mut branches = Vec::from_slice(alloc, branches)?;
+        branches.sort_unstable_by_key(|branch| branch.from);
+        Ok(EdgeSamples { branches, passing })
+    }
+
+    /// How often the program went over from one block to another.
+    pub(crate) fn went_over(&self, from: &Block, to: &Block) -> u64
+        ensures told { result ≡ went_over (times_taken self.now.branches) (hits_by self.now.passing)
+            from.now to.now }
+        ensures small { result < 2 ^ 33 }
+    {
+        let taken = taken(&self.branches, from, to.lo);
+        if from.hi == to.lo {
+            taken + self.passing.at(to.lo)
+        } else {
+            taken
+        }
+    }
+}

@@ -1,3 +1,0 @@
-pub mod AddLemmas
-mod Examples
-pub mod RangeLemmas

@@ -1,5 +1,0 @@
-use Rattle.class_model.proofs.RangeLemmas.{ran_is_one_function}
-use Rattle.class_model.proofs.laws.ran_is_one_function.Goals as goal
-
-pub returns : goal.returns
-returns c = ran_is_one_function

@@ -1,3 +1,0 @@
-pub mod PassingLemmas
-pub mod SumLemmas
-pub mod TakenLemmas

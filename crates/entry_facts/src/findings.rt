@@ -1,0 +1,136 @@
+// The attributes on a way that count.
+ghost use Rattle.std.specs.Prelude.{◌≡◌, ◌^◌, ◌∷◌, [], List};
+ghost use Rattle.unit_model.specs.Entries.{Entry as entry_told};
+ghost use Rattle.dwarf_forms.specs.Meaning.{meaning_of};
+ghost use Rattle.entry_model.specs.Order.{AreInOrder};
+ghost use Rattle.tree_model.specs.Way.{way_from};
+ghost use Rattle.std.specs.Option.{option_map};
+ghost use Rattle.tree_model.specs.Origin.{first_on, line_on, naming, number_of as number_told};
+ghost use Rattle.entry_facts.specs.Meaning.{AreFound, FindsOn, held_of, info_of};
+
+use crate::attributes::attribute;
+use crate::info::Info;
+use crate::way::next_on_way;
+use dwarf_forms::Value;
+use dwarf_info::{DW_AT_DECL_LINE, DW_AT_LINKAGE_NAME, DW_AT_MIPS_LINKAGE_NAME, DW_AT_NAME, Entry};
+use refusal::{Kind, Place};
+
+/// An attribute on a way: the unit of the entry that has it, its name, where its value stands, and
+/// the value.
+#[derive(Clone, Copy)]
+pub(crate) struct Held<'a> {
+    pub unit: u32,
+    pub name: u64,
+    pub at: u64,
+    pub value: Value<'a>,
+}
+
+/// The first attribute of each name on a way.
+#[derive(Clone, Copy)]
+pub(crate) struct Findings<'a> {
+    pub linkage: Option<Held<'a>>,
+    pub mips_linkage: Option<Held<'a>>,
+    pub name: Option<Held<'a>>,
+    pub line: Option<Held<'a>>,
+}
+
+impl<'a> Findings<'a> {
+    /// The attribute that names the entry, where one does.
+    pub fn naming(&self) -> Option<Held<'a>>
+        ensures { (way : List entry_told) → AreFound way self.now
+            → option_map held_of result ≡ naming way }
+    {
+        self.linkage.or(self.mips_linkage).or(self.name)
+    }
+
+    /// The start line, or 0 without one.
+    pub fn line(&self) -> u64
+        ensures { (way : List entry_told) → AreFound way self.now → result ≡ line_on way }
+    {
+        match self.line {
+            Some(held) => number_of(held.value),
+            None => 0,
+        }
+    }
+}
+
+/// The first attributes on the way from an entry on, with so many steps at most, of a way that
+/// began at an offset in the file.
+///
+/// # Errors
+/// What `next_on_way` answers on the way, and `OriginTooLong` where the way began, for one step
+/// more.
+pub(crate) fn findings_from<'a>(
+    info: &Info<'a, '_>,
+    began: u64,
+    steps: u32,
+    entry: &Entry<'a, '_>,
+) -> Result<Findings<'a>, Place>
+    requires { AreInOrder 0 (2 ^ 64) info.now.units.now.entries }
+    ensures { FindsOn result (way_from (info_of info.now) began steps entry.now) }
+{
+    let next = match next_on_way(info, entry) {
+        Ok(Some(next)) => next,
+        Ok(None) => return Ok(found_in(entry)),
+        Err(place) => return Err(place),
+    };
+    if steps == 0 {
+        return Err(Place::in_binary(began as usize, Kind::OriginTooLong));
+    }
+    match findings_from(info, began, steps - 1, &next) {
+        Ok(rest) => Ok(before(entry, &rest)),
+        Err(place) => Err(place),
+    }
+}
+
+/// What a way says that begins with an entry, where the rest of it says the other.
+#[tactic(auto, using(crate::proofs::FoundLemmas::before_lemmas))]
+fn before<'a>(entry: &Entry<'a, '_>, rest: &Findings<'a>) -> Findings<'a>
+    ensures { (way : List entry_told) → AreFound way rest.now → AreFound (entry.now ∷ way) result }
+{
+    let own = found_in(entry);
+    Findings {
+        linkage: own.linkage.or(rest.linkage),
+        mips_linkage: own.mips_linkage.or(rest.mips_linkage),
+        name: own.name.or(rest.name),
+        line: own.line.or(rest.line),
+    }
+}
+
+/// What a way of one entry says.
+fn found_in<'a>(entry: &Entry<'a, '_>) -> Findings<'a>
+    ensures { AreFound (entry.now ∷ []) result }
+{
+    Findings {
+        linkage: held_in(entry, DW_AT_LINKAGE_NAME),
+        mips_linkage: held_in(entry, DW_AT_MIPS_LINKAGE_NAME),
+        name: held_in(entry, DW_AT_NAME),
+        line: held_in(entry, DW_AT_DECL_LINE),
+    }
+}
+
+/// The attribute of a name that an entry has.
+#[tactic(auto, using(crate::proofs::FoundLemmas::held_lemmas))]
+fn held_in<'a>(entry: &Entry<'a, '_>, name: u64) -> Option<Held<'a>>
+    ensures { option_map held_of result ≡ first_on name (entry.now ∷ []) }
+{
+    match attribute(entry.found, name) {
+        Some(found) => Some(Held {
+            unit: entry.unit,
+            name: found.name,
+            at: found.at,
+            value: found.value,
+        }),
+        None => None,
+    }
+}
+
+/// The number that a value is.
+fn number_of(value: Value<'_>) -> u64
+    ensures { result ≡ number_told (meaning_of value.entry) }
+{
+    match value {
+        Value::Const(number) => number,
+        _ => 0,
+    }
+}

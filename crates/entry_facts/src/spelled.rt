@@ -1,0 +1,99 @@
+// The ranges that an entry spells.
+ghost use Rattle.std.specs.Prelude.{◌≡◌, IfOk, None};
+ghost use Rattle.std.specs.Option.{option_to_list};
+ghost use Rattle.dwarf_strings.specs.Meaning.{Means};
+ghost use Rattle.tree_model.specs.Pieces.{end_by as end_told, listed as listed_told, pair as pair_told, spelled_by, spelled_ranges};
+ghost use Rattle.entry_facts.specs.Told.{Tells, in_unit};
+
+use crate::attributes::{address_at, attribute};
+use crate::in_unit::InUnit;
+use dwarf_forms::Value;
+use dwarf_info::{DW_AT_HIGH_PC, DW_AT_LOW_PC, DW_AT_RANGES, Entry, Found};
+use dwarf_ranges::ranges_of;
+use refusal::{NoMemory, Place, Stop};
+use std::alloc::Global;
+
+/// The ranges that an entry spells: by `DW_AT_ranges` where it stands, else by `DW_AT_low_pc` and
+/// `DW_AT_high_pc` where both do, else none.
+#[tactic(auto, unfolding(tree_model::specs::Pieces::spelled_ranges))]
+pub(crate) fn spelled(
+    alloc: Global,
+    of: &InUnit<'_>,
+    entry: &Entry<'_, '_>,
+) -> Result<Vec<(u64, u64)>, Stop>
+    ensures { Tells (λ ranges. ranges.items) result (spelled_ranges (in_unit of.now) entry.now) }
+{
+    if let Some(list) = attribute(entry.found, DW_AT_RANGES) {
+        return listed(alloc, of, &list);
+    }
+    let low = attribute(entry.found, DW_AT_LOW_PC);
+    let high = attribute(entry.found, DW_AT_HIGH_PC);
+    let range = between(of, low, high)?;
+    Ok(list_of(alloc, range)?)
+}
+
+/// The ranges of the list that `DW_AT_ranges` leads to.
+fn listed(alloc: Global, of: &InUnit<'_>, found: &Found<'_>) -> Result<Vec<(u64, u64)>, Stop>
+    ensures { Tells (λ ranges. ranges.items) result (listed_told (in_unit of.now) found.now) }
+{
+    let InUnit {
+        parts,
+        version,
+        base,
+        bases,
+    } = of;
+    ranges_of(alloc, found.at, found.value, *version, *base, parts, bases)
+}
+
+/// The range by `DW_AT_low_pc` and `DW_AT_high_pc`, where both are there.
+fn between(
+    of: &InUnit<'_>,
+    low: Option<Found<'_>>,
+    high: Option<Found<'_>>,
+) -> Result<Option<(u64, u64)>, Place>
+    ensures { Means option_to_list result (spelled_by (in_unit of.now) None low.entry high.entry) }
+{
+    let Some(low) = low else {
+        return Ok(None);
+    };
+    let Some(high) = high else {
+        return Ok(None);
+    };
+    pair(of, &low, &high)
+}
+
+/// The range from `DW_AT_low_pc` up to `DW_AT_high_pc`, if it is not empty.
+fn pair(of: &InUnit<'_>, low: &Found<'_>, high: &Found<'_>) -> Result<Option<(u64, u64)>, Place>
+    ensures { Means option_to_list result (pair_told (in_unit of.now) low.now high.now) }
+{
+    let start = address_at(low, &of.parts.texts, &of.bases)?;
+    let end = end_by(of, start, high)?;
+    Ok(if start < end {
+        Some((start, end))
+    } else {
+        None
+    })
+}
+
+/// The end of a range from its start on, by `DW_AT_high_pc`: an address, or the size as a constant.
+///
+/// Source: DWARF 5, section 2.17.2.
+fn end_by(of: &InUnit<'_>, start: u64, high: &Found<'_>) -> Result<u64, Place>
+    ensures { result ≡ end_told (in_unit of.now) start high.now high.now.value }
+{
+    match high.value {
+        Value::Const(size) => Ok(start.wrapping_add(size)),
+        _ => address_at(high, &of.parts.texts, &of.bases),
+    }
+}
+
+/// The list of a range, if there is one.
+fn list_of(alloc: Global, range: Option<(u64, u64)>) -> Result<Vec<(u64, u64)>, NoMemory>
+    ensures { IfOk result (λ ranges. ranges.items ≡ option_to_list range) }
+{
+    let mut ranges = Vec::new(alloc);
+    if let Some(range) = range {
+        ranges.push(range)?;
+    }
+    Ok(ranges)
+}

@@ -1,8 +1,0 @@
-// The definitions seen from the other side.
-ghost use Rattle.function_stretches.specs.Laws.{NumbersAreStretches};
-
-/// Two addresses that functions hold have the same number exactly where one function holds all from
-/// the one to the other.
-pub fn numbers_are_stretches()
-    ensures { NumbersAreStretches }
-{}

@@ -1,5 +1,0 @@
-use Rattle.hit_model.proofs.HitLemmas.{hits_are_within_times}
-use Rattle.hit_model.proofs.laws.hits_are_within_times.Goals as goal
-
-pub returns : goal.returns
-returns c = hits_are_within_times

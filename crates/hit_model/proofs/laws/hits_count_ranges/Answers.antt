@@ -1,5 +1,0 @@
-use Rattle.hit_model.proofs.HitLemmas.{hits_count_ranges}
-use Rattle.hit_model.proofs.laws.hits_count_ranges.Goals as goal
-
-pub returns : goal.returns
-returns c = hits_count_ranges

@@ -1,5 +1,0 @@
-use Rattle.hit_model.proofs.HitLemmas.{largest_is_one}
-use Rattle.hit_model.proofs.laws.largest_is_one.Goals as goal
-
-pub returns : goal.returns
-returns c = largest_is_one

@@ -1,3 +1,0 @@
-pub mod Hits
-pub mod Laws
-pub mod Steps

@@ -1,7 +1,0 @@
-use Rattle.std.proofs.Common.{drop}
-use Rattle.inline_cover.proofs.FrameLemmas.{FramedSoFar}
-use Rattle.inline_cover.proofs.frame.push_framed.Given as goal
-
-abbrev pub invariant-loop-span : goal.invariant-loop-span
-invariant-loop-span l =
-    FramedSoFar l.initial.spans.items l.frame l.inner l.spans.items l.from (drop l.span-index l.inner)

@@ -1,3 +1,0 @@
-pub mod CountLemmas
-pub mod PlaceLemmas
-pub mod SmallLemmas

@@ -1,5 +1,0 @@
-use Rattle.key_counts.proofs.PlaceLemmas.{counts_are_those_of_places}
-use Rattle.key_counts.proofs.laws.counts_are_those_of_places.Goals as goal
-
-pub returns : goal.returns
-returns c = counts_are_those_of_places

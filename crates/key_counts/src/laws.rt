@@ -1,7 +1,0 @@
-// The counts seen from the addresses.
-ghost use Rattle.key_counts.specs.Laws.{CountsAreThoseOfPlaces};
-
-/// The counts of segments are those of the places of addresses, which the segments tell.
-pub fn counts_are_those_of_places()
-    ensures { CountsAreThoseOfPlaces }
-{}

@@ -1,5 +1,0 @@
-use Rattle.member_contexts.proofs.ParentLemmas.{ParentsSoFar}
-use Rattle.member_contexts.proofs.parent.parents.Given as goal
-
-abbrev pub invariant-loop-number : goal.invariant-loop-number
-invariant-loop-number l = ParentsSoFar l.members l.number l.path.items l.parents.items

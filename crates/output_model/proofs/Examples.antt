@@ -1,0 +1,50 @@
+-- The definitions on worked values.
+use Rattle.std.proofs.Common.{◌≡◌, ℕ, Bool, nat_lt, nat_eq, List, [], ◌∷◌, ◌++◌, Option, None, Some, refl}
+use Rattle.std.specs.Prelude.{codes, filter, map, replicate, if◌then◌else◌}
+use Rattle.std.specs.Fmt.{digits}
+use Rattle.std.specs.List.{range_with_len}
+use Rattle.text_model.specs.Numbers.{hex_text}
+use Rattle.profile_model.specs.Profile.{lines_of}
+use Rattle.profile_model.specs.Text.{profile_text, text_of_lines}
+use Rattle.profile_model.specs.Ways.{to_body, to_call, to_function}
+use Rattle.report_model.specs.Report.{Sampled, report_text}
+use Rattle.binary_model.specs.Places.{Place, outside, no_line, at_way}
+use Rattle.output_model.specs.Program.{Program}
+use Rattle.output_model.specs.Sampled.{classes_of, hits_of, profile_among}
+
+-- a function `f` from 16 up to 32, entered at 16, with a call of `g` from 20 up to 24, whose code was copied three times
+f_place : ℕ → Place
+f_place a = if nat_lt a 20 then at_way (to_function (codes "f") ∷ to_body 0 0 ∷ []) else (
+    if nat_lt a 24 then at_way (to_function (codes "f") ∷ to_call 2 1 (codes "g") ∷ to_body 1 0 ∷ [])
+    else (if nat_lt a 28 then at_way (to_function (codes "f") ∷ to_body 3 0 ∷ []) else no_line))
+
+program : Program
+program = record {
+  place = λ a. if nat_lt a 16 then outside else (if nat_lt a 32 then f_place a else outside);
+  function = λ a. if nat_lt a 16 then None else (if nat_lt a 32 then Some 7 else None);
+  entered = λ a. if nat_eq a 16 then Some (codes "f") else None;
+  factor = λ a. if nat_lt a 20 then 1 else (if nat_lt a 24 then 3 else 1);
+}
+
+sampled : Sampled
+sampled = record {
+  branches = (27, 16) ∷ (30, 16) ∷ (27, 16) ∷ (18, 24) ∷ (30, 18) ∷ (18, 40) ∷ (9, 9) ∷ [];
+  ranges = (16, 21) ∷ (16, 18) ∷ (21, 20) ∷ (24, 27) ∷ (24, 26) ∷ (0, 0) ∷ (20, 40) ∷ [];
+  units_read = 1;
+  units_passed = 0;
+}
+
+-- two ranges ran over 16 to 18, one over 19 to 21, none over 22 and 23
+hits : map (hits_of program sampled) (range_with_len 15 14) ≡ 0 ∷ 2 ∷ 2 ∷ 2 ∷ 1 ∷ 1 ∷ 1 ∷ 0 ∷ 0 ∷ 2 ∷ 2 ∷ 2 ∷ 1 ∷ 0 ∷ []
+unfolding program sampled
+hits = refl
+
+profile : profile_text (profile_among (range_with_len 0 48) program sampled)
+    ≡ codes "f:7:3\n 0: 2\n 3: 2 f:2\n 2.1: g:3\n  1: 3\n"
+unfolding lines_of text_of_lines digits program f_place sampled
+profile = refl
+
+report : report_text (classes_of program) sampled
+    ≡ codes "# branches 7\n# entries 3\n# inside 1\n# unmapped FromOutside 0x9 0x9 1\n# unmapped FromNoLine 0x1e 0x12 1\n# unmapped ToOutside 0x12 0x28 1\n# ranges ran 4\n# ranges reversed 1\n# ranges outside 2\n# ranges crossing 0\n# units read 1 passed 0\n"
+unfolding report_text digits hex_text program f_place sampled
+report = refl

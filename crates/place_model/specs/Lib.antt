@@ -1,2 +1,0 @@
-pub mod Discriminators
-pub mod Laws

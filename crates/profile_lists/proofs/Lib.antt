@@ -1,0 +1,11 @@
+pub mod RankLemmas
+pub mod ListLemmas
+pub mod PairLemmas
+pub mod CmpLemmas
+pub mod FrontLemmas
+pub mod LoopLemmas
+pub mod OrderLemmas
+pub mod RowLemmas
+pub mod CountLemmas
+pub mod PlaceLemmas
+pub mod SmallLemmas

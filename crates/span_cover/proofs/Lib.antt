@@ -1,0 +1,4 @@
+pub mod CoverLemmas
+pub mod FrameLemmas
+pub mod JoinLemmas
+pub mod StretchLemmas

@@ -1,0 +1,4 @@
+pub mod Levels
+pub mod Owners
+pub mod Laws
+pub mod Stretches

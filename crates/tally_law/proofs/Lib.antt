@@ -1,3 +1,0 @@
-mod Examples
-pub mod OrderLemmas
-pub mod TallyLemmas

@@ -1,5 +1,0 @@
-use Rattle.tally_law.proofs.OrderLemmas.{rows_tally_in_any_order}
-use Rattle.tally_law.proofs.laws.rows_tally_in_any_order.Goals as goal
-
-pub returns : goal.returns
-returns c = rows_tally_in_any_order

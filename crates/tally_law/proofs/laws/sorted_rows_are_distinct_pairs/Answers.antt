@@ -1,5 +1,0 @@
-use Rattle.tally_law.proofs.OrderLemmas.{sorted_rows_are_distinct_pairs}
-use Rattle.tally_law.proofs.laws.sorted_rows_are_distinct_pairs.Goals as goal
-
-pub returns : goal.returns
-returns c = sorted_rows_are_distinct_pairs

@@ -1,5 +1,0 @@
-use Rattle.target_lists.proofs.PairLemmas.{MergedSoFar}
-use Rattle.target_lists.proofs.pairs.merged.Given as goal
-
-abbrev pub invariant-loop-pair : goal.invariant-loop-pair
-invariant-loop-pair l = MergedSoFar l.pairs l.pair-index l.merged.items

@@ -1,8 +1,0 @@
-use Rattle.std.proofs.Common.{arith}
-use Rattle.way_rows.specs.Rows.{same_step}
-use Rattle.way_rows.proofs.LoopLemmas.{shared_end}
-use Rattle.way_rows.proofs.shared.shared.Goals as goal
-
-pub returns-else-n-other-clause-count : goal.returns-else-n-other-clause-count
-returns-else-n-other-clause-count c =
-    shared_end same_step c.args.way.now c.args.other.now c.loop-n.n (omega arith) c.loop-n.invariant.2

@@ -1,9 +1,14 @@
 #!/usr/bin/env python3
-"""Judges a block text by the branch stacks of a run of its program: judge.py [--map=NAME] BIN BLOCKS PERF
+"""Judges a block text by what its program did.
+
+    judge.py [--map=NAME] BIN BLOCKS PERF     by the branch stacks of a run
+    judge.py --steps BIN BLOCKS STEPS         by all steps of a run, as step.c writes them
+    judge.py --same BIN BLOCKS BLOCKS         a text by the code against one by the map of basic blocks
 
 A branch whose ends lie in one function has to go from inside of a block to the start of a block along an edge. Calls of a
 function by itself, and the returns from these, are no edges, and are counted apart. What ran straight on between two
-branches has to stay in blocks, and to pass from one to the next along edges. Prints the sums, and what does not fit.
+branches has to stay in blocks, and to pass from one to the next along edges. Prints the sums, and what does not fit. By steps, functions
+are moreover entered at block 0 and left by exits and calls alone.
 """
 import bisect
 import collections
@@ -184,6 +189,15 @@ class Judge:
             return self.by_start[k]
         return None
 
+    def ends_within(self, low, high):
+        """Whether the flow ends somewhere from low to high, or never comes there."""
+        while low < high:
+            one = self.block(low)
+            if one is None or self.functions[one[2]].blocks[one[3]][2]:
+                return True
+            low = one[1]
+        return False
+
     def instruction(self, address):
         piece = next(filter(None, (self.program.read(address, size) for size in (4, 3, 2, 1))), b"")
         while piece[:1] in (b"\xf2", b"\xf3", b"\x3e", b"\x66") or piece[:1] and piece[0] >> 4 == 4:
@@ -192,6 +206,9 @@ class Judge:
             return "call"
         return "return" if piece[:1] in (b"\xc3", b"\xc2") else "jump"
 
+    def behind_call(self, address):
+        return any(self.instruction(address - size) == "call" for size in range(2, 8))
+
     def branch(self, source, target):
         """What a branch is that has both ends in one function: an edge, or why it is none."""
         one, other = self.block(source), self.block(target)
@@ -199,7 +216,9 @@ class Judge:
         if one and other and one[2] == other[2] and other[0] == target and (one[3], other[3]) in self.pairs[one[2]]:
             return "edge"
         what = self.instruction(source)
-        if what == "call" and target == self.functions[f].blocks[0][0]:
+        entry = self.functions[f].blocks[0]
+        leaves = what == "call" or one and one[2] == f and self.functions[f].blocks[one[3]][2]
+        if target == entry[0] and leaves:
             return "call of itself"
         if what == "return":
             return "return to itself"
@@ -252,9 +271,82 @@ def judge(binary, text, perf, name=None, out=sys.stdout):
     return len(bad) + len(lost)
 
 
+def judge_steps(binary, text, steps, out=sys.stdout):
+    """Prints the sums of a program, and gives how much does not fit."""
+    it, sums, bad = Judge(binary, text), collections.Counter(), collections.Counter()
+    pads = {pad for _, _, pad in blocks.landing_pads(it.program)}
+    with open(steps, encoding="ascii") as file:
+        base = int(file.readline().split()[1], 16) - int.from_bytes(it.program.data[24:32], "little")
+        for line in file:
+            first, second, times = line.split()
+            one, other = int(first, 16) - base, int(second, 16) - base
+            what, fits = step(it, one, other, pads)
+            sums[what] += int(times)
+            if not fits:
+                bad[(what, one, other)] += int(times)
+    print(f"functions {len(it.functions)} blocks {len(it.by_start)} edges {sum(map(len, it.pairs))}; "
+          + ", ".join(f"{what} {n}" for what, n in sorted(sums.items())), file=out)
+    for (what, one, other), times in bad.most_common(20):
+        print(f"  {what}: {one:#x} {other:#x} {times} times", file=out)
+    return len(bad) + sum(bool(unreached or unending) for unreached, unending in map(stuck, it.functions))
+
+
+def step(it, one, other, pads):
+    """What a step from one instruction to the next one that ran is, and whether the block text has it."""
+    f, g = it.function(one), it.function(other)
+    left, right = it.block(one), it.block(other)
+    if f is not None and f == g:
+        if left and left == right and one < other:
+            return "inside a block", True
+        what = it.branch(one, other)
+        return what, what in ("edge", "call of itself", "return to itself")
+    if f is not None and it.instruction(one) != "call":
+        return "leaves", bool(left) and it.functions[f].blocks[left[3]][2]
+    if g is not None and it.instruction(one) != "return":
+        return "arrives", other == it.functions[g].blocks[0][0] or other in pads or it.program.section_of(one) is None and it.behind_call(other)
+    return "elsewhere", True
+
+
+def judge_same(binary, text, other, out=sys.stdout):
+    """Compares the edges by the code with those by the map, whose blocks may hold two jumps."""
+    code, mapped, bad, same, ended = Judge(binary, text), Judge(binary, other), [], 0, 0
+    found = collections.defaultdict(set)
+    for f, function in enumerate(code.functions):
+        for one, two in function.edges:
+            left, right = mapped.block(function.blocks[one][1] - 1), mapped.block(function.blocks[two][0])
+            if left is None or right is None:
+                if function.blocks[0][0] in mapped.listed:
+                    bad.append(("by the code, in no block of the map", function, function.blocks[one][0], function.blocks[two][0]))
+                continue
+            found[left[2]].add((left[3], right[3]))
+            inside = left == right and function.blocks[one][1] == function.blocks[two][0]
+            if not inside and (right[0] != function.blocks[two][0] or (left[3], right[3]) not in mapped.pairs[left[2]]):
+                bad.append(("by the code alone", function, function.blocks[one][0], function.blocks[two][0]))
+            same += 1
+    for f, function in enumerate(mapped.functions):
+        for one, two in function.edges:
+            if (one, two) in found[f]:
+                continue
+            if code.block(function.blocks[two][0]) == code.block(function.blocks[one][1] - 1) is not None:
+                same += 1
+            elif code.ends_within(*function.blocks[one][:2]):
+                ended += 1
+            else:
+                bad.append(("by the map alone", function, function.blocks[one][0], function.blocks[two][0]))
+    print(f"functions {len(mapped.functions)} edges {same} of {sum(map(len, mapped.pairs))}, {ended} behind calls that do not return, "
+          f"{len(bad)} of one text alone", file=out)
+    for what, function, one, two in bad[:20]:
+        print(f"  {what}: {one:#x} {two:#x} in {function.name}", file=out)
+    return len(bad)
+
+
 if __name__ == "__main__":
-    options = [it for it in sys.argv[1:] if it.startswith("--map=")]
+    options = [it for it in sys.argv[1:] if it.startswith("--")]
     words = [it for it in sys.argv[1:] if not it.startswith("--")]
     if len(words) != 3:
         sys.exit(__doc__)
+    if options == ["--same"]:
+        sys.exit(1 if judge_same(*words) else 0)
+    if options == ["--steps"]:
+        sys.exit(1 if judge_steps(*words) else 0)
     sys.exit(1 if judge(*words, name=options[0][6:] if options else None) else 0)

@@ -296,7 +296,7 @@ def step(it, one, other, pads):
     f, g = it.function(one), it.function(other)
     left, right = it.block(one), it.block(other)
     if f is not None and f == g:
-        if left and left == right and one < other:
+        if left and left == right and one <= other:
             return "inside a block", True
         what = it.branch(one, other)
         return what, what in ("edge", "call of itself", "return to itself")

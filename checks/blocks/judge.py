@@ -12,17 +12,14 @@ are moreover entered at block 0 and left by exits and calls alone.
 """
 import bisect
 import collections
-import importlib.machinery
-import importlib.util
 import os
 import re
 import sys
 
-TOP = os.path.dirname(os.path.dirname(os.path.dirname(os.path.abspath(__file__))))
-LOADER = importlib.machinery.SourceFileLoader("blocks", f"{TOP}/contrib/blocks")
 sys.dont_write_bytecode = True
-blocks = importlib.util.module_from_spec(importlib.util.spec_from_loader("blocks", LOADER))
-LOADER.exec_module(blocks)
+sys.path.insert(0, f"{os.path.dirname(os.path.abspath(__file__))}/../../contrib")
+from block_text.exceptions import landing_pads  # noqa: E402
+from block_text.program import Functions, Program  # noqa: E402
 
 Function = collections.namedtuple("Function", "name blocks edges")
 BOUND = re.compile(r"(?:never|ran|lo=\d+|hi=\d+|lo=\d+ hi=\d+)?")
@@ -161,8 +158,8 @@ class Judge:
     """One program with its block text."""
 
     def __init__(self, binary, text):
-        self.program = blocks.Program(binary)
-        self.symbols = blocks.Functions(self.program)
+        self.program = Program(binary)
+        self.symbols = Functions(self.program)
         self.functions = read_text(text)
         self.by_start = sorted((low, high, f, n) for f, it in enumerate(self.functions) for n, (low, high, _) in enumerate(it.blocks))
         self.starts = [it[0] for it in self.by_start]
@@ -274,7 +271,7 @@ def judge(binary, text, perf, name=None, out=sys.stdout):
 def judge_steps(binary, text, steps, out=sys.stdout):
     """Prints the sums of a program, and gives how much does not fit."""
     it, sums, bad = Judge(binary, text), collections.Counter(), collections.Counter()
-    pads = {pad for _, _, pad in blocks.landing_pads(it.program)}
+    pads = {pad for _, _, pad in landing_pads(it.program)}
     with open(steps, encoding="ascii") as file:
         base = int(file.readline().split()[1], 16) - int.from_bytes(it.program.data[24:32], "little")
         for line in file:

@@ -205,6 +205,8 @@ class Tables:
         if operand not in REGISTERS:
             return bool(INDEXED.search(operand))
         for _, word, operands, _ in reversed(self.lines[max(0, k - NEAR):k]):
+            if word.startswith(("j", "call", "ret", "pop", "leave")) or operands and operands[-1] == "%rsp":
+                return False
             if operands and operands[-1] == operand and not NO_CHANGE.match(word):
                 added = word.startswith("add") and "(" not in operands[0]
                 return added or bool(INDEXED.search(operands[0]))
@@ -338,4 +340,4 @@ class Tables:
 
 def number(text):
     value = int(text, 16)
-    return value - (1 << 64) if value >> 63 else value
+    return value - (1 << 64) if value >= 1 << 63 else value

@@ -15,8 +15,8 @@ class BlockMap:
         try:
             for section in program.sections:
                 if section.kind == BLOCK_MAP:
-                    piece = Bytes(program.data[:section.offset + section.size], section.offset, 0)
-                    while piece.at < len(piece.data):
+                    piece = Bytes(program.data, section.offset, 0)
+                    while piece.at < section.offset + section.size:
                         self.read(piece)
         except (struct.error, IndexError) as fault:
             raise Refused(f"the program's map of basic blocks is damaged: {fault}") from None

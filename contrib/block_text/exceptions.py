@@ -73,7 +73,7 @@ def landing_pads(program):
 def frame_head(entry):
     """How the frames of this head write addresses, and how they point to the tables of exceptions."""
     entry.at += 1
-    end = entry.data.index(b"\0", entry.at)
+    end = entry.data.find(b"\0", entry.at)
     letters = entry.data[entry.at:end].decode("latin-1")
     entry.at = end + 1
     entry.uleb(), entry.sleb(), entry.uleb()

@@ -1,6 +1,8 @@
 """The file of a program: its sections, symbols and relocations, and the functions with their parts."""
 import bisect
 import collections
+import mmap
+import os
 import re
 import struct
 
@@ -24,7 +26,8 @@ class Program:
 
     def __init__(self, path):
         with open(path, "rb") as file:
-            self.data = file.read()
+            whole = os.fstat(file.fileno()).st_size if os.path.isfile(path) else 0
+            self.data = mmap.mmap(file.fileno(), 0, access=mmap.ACCESS_READ) if whole else b""
         if self.data[:4] != b"\x7fELF":
             raise Refused(f"{path} is no ELF file")
         if self.data[4:6] != b"\x02\x01" or len(self.data) < 64 or struct.unpack_from("<H", self.data, 18)[0] != 62:
@@ -55,7 +58,10 @@ class Program:
         self.starts = [it.address for it in self.loaded]
 
     def name_at(self, offset):
-        return text_of(self.data[offset:self.data.index(b"\0", offset)])
+        end = self.data.find(b"\0", offset)
+        if end < 0:
+            raise ValueError("a name has no end")
+        return text_of(self.data[offset:end])
 
     def read_symbols(self):
         """The functions by address with all their names, and the sized objects."""

@@ -161,7 +161,8 @@ class Judge:
         self.program = Program(binary)
         self.symbols = Functions(self.program)
         self.functions = read_text(text)
-        self.by_start = sorted((low, high, f, n) for f, it in enumerate(self.functions) for n, (low, high, _) in enumerate(it.blocks))
+        self.by_start = sorted((low, high, f, n) for f, it in enumerate(self.functions)
+                               for n, (low, high, _) in enumerate(it.blocks))
         self.starts = [it[0] for it in self.by_start]
         self.pairs = [set(it.edges) for it in self.functions]
         self.listed = {it.blocks[0][0]: f for f, it in enumerate(self.functions)}
@@ -300,7 +301,8 @@ def step(it, one, other, pads):
     if f is not None and it.instruction(one) != "call":
         return "leaves", bool(left) and it.functions[f].blocks[left[3]][2]
     if g is not None and it.instruction(one) != "return":
-        return "arrives", other == it.functions[g].blocks[0][0] or other in pads or it.program.section_of(one) is None and it.behind_call(other)
+        back = it.program.section_of(one) is None and it.behind_call(other)
+        return "arrives", other == it.functions[g].blocks[0][0] or other in pads or back
     return "elsewhere", True
 
 

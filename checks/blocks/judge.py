@@ -200,7 +200,7 @@ class Judge:
         piece = next(filter(None, (self.program.read(address, size) for size in (4, 3, 2, 1))), b"")
         while piece[:1] in (b"\xf2", b"\xf3", b"\x3e", b"\x66") or piece[:1] and piece[0] >> 4 == 4:
             piece = piece[1:]
-        if piece[:1] == b"\xe8" or piece[:1] == b"\xff" and piece[1] >> 3 & 7 == 2:
+        if piece[:1] == b"\xe8" or piece[:1] == b"\xff" and len(piece) > 1 and piece[1] >> 3 & 7 == 2:
             return "call"
         return "return" if piece[:1] in (b"\xc3", b"\xc2") else "jump"
 
@@ -301,8 +301,9 @@ def step(it, one, other, pads):
     if f is not None and it.instruction(one) != "call":
         return "leaves", bool(left) and it.functions[f].blocks[left[3]][2]
     if g is not None and it.instruction(one) != "return":
-        back = it.program.section_of(one) is None and it.behind_call(other)
-        return "arrives", other == it.functions[g].blocks[0][0] or other in pads or back
+        if other == it.functions[g].blocks[0][0] or other in pads:
+            return "arrives", True
+        return "arrives", it.program.section_of(one) is None and it.behind_call(other)
     return "elsewhere", True
 
 

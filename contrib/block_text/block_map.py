@@ -1,0 +1,82 @@
+"""The functions of a program by the map of basic blocks that clang writes."""
+import struct
+
+from block_text.exceptions import Bytes
+from block_text.program import Refused
+
+BLOCK_MAP = 0x6FFF4C0A
+
+
+class BlockMap:
+    """The map of basic blocks that clang writes (LLVM, "SHT_LLVM_BB_ADDR_MAP Section"), with their successors."""
+
+    def __init__(self, program):
+        self.program, self.functions = program, {}
+        try:
+            for section in program.sections:
+                if section.kind == BLOCK_MAP:
+                    piece = Bytes(program.data, section.offset, 0)
+                    while piece.at < section.offset + section.size:
+                        self.read(piece)
+        except (struct.error, IndexError) as fault:
+            raise Refused(f"the program's map of basic blocks is damaged: {fault}") from None
+
+    def read(self, piece):
+        version, features = piece.number("<B"), piece.number("<B")
+        if version != 2 or features & ~15:
+            raise Refused(f"the program's map of basic blocks has version {version} with features {features:#x}: only version 2 "
+                          "is known, as clang 19 writes it; --code does without")
+        blocks = []
+        for _ in range(piece.uleb() if features & 8 else 1):
+            at = piece.number("<Q")
+            for _ in range(piece.uleb()):
+                name, gap, size, what = piece.uleb(), piece.uleb(), piece.uleb(), piece.uleb()
+                blocks.append([name, at + gap, at + gap + size, what])
+                at += gap + size
+        if features & 1:
+            piece.uleb()
+        follow = {}
+        if features & 6:
+            for name, _, _, _ in blocks:
+                if features & 2:
+                    piece.uleb()
+                if features & 4:
+                    follow[name] = [(piece.uleb(), piece.uleb())[0] for _ in range(piece.uleb())]
+        if blocks and features & 4:
+            self.functions[blocks[0][1]] = (blocks, follow)
+
+    def blocks(self, at):
+        """Rows [low, high, successors, exit] in the order of the map; and comment lines."""
+        blocks, follow = self.functions[at]
+        starts, notes = {}, []
+        for k in range(len(blocks) - 1, -1, -1):
+            name, low, high, what = blocks[k]
+            following = blocks[k + 1] if k + 1 < len(blocks) else None
+            starts[name] = low
+            if low == high and following is not None:
+                starts[name] = starts[following[0]]
+        rows, inside = [], {low for _, low, _, _ in blocks}
+        for k, (name, low, high, what) in enumerate(blocks):
+            if low == high:
+                continue
+            leaves = bool(what & 3) or self.tail_branch(low, high, inside)
+            if what & 8 and k + 1 < len(blocks) and high < blocks[k + 1][1] < high + 64:
+                high = blocks[k + 1][1]
+            there = [starts[it] for it in follow[name]]
+            if what & 16 and not there:
+                notes.append(f"block at {low:#x} ends in a jump that leads to places that are not known: exit")
+            rows.append([low, high, there, leaves])
+        return rows, notes
+
+    def tail_branch(self, low, high, inside):
+        """Whether a block ends in a conditional tail call, alone or in front of a jump; the map tells of others."""
+        code = self.program.read(low, high - low) or b""
+        for size in (0, 2, 5):
+            at = len(code) - size - 6
+            if at < 0 or size == 2 and code[-2] != 0xEB or size == 5 and code[-5] != 0xE9:
+                continue
+            if code[at] == 0x0F and code[at + 1] >> 4 == 8:
+                target = high - size + struct.unpack_from("<i", code, at + 2)[0]
+                if target in self.program.names and target not in inside:
+                    return True
+        return False

@@ -1,0 +1,119 @@
+"""The landing pads of a program, by its tables of exceptions."""
+import struct
+
+from block_text.program import NOBITS, Refused
+
+class Bytes:
+    """A place in the bytes of a section, and what is read from there."""
+
+    def __init__(self, data, at, bias):
+        self.data, self.at, self.bias = data, at, bias
+
+    def number(self, form):
+        value, = struct.unpack_from(form, self.data, self.at)
+        self.at += struct.calcsize(form)
+        return value
+
+    def uleb(self):
+        value = shift = 0
+        while True:
+            byte = self.data[self.at]
+            self.at += 1
+            value |= (byte & 127) << shift
+            shift += 7
+            if byte < 128:
+                return value
+
+    def sleb(self):
+        start = self.at
+        value = self.uleb()
+        bits = 7 * (self.at - start)
+        return value - (1 << bits) if value >> (bits - 1) & 1 else value
+
+    def pointer(self, encoding):
+        """A pointer as .eh_frame writes it (LSB, "DWARF Exception Header Encoding"), none where it is left out."""
+        if encoding == 0xFF:
+            return None
+        start = self.at
+        kind = encoding & 15
+        value = self.uleb() if kind == 1 else self.sleb() if kind == 9 else self.number(
+            {0: "<Q", 2: "<H", 3: "<I", 4: "<Q", 10: "<h", 11: "<i", 12: "<q"}[kind])
+        if value and encoding & 0x70 == 0x10:
+            value += start + self.bias
+        return value % (1 << 64)
+
+
+def landing_pads(program):
+    """For each stretch of calls with a landing pad: its first address, its end, and the pad; by first address."""
+    frames = next((it for it in program.sections if it.name == ".eh_frame" and it.kind != NOBITS), None)
+    if frames is None:
+        return []
+    found, heads = [], {}
+    try:
+        at, end = frames.offset, frames.offset + frames.size
+        while at + 4 <= end:
+            size, = struct.unpack_from("<I", program.data, at)
+            if size == 0:
+                at += 4
+                continue
+            if size == 0xFFFFFFFF:
+                raise Refused("the program's .eh_frame is above 4 GB")
+            entry = Bytes(program.data, at + 4, frames.address - frames.offset)
+            link = entry.number("<I")
+            if link == 0:
+                heads[at] = frame_head(entry)
+            elif at + 4 - link in heads:
+                read_frame(program, entry, heads[at + 4 - link], found)
+            at += 4 + size
+    except (struct.error, IndexError, KeyError, ValueError) as fault:
+        raise Refused(f"the program's tables of exceptions are damaged: {fault}") from None
+    return sorted(found)
+
+
+def frame_head(entry):
+    """How the frames of this head write addresses, and how they point to the tables of exceptions."""
+    entry.at += 1
+    end = entry.data.find(b"\0", entry.at)
+    letters = entry.data[entry.at:end].decode("latin-1")
+    entry.at = end + 1
+    entry.uleb(), entry.sleb(), entry.uleb()
+    addresses, tables = 0, 0xFF
+    if letters.startswith("z"):
+        entry.uleb()
+        for letter in letters[1:]:
+            if letter == "R":
+                addresses = entry.number("<B")
+            elif letter == "L":
+                tables = entry.number("<B")
+            elif letter == "P":
+                entry.pointer(entry.number("<B"))
+    return letters, addresses, tables
+
+
+def read_frame(program, entry, head, found):
+    letters, addresses, tables = head
+    start = entry.pointer(addresses)
+    length = entry.pointer(addresses & 15)
+    if tables == 0xFF or not letters.startswith("z"):
+        return
+    entry.uleb()
+    table = entry.pointer(tables)
+    section = program.section_of(table) if table else None
+    if section is None:
+        return
+    calls = Bytes(program.data, table - section.address + section.offset, section.address - section.offset)
+    base = calls.pointer(calls.number("<B"))
+    if calls.number("<B") != 0xFF:
+        calls.uleb()
+    encoding = calls.number("<B") & 15
+    end = calls.uleb()
+    end += calls.at
+    before = 0
+    while calls.at < end:
+        low, size, pad = calls.pointer(encoding), calls.pointer(encoding), calls.pointer(encoding)
+        calls.uleb()
+        if low < before or low + size > length:
+            return  # a table for each part of a function, and this one's length goes to the end of the last
+        before = low + size
+        if pad:
+            found.append((start + low, start + low + size, (start if base is None else base) + pad))

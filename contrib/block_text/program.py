@@ -1,0 +1,197 @@
+"""The file of a program: its sections, symbols and relocations, and the functions with their parts."""
+import bisect
+import collections
+import mmap
+import os
+import re
+import struct
+
+PART_NAME = re.compile(r"(.+?)\.(?:cold|__part|eh)(?:\.\d+)*$")
+
+class Refused(Exception):
+    """What the user is told in one line."""
+
+
+Section = collections.namedtuple("Section", "name kind flags address offset size link entry")
+ALLOC, EXECUTE, WRITE = 2, 4, 1
+NOBITS, SYMBOLS, RELA, DYNAMIC_SYMBOLS = 8, 2, 4, 11
+
+
+def text_of(raw):
+    return raw.decode("utf-8", "surrogateescape")
+
+
+class Program:
+    """Sections, symbols and relocations of an ELF file for x86-64."""
+
+    def __init__(self, path):
+        with open(path, "rb") as file:
+            whole = os.fstat(file.fileno()).st_size if os.path.isfile(path) else 0
+            self.data = mmap.mmap(file.fileno(), 0, access=mmap.ACCESS_READ) if whole else b""
+        if self.data[:4] != b"\x7fELF":
+            raise Refused(f"{path} is no ELF file")
+        if self.data[4:6] != b"\x02\x01" or len(self.data) < 64 or struct.unpack_from("<H", self.data, 18)[0] != 62:
+            raise Refused(f"{path} is not a program for x86-64")
+        if struct.unpack_from("<H", self.data, 16)[0] not in (2, 3):
+            raise Refused(f"{path} is not linked: give the program")
+        try:
+            self.read_sections()
+            self.read_symbols()
+            self.read_relocations()
+        except (struct.error, IndexError, ValueError) as fault:
+            raise Refused(f"{path} is damaged: {fault}") from None
+
+    def read_sections(self):
+        at, = struct.unpack_from("<Q", self.data, 40)
+        size, count, names = struct.unpack_from("<HHH", self.data, 58)
+        if not at:
+            raise Refused("the program has no sections")
+        first = struct.unpack_from("<IIQQQQIIQQ", self.data, at)
+        count, names = count or first[5], first[6] if names == 0xFFFF else names
+        rows = [struct.unpack_from("<IIQQQQIIQQ", self.data, at + size * k) for k in range(count)]
+        base = rows[names][4]
+        self.sections = []
+        for name, kind, flags, address, offset, length, link, _, _, entry in rows:
+            self.sections.append(Section(self.name_at(base + name), kind, flags, address, offset, length, link, entry))
+        self.loaded = sorted((it for it in self.sections if it.flags & ALLOC and it.kind != NOBITS and it.size),
+                             key=lambda it: it.address)
+        self.starts = [it.address for it in self.loaded]
+
+    def name_at(self, offset):
+        end = self.data.find(b"\0", offset)
+        if end < 0:
+            raise ValueError("a name has no end")
+        return text_of(self.data[offset:end])
+
+    def read_symbols(self):
+        """The functions by address with all their names, and the sized objects."""
+        tables = [it for it in self.sections if it.kind == SYMBOLS] or [it for it in self.sections if it.kind == DYNAMIC_SYMBOLS]
+        self.names, self.sizes, objects = {}, {}, []
+        for table in tables:
+            base = self.sections[table.link].offset
+            piece = self.data[table.offset:table.offset + table.size // 24 * 24]
+            for name, info, _, index, value, size in struct.iter_unpack("<IBBHQQ", piece):
+                if not index or index >= len(self.sections):
+                    continue
+                # clang gives the parts of a function no type.
+                part = info & 15 == 0 and size and PART_NAME.match(self.name_at(base + name))
+                if info & 15 in (2, 10) or part:
+                    rank = ({1: 0, 2: 1}.get(info >> 4, 2), size == 0, len(self.names))
+                    self.names.setdefault(value, []).append((rank, self.name_at(base + name)))
+                    self.sizes[value] = max(size, self.sizes.get(value, 0))
+                elif info & 15 == 1 and size:
+                    objects.append((value, value + size))
+        self.exported = {name: at for at, names in self.names.items() for rank, name in names if rank[0] < 2}
+        self.names = {at: list(dict.fromkeys(name for _, name in sorted(names))) for at, names in self.names.items()}
+        self.objects = sorted(set(objects))
+
+    def read_relocations(self):
+        """What the loader fills in: addresses of the program, and the names that slots stand for."""
+        self.slots, pieces = {}, []
+        for section in self.sections:
+            if section.kind != RELA or not section.flags & ALLOC:
+                continue
+            piece = self.data[section.offset:section.offset + section.size // 24 * 24]
+            pieces.append(piece)
+            symbols = self.sections[section.link]
+            names = self.sections[symbols.link].offset
+            for address, info, _ in struct.iter_unpack("<QQq", piece):
+                if info & 0xFFFFFFFF in (6, 7):
+                    name, = struct.unpack_from("<I", self.data, symbols.offset + 24 * (info >> 32))
+                    self.slots[address] = self.name_at(names + name)
+        self.pieces, self.filled_in = pieces, None
+
+    def filled(self, address):
+        if self.filled_in is None:
+            self.filled_in = {at: add for piece in self.pieces for at, info, add in struct.iter_unpack("<QQq", piece)
+                              if info & 0xFFFFFFFF == 8}
+        return self.filled_in.get(address)
+
+    def section_of(self, address):
+        k = bisect.bisect_right(self.starts, address) - 1
+        if k >= 0 and address < self.loaded[k].address + self.loaded[k].size:
+            return self.loaded[k]
+        return None
+
+    def read(self, address, size):
+        section = self.section_of(address)
+        if section is None or address + size > section.address + section.size:
+            return None
+        at = section.offset + address - section.address
+        return self.data[at:at + size]
+
+    def word(self, address):
+        """The 8 bytes there, as they are once the program is loaded."""
+        piece = self.read(address, 8)
+        if piece is None or len(piece) < 8:
+            return None
+        value = int.from_bytes(piece, "little")
+        return (self.filled(address) or 0) if value == 0 and self.pieces else value
+
+    def is_data(self, address):
+        section = self.section_of(address)
+        return section is not None and not section.flags & EXECUTE
+
+    def is_fixed(self, address):
+        """Whether the bytes there stay what they are."""
+        section = self.section_of(address)
+        return section is not None and (not section.flags & WRITE or section.name.startswith((".data.rel.ro", ".got")))
+
+    def object_end(self, address):
+        """Where the object ends that holds the address, and where the next one begins."""
+        k = bisect.bisect_right(self.objects, (address, 1 << 64)) - 1
+        held = self.objects[k][1] if k >= 0 and self.objects[k][1] > address else None
+        return held, self.objects[k + 1][0] if k + 1 < len(self.objects) else None
+
+    def called_by_stub(self, address):
+        """The name that a stub at this address jumps to by its slot."""
+        piece = self.read(address, 16) or b""
+        k = piece.find(b"\xff\x25", 0, 11)
+        if k < 0 or len(piece) < k + 6:
+            return None
+        return self.slots.get(address + k + 6 + struct.unpack_from("<i", piece, k + 2)[0])
+
+
+class Functions:
+    """The code that belongs to each function: the part with its entry, and parts that were laid out elsewhere."""
+
+    def __init__(self, program):
+        code = sorted((it for it in program.loaded if it.flags & EXECUTE), key=lambda it: it.address)
+        if not code:
+            raise Refused("the program has no code")
+        self.entries, self.ends = [], []
+        addresses = sorted(at for at in program.names if any(it.address <= at < it.address + it.size for it in code))
+        if not addresses:
+            raise Refused("the program has no symbols of functions: give it as it was before it was stripped")
+        for k, at in enumerate(addresses):
+            section = next(it for it in code if it.address <= at < it.address + it.size)
+            end = section.address + section.size
+            if k + 1 < len(addresses):
+                end = min(end, addresses[k + 1])
+            if program.sizes[at]:
+                end = min(end, at + program.sizes[at])
+            self.entries.append(at)
+            self.ends.append(end)
+        self.names = [program.names[at] for at in addresses]
+        self.parents = self.find_parents()
+
+    def find_parents(self):
+        """For each part that may be one of another function, these functions, by their names."""
+        by_name = {}
+        for k, names in enumerate(self.names):
+            for name in names:
+                by_name.setdefault(name, []).append(k)
+        parents = {}
+        for k, names in enumerate(self.names):
+            found = [it for it in map(PART_NAME.match, names) if it and it[1] in by_name]
+            if len(found) == len(names):
+                parents[k] = sorted({there for it in found for there in by_name[it[1]]})
+        return parents
+
+    def holding(self, address):
+        k = bisect.bisect_right(self.entries, address) - 1
+        return k if k >= 0 and address < self.ends[k] else -1
+
+    def at_entry(self, address):
+        k = bisect.bisect_left(self.entries, address)
+        return k if k < len(self.entries) and self.entries[k] == address else -1

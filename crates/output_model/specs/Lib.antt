@@ -1,3 +1,4 @@
+pub mod Built
+pub mod Output
 pub mod Program
 pub mod Sampled
-pub mod Output

@@ -24,7 +24,7 @@ use Rattle.flow_solver.specs.Solved.{Solves}
 use Rattle.repair_model.specs.Text.{repair_text}
 use Rattle.repair_text.specs.Repair.{IsOf, repair_by}
 use Rattle.weight_model.specs.Blocks.{IsWeightOf}
-use Rattle.repair_maker.specs.Made.{AreRepairsOf, EdgeTold, IsRepairOf, Repairs, weighed_edges}
+use Rattle.repair_model.specs.Made.{AreRepairsOf, EdgeTold, IsRepairOf, Repairs, weighed_edges}
 
 -- What holds of a good answer, by what the answer says.
 pub on_ok : {T E P Q : Type 0} (r : Result T E) → OnOk r P → (P → Q) → OnOk r Q

@@ -6,7 +6,8 @@ ghost use Rattle.flow_model.specs.Sound.{IsSound};
 ghost use Rattle.block_weights.specs.Counts.{count_in};
 ghost use Rattle.cfg_text.specs.Fun.{function_of};
 ghost use Rattle.key_types.specs.Segments.{AreSegments, key_told};
-ghost use Rattle.repair_maker.specs.Made.{AreRepairsOf, IsRepairOf, edges_told};
+ghost use Rattle.repair_model.specs.Made.{AreRepairsOf, IsRepairOf};
+ghost use Rattle.repair_maker.specs.Told.{edges_told};
 
 use crate::weighed::weighed;
 use block_weights::{EdgeSamples, weights};

@@ -1,7 +1,8 @@
 // The weights of the edges of a function, where they are asked for.
 ghost use Rattle.std.specs.Prelude.{◌≡◌, [], IfOk, None, length};
 ghost use Rattle.flow_model.specs.Sound.{AreWeights};
-ghost use Rattle.repair_maker.specs.Made.{edges_told, weighed_edges};
+ghost use Rattle.repair_model.specs.Made.{weighed_edges};
+ghost use Rattle.repair_maker.specs.Told.{edges_told};
 
 use block_weights::{EdgeSamples, Weight, edge_weights};
 use cfg_text::Fun;

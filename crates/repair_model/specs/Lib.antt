@@ -1,5 +1,6 @@
 pub mod Judging
 pub mod Laws
 pub mod Line
+pub mod Made
 pub mod Repair
 pub mod Text

@@ -1,6 +1,6 @@
 use Rattle.block_weights.specs.Counts.{count_in}
 use Rattle.key_types.specs.Segments.{key_told}
-use Rattle.repair_maker.specs.Made.{edges_told}
+use Rattle.repair_maker.specs.Told.{edges_told}
 use Rattle.repair_maker.proofs.RepairLemmas.{WrittenSoFar}
 use Rattle.repair_maker.proofs.maker.write.Given as goal
 

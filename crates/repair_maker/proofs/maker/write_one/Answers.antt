@@ -7,7 +7,8 @@ use Rattle.flow_model.specs.Network.{network_of}
 use Rattle.key_types.specs.Segments.{key_told}
 use Rattle.repair_model.specs.Text.{repair_text}
 use Rattle.repair_text.specs.Repair.{repair_by}
-use Rattle.repair_maker.specs.Made.{edges_told, weighed_edges}
+use Rattle.repair_model.specs.Made.{weighed_edges}
+use Rattle.repair_maker.specs.Told.{edges_told}
 use Rattle.repair_maker.proofs.RepairLemmas.{block_arcs_are, edge_arcs_are, made_of, on_ok}
 use Rattle.repair_maker.proofs.maker.write_one.Goals as goal
 

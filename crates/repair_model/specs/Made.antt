@@ -1,34 +1,25 @@
 -- The repairs of functions by what samples say of their blocks and edges.
 use Rattle.std.specs.Prelude.{◌≡◌, ◌<◌, ℕ, true, List, [], ◌∷◌, ◌++◌, map, Option, None, Some, is_some, pos}
-use Rattle.std.specs.Borrow.{Bor}
 use Rattle.std.specs.List.{AllZip}
-use Rattle.std.specs.Option.{option_map}
 use Rattle.block_model.specs.declared.parts.Block.{Block}
 use Rattle.block_model.specs.declared.parts.Edge.{Edge}
 use Rattle.block_model.specs.declared.parts.Weight.{Weight}
 use Rattle.block_model.specs.declared.parts.Weight.TheVariants.{Unknown}
 use Rattle.block_model.specs.Function.{Function}
-use Rattle.profile_model.specs.Steps.{hits_by}
 use Rattle.flow_model.specs.Cut.{least_in, most_out}
 use Rattle.flow_model.specs.Network.{Network, arcs_of, network_of}
 use Rattle.flow_model.specs.Repair.{AreLeast, FitCounts, cost_of}
-use Rattle.flow_network.specs.Flow.{AreSides, at_side}
+use Rattle.flow_model.specs.Sides.{AreSides, at_side}
 use Rattle.repair_model.specs.Repair.{Repair, Solution, flow, cut, has_counts}
 use Rattle.repair_model.specs.Text.{repair_text}
 use Rattle.weight_model.specs.Blocks.{IsWeightOf}
-use Rattle.weight_model.specs.Edges.{taken, weight_by}
-use Rattle.block_weights.specs.Sampled.{Sampled}
+use Rattle.weight_model.specs.Edges.{weight_by}
 
 -- What tells the weight of an edge: how often branches led from a block to an address, and how often ranges ran past
 -- one.
 pub record EdgeTold : Type 0 where
   pub taken : Block → ℕ → ℕ
   pub passed : ℕ → ℕ
-
--- What samples of edges tell, if they are given.
-abbrev pub edges_told : Option (Bor Sampled) → Option EdgeTold
-edges_told edges = option_map
-    (λ samples. record { taken = taken samples.now.branches; passed = hits_by samples.now.passing }) edges
 
 -- The weights of a function's edges, by those of its blocks; unknown where edges are not weighed.
 abbrev pub weighed_edges : Option EdgeTold → List Block → List Edge → List Weight → List Weight

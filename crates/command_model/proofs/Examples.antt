@@ -15,7 +15,7 @@ use Rattle.command_model.specs.Answer.Answer.{usage, no_such_file, refused, writ
 use Rattle.command_model.specs.Files.{IsOutput}
 use Rattle.profile_model.specs.Ways.{to_function, to_body, to_call}
 use Rattle.binary_model.specs.Places.{outside, nameless, no_line, at_way}
-use Rattle.command_model.specs.Command.{address_of as address_asked, command_of, counts, where_, profile}
+use Rattle.command_model.specs.Command.{address_of as address_asked, command_of, counts, where_, profile, build}
 use Rattle.command_model.specs.Options.{Options, map_name, options_of}
 use Rattle.command_model.specs.Counts.{counts_text}
 use Rattle.command_model.specs.Where.{where_text}
@@ -42,10 +42,10 @@ unfolding command_of
 words = (refl, refl, refl, refl, refl)
 
 abbrev plain : Options
-plain = record { map = None; base = false }
+plain = record { map = None; base = false; edges = false }
 
 abbrev based : Options
-based = record { map = None; base = true }
+based = record { map = None; base = true; edges = false }
 
 -- an option stands in front, once
 words_of_where : (command_of (codes "where" ∷ codes "a" ∷ codes "0x1F" ∷ []) ≡ Some (where_ plain (codes "a") 0x1f))
@@ -60,8 +60,8 @@ words_of_where = (refl, refl, refl, refl, refl, refl, refl)
 
 -- options in any order, each once, and a name that is not empty
 words_of_profile : (command_of (codes "profile" ∷ codes "a" ∷ codes "p" ∷ []) ≡ Some (profile plain (codes "a") (codes "p")))
-    × (command_of (codes "profile" ∷ codes "--base" ∷ codes "--map=/bin/x" ∷ codes "a" ∷ codes "p" ∷ []) ≡ Some (profile (record { map = Some (codes "/bin/x"); base = true }) (codes "a") (codes "p")))
-    × (command_of (codes "profile" ∷ codes "--map=y" ∷ codes "a" ∷ codes "p" ∷ []) ≡ Some (profile (record { map = Some (codes "y"); base = false }) (codes "a") (codes "p")))
+    × (command_of (codes "profile" ∷ codes "--base" ∷ codes "--map=/bin/x" ∷ codes "a" ∷ codes "p" ∷ []) ≡ Some (profile (record { map = Some (codes "/bin/x"); base = true; edges = false }) (codes "a") (codes "p")))
+    × (command_of (codes "profile" ∷ codes "--map=y" ∷ codes "a" ∷ codes "p" ∷ []) ≡ Some (profile (record { map = Some (codes "y"); base = false; edges = false }) (codes "a") (codes "p")))
     × (command_of (codes "profile" ∷ codes "--map=" ∷ codes "a" ∷ codes "p" ∷ []) ≡ None)
     × (command_of (codes "profile" ∷ codes "--map=y" ∷ codes "--map=y" ∷ codes "a" ∷ codes "p" ∷ []) ≡ None)
     × (command_of (codes "profile" ∷ codes "--base" ∷ codes "--base" ∷ codes "a" ∷ codes "p" ∷ []) ≡ None)
@@ -69,6 +69,14 @@ words_of_profile : (command_of (codes "profile" ∷ codes "a" ∷ codes "p" ∷ 
     × (command_of (codes "profile" ∷ codes "a" ∷ []) ≡ None)
 unfolding command_of options_of map_name
 words_of_profile = (refl, refl, refl, refl, refl, refl, refl, refl)
+
+-- the same with edges, and three files
+words_of_build : (command_of (codes "build" ∷ codes "--edges" ∷ codes "--base" ∷ codes "a" ∷ codes "p" ∷ codes "c" ∷ []) ≡ Some (build (record { map = None; base = true; edges = true }) (codes "a") (codes "p") (codes "c")))
+    × (command_of (codes "build" ∷ codes "--edges" ∷ codes "--edges" ∷ codes "a" ∷ codes "p" ∷ codes "c" ∷ []) ≡ None)
+    × (command_of (codes "build" ∷ codes "a" ∷ codes "p" ∷ []) ≡ None)
+    × (command_of (codes "build" ∷ codes "--scaled" ∷ codes "a" ∷ codes "p" ∷ codes "c" ∷ []) ≡ None)
+unfolding command_of options_of map_name
+words_of_build = (refl, refl, refl, refl)
 
 -- one to sixteen digits
 addresses : (address_asked (codes "ffffffffffffffff") ≡ Some 0xffffffffffffffff) × (address_asked (codes "0x0000000000401000") ≡ Some 0x401000)

@@ -13,6 +13,8 @@ pub data Command : Type 0 where
   where_ : Options → List ℕ → ℕ → Command
   -- The profile of a binary and a branch text, with the report on it.
   profile : Options → List ℕ → List ℕ → Command
+  -- The same, with a repair of each function of a block text between them.
+  build : Options → List ℕ → List ℕ → List ℕ → Command
 
 -- The digits of an address, which stand behind `0x` or alone.
 abbrev pub digits_of : List ℕ → List ℕ
@@ -31,21 +33,30 @@ counts_of _ _ = None
 abbrev pub where_of : List (List ℕ) → List (List ℕ) → Option Command
 where_of words (bin ∷ hex ∷ []) =
     option_and_then (λ options. option_map (where_ options bin) (address_of hex))
-    (options_of (record { map = false; base = true }) words)
+    (options_of (record { map = false; base = true; edges = false }) words)
 where_of words _ = None
 
 -- `profile [--map=NAME] [--base] BIN PERF`
 abbrev pub profile_of : List (List ℕ) → List (List ℕ) → Option Command
 profile_of words (bin ∷ perf ∷ []) =
-    option_map (λ options. profile options bin perf) (options_of (record { map = true; base = true }) words)
+    option_map (λ options. profile options bin perf)
+    (options_of (record { map = true; base = true; edges = false }) words)
 profile_of words _ = None
+
+-- `build [--map=NAME] [--base] [--edges] BIN PERF CFG`
+abbrev pub build_of : List (List ℕ) → List (List ℕ) → Option Command
+build_of words (bin ∷ perf ∷ cfg ∷ []) =
+    option_map (λ options. build options bin perf cfg)
+    (options_of (record { map = true; base = true; edges = true }) words)
+build_of words _ = None
 
 -- The command of a name, by the words of its options and those behind them.
 abbrev pub command_by : List ℕ → List (List ℕ) → List (List ℕ) → Option Command
 command_by name options operands =
     if bytes_eq name (codes "counts") then counts_of options operands
     else (if bytes_eq name (codes "where") then where_of options operands
-    else (if bytes_eq name (codes "profile") then profile_of options operands else None))
+    else (if bytes_eq name (codes "profile") then profile_of options operands
+    else (if bytes_eq name (codes "build") then build_of options operands else None)))
 
 -- The command that the words spell, if they spell one.
 unfoldable pub command_of : List (List ℕ) → Option Command

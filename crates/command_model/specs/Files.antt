@@ -1,14 +1,26 @@
 -- The files of a command, each with what makes it bad, and what the command makes of good ones.
-use Rattle.std.specs.Prelude.{◌≡◌, ℕ, List, [], ◌∷◌, Option, None, slice_get, unwrap_or}
+use Rattle.std.specs.Prelude.{◌≡◌, ℕ, ◌^◌, List, [], ◌∷◌, Option, None, slice_get, unwrap_or}
 use Rattle.refusal.specs.declared.place.Place.{Place}
+use Rattle.refusal.specs.Place.{first_bad, size_item}
+use Rattle.block_model.specs.Judging as block_model
 use Rattle.sample_model.specs.Judging.{first_bad_of_text}
 use Rattle.sample_model.specs.Samples.{branches_of}
 use Rattle.binary_model.specs.Binary.{first_bad_of_binary}
 use Rattle.binary_model.specs.Places.{place_of_address}
+use Rattle.output_model.specs.Built.{IsBuiltOf}
 use Rattle.output_model.specs.Output.{profile_output}
-use Rattle.command_model.specs.Command.{Command, counts, where_, profile}
+use Rattle.command_model.specs.Command.{Command, counts, where_, profile, build}
 use Rattle.command_model.specs.Counts.{counts_text}
 use Rattle.command_model.specs.Where.{where_text}
+
+-- A block text has at most 2^28 bytes.
+abbrev pub max_block_bytes : ℕ
+max_block_bytes = 2 ^ 28
+
+-- The first bad place of a block text, its size first.
+unfoldable pub first_bad_of_blocks : ℕ → List ℕ → Option Place
+first_bad_of_blocks file text =
+    first_bad (size_item file max_block_bytes text ∷ block_model.first_bad_of_text file text ∷ [])
 
 -- Where the bytes of a file come from.
 pub data Source : Type 0 where
@@ -31,6 +43,8 @@ abbrev pub files_of : Command → List Asked
 files_of (counts perf) = alone perf (first_bad_of_text 1) ∷ []
 files_of (where_ options bin address) = alone bin first_bad_of_binary ∷ []
 files_of (profile options bin perf) = alone bin first_bad_of_binary ∷ alone perf (first_bad_of_text 2) ∷ []
+files_of (build options bin perf cfg) =
+    alone bin first_bad_of_binary ∷ alone perf (first_bad_of_text 2) ∷ alone cfg (first_bad_of_blocks 3) ∷ []
 
 -- The bytes of a file among those of all files, by its number from 0.
 abbrev pub file_at : ℕ → List (List ℕ) → List ℕ
@@ -47,3 +61,5 @@ IsOutput (where_ options bin address) contents text =
     text ≡ where_text (place_of_address (file_at 0 contents) options.base address)
 IsOutput (profile options bin perf) contents text =
     text ≡ profile_output options.map options.base (file_at 0 contents) (file_at 1 contents)
+IsOutput (build options bin perf cfg) contents text =
+    IsBuiltOf options.map options.base options.edges (file_at 0 contents) (file_at 1 contents) (file_at 2 contents) text

@@ -24,11 +24,14 @@ pub record Options : Type 0 where
   pub map : Option (List ℕ)
   -- `--base`: bases stand in place of discriminators.
   pub base : Bool
+  -- `--edges`: edges are weighed, and their weights told.
+  pub edges : Bool
 
 -- Which options a command has.
 pub record Has : Type 0 where
   pub map : Bool
   pub base : Bool
+  pub edges : Bool
 
 -- The name in an option `--map=NAME`, which is not empty.
 unfoldable pub map_name : List ℕ → Option (List ℕ)
@@ -40,13 +43,18 @@ is_map word = is_some (map_name word)
 abbrev pub is_base : List ℕ → Bool
 is_base word = bytes_eq word (codes "--base")
 
+abbrev pub is_edges : List ℕ → Bool
+is_edges word = bytes_eq word (codes "--edges")
+
 -- The word is an option that the command has.
 abbrev pub is_of : Has → List ℕ → Bool
-is_of has word = (has.map && is_map word) || (has.base && is_base word)
+is_of has word = (has.map && is_map word) || ((has.base && is_base word) || (has.edges && is_edges word))
 
 -- Each word is an option that the command has, and none stands twice.
 abbrev pub are_of : Has → List (List ℕ) → Bool
-are_of has words = list_all (is_of has) words && (nat_lt (count_by is_map words) 2 && nat_lt (count_by is_base words) 2)
+are_of has words =
+    list_all (is_of has) words
+    && (nat_lt (count_by is_map words) 2 && (nat_lt (count_by is_base words) 2 && nat_lt (count_by is_edges words) 2))
 
 -- The name in the first of these words that has one.
 abbrev pub first_map : List (List ℕ) → Option (List ℕ)
@@ -56,5 +64,9 @@ first_map words = slice_get (filter_map map_name words) 0
 unfoldable pub options_of : Has → List (List ℕ) → Option Options
 options_of has words =
     if are_of has words
-    then Some (record { map = first_map words; base = nat_lt 0 (count_by is_base words) })
+    then Some (record {
+      map = first_map words;
+      base = nat_lt 0 (count_by is_base words);
+      edges = nat_lt 0 (count_by is_edges words);
+    })
     else None

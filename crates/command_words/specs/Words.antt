@@ -5,7 +5,7 @@ use Rattle.std.specs.Global.{Vec}
 use Rattle.command_model.specs.Command as model
 use Rattle.command_model.specs.Options as options
 use Rattle.command_words.specs.declared.command.Command.{Command}
-use Rattle.command_words.specs.declared.command.Command.TheVariants.{Counts, Where, Profile}
+use Rattle.command_words.specs.declared.command.Command.TheVariants.{Counts, Where, Profile, Build}
 use Rattle.command_words.specs.declared.options.Has.{Has}
 use Rattle.command_words.specs.declared.options.Options.{Options}
 
@@ -15,13 +15,15 @@ texts_of words = map (λ w. w.items) words
 
 -- What options say, apart from where the words lie.
 abbrev pub told_options : Options → options.Options
-told_options said = record { map = option_map (λ name. name.now) said.map; base = said.base }
+told_options said =
+    record { map = option_map (λ name. name.now) said.map; base = said.base; edges = said.edges }
 
 abbrev pub told_has : Has → options.Has
-told_has has = record { map = has.map; base = has.base }
+told_has has = record { map = has.map; base = has.base; edges = has.edges }
 
 -- What is asked for, apart from where the words lie.
 abbrev pub meaning_of : Command → model.Command
 meaning_of (Counts perf) = model.counts perf.now
 meaning_of (Where said binary address) = model.where_ (told_options said) binary.now address
 meaning_of (Profile said binary perf) = model.profile (told_options said) binary.now perf.now
+meaning_of (Build said binary perf blocks) = model.build (told_options said) binary.now perf.now blocks.now

@@ -1,6 +1,6 @@
 ghost use Rattle.std.specs.Prelude.{◌≡◌, ◌≤◌, length};
 ghost use Rattle.std.specs.Option.{option_map};
-ghost use Rattle.command_model.specs.Command.{address_of as address_told, command_of, counts_of, digits_of as digits_told, profile_of, where_of};
+ghost use Rattle.command_model.specs.Command.{address_of as address_told, build_of, command_of, counts_of, digits_of as digits_told, profile_of, where_of};
 ghost use Rattle.command_model.specs.Options.{is_option as option_told, option_count as count_told};
 ghost use Rattle.command_words.specs.Words.{texts_of, meaning_of};
 
@@ -13,11 +13,19 @@ const MOST_DIGITS: usize = 16;
 const WHERE_HAS: Has = Has {
     map: false,
     base: true,
+    edges: false,
 };
 
 const PROFILE_HAS: Has = Has {
     map: true,
     base: true,
+    edges: false,
+};
+
+const BUILD_HAS: Has = Has {
+    map: true,
+    base: true,
+    edges: true,
 };
 
 /// What a user asks for.
@@ -37,6 +45,14 @@ pub enum Command<'a> {
         binary: &'a [u8],
         perf: &'a [u8],
     },
+    /// The profile of this binary and this branch text, a repair of each function of this block
+    /// text, and the report.
+    Build {
+        options: Options<'a>,
+        binary: &'a [u8],
+        perf: &'a [u8],
+        blocks: &'a [u8],
+    },
 }
 
 /// The command that the words spell.
@@ -54,6 +70,8 @@ pub fn parse(words: &[Vec<u8>]) -> Option<Command<'_>>
         parse_where(options, operands)
     } else if name.as_slice() == b"profile".as_slice() {
         parse_profile(options, operands)
+    } else if name.as_slice() == b"build".as_slice() {
+        parse_build(options, operands)
     } else {
         None
     }
@@ -117,6 +135,22 @@ fn parse_profile<'a>(options: &'a [Vec<u8>], operands: &'a [Vec<u8>]) -> Option<
             options: options_of(PROFILE_HAS, options)?,
             binary,
             perf,
+        }),
+        _ => None,
+    }
+}
+
+/// `build [--map=NAME] [--base] [--edges] BIN PERF CFG`
+fn parse_build<'a>(options: &'a [Vec<u8>], operands: &'a [Vec<u8>]) -> Option<Command<'a>>
+    ensures { option_map meaning_of result
+        ≡ build_of (texts_of options.now) (texts_of operands.now) }
+{
+    match operands {
+        [binary, perf, blocks] => Some(Command::Build {
+            options: options_of(BUILD_HAS, options)?,
+            binary,
+            perf,
+            blocks,
         }),
         _ => None,
     }

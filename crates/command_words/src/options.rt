@@ -2,7 +2,7 @@
 ghost use Rattle.std.specs.Prelude.{◌≡◌, ◌≤◌, count_by, length};
 ghost use Rattle.std.specs.List.{list_all};
 ghost use Rattle.std.specs.Option.{option_map};
-ghost use Rattle.command_model.specs.Options.{are_of as are_told, first_map, is_base as base_told, is_map as map_told, is_of as of_told, map_name as name_told, options_of as options_told};
+ghost use Rattle.command_model.specs.Options.{are_of as are_told, first_map, is_base as base_told, is_edges as edges_told, is_map as map_told, is_of as of_told, map_name as name_told, options_of as options_told};
 ghost use Rattle.command_words.specs.Words.{texts_of, told_has, told_options};
 
 /// What the options of a command say. A command without one of them is carried out as where it is
@@ -14,6 +14,8 @@ pub struct Options<'a> {
     pub map: Option<&'a [u8]>,
     /// `--base`: whether bases stand in place of discriminators.
     pub base: bool,
+    /// `--edges`: whether edges are weighed, and their weights told.
+    pub edges: bool,
 }
 
 /// Which options a command has.
@@ -21,6 +23,7 @@ pub struct Options<'a> {
 pub(crate) struct Has {
     pub(crate) map: bool,
     pub(crate) base: bool,
+    pub(crate) edges: bool,
 }
 
 /// What these words say, in any order: each an option that the command has, and none twice.
@@ -34,6 +37,7 @@ pub(crate) fn options_of(has: Has, words: &[Vec<u8>]) -> Option<Options<'_>>
     Some(Options {
         map: map_asked(words),
         base: bases(words) > 0,
+        edges: edges(words) > 0,
     })
 }
 
@@ -41,7 +45,7 @@ pub(crate) fn options_of(has: Has, words: &[Vec<u8>]) -> Option<Options<'_>>
 fn are_of(has: Has, words: &[Vec<u8>]) -> bool
     ensures { result ≡ are_told (told_has has) (texts_of words.now) }
 {
-    all_of(has, words) && maps(words) < 2 && bases(words) < 2
+    all_of(has, words) && maps(words) < 2 && bases(words) < 2 && edges(words) < 2
 }
 
 /// Whether each word is an option that the command has.
@@ -60,7 +64,9 @@ fn all_of(has: Has, words: &[Vec<u8>]) -> bool
 fn is_of(has: Has, word: &[u8]) -> bool
     ensures { result ≡ of_told (told_has has) word.now }
 {
-    (has.map && map_name(word).is_some()) || (has.base && is_base(word))
+    (has.map && map_name(word).is_some())
+        || (has.base && is_base(word))
+        || (has.edges && is_edges(word))
 }
 
 /// How many of the words are `--map=NAME`.
@@ -89,6 +95,19 @@ fn bases(words: &[Vec<u8>]) -> usize
     count
 }
 
+/// How many of the words are `--edges`.
+fn edges(words: &[Vec<u8>]) -> usize
+    ensures { result ≡ count_by edges_told (texts_of words.now) }
+{
+    let mut count = 0;
+    for word in words {
+        if is_edges(word) {
+            count += 1;
+        }
+    }
+    count
+}
+
 /// The first name that a word `--map=NAME` has.
 fn map_asked(words: &[Vec<u8>]) -> Option<&[u8]>
     ensures { option_map (λ name. name.now) result ≡ first_map (texts_of words.now) }
@@ -106,6 +125,13 @@ fn is_base(word: &[u8]) -> bool
     ensures { result ≡ base_told word.now }
 {
     word == b"--base".as_slice()
+}
+
+/// Whether a word is `--edges`.
+fn is_edges(word: &[u8]) -> bool
+    ensures { result ≡ edges_told word.now }
+{
+    word == b"--edges".as_slice()
 }
 
 /// The name in a word `--map=NAME`, which is not empty.

@@ -27,7 +27,8 @@ branches_from sampled block to =
 -- How many ranges that ran hold an address and the one before it.
 abbrev pub ran_past : Program → Sampled → ℕ → ℕ
 ran_past program sampled address =
-    count_by (λ range. is_class Ran (class_of_range program range) && (nat_lt range.0 address && nat_le address range.1))
+    count_by
+    (λ range. is_class Ran (class_of_range program range) && (nat_lt range.0 address && nat_le address range.1))
     sampled.ranges
 
 -- What samples tell of edges, where their weights are asked for.
@@ -36,11 +37,13 @@ edges_of asked program sampled =
     if asked then Some (record { taken = branches_from sampled; passed = ran_past program sampled }) else None
 
 -- A text is the profile of a program and its samples, then for each function, in order, counts that conserve within
--- bounds and cost least, with prices that fit them, or a cut; then the report, which counts each branch once. Which least
--- counts, which prices and which cut are told is free.
-pub record IsBuilt (edges : Bool) (program : Program) (sampled : Sampled) (funs : List Function) (text : List ℕ) : Type 0 where
+-- bounds and cost least, with prices that fit them, or a cut; then the report, which counts each branch once. Which
+-- least counts, which prices and which cut are told is free.
+pub record IsBuilt (edges : Bool) (program : Program) (sampled : Sampled) (funs : List Function) (text : List ℕ)
+    : Type 0 where
   pub repairs : List ℕ
-  pub repaired : AreRepairsOf (way_at program) (count_of_way program sampled) (edges_of edges program sampled) funs repairs
+  pub repaired : AreRepairsOf (way_at program) (count_of_way program sampled) (edges_of edges program sampled)
+      funs repairs
   pub spelled : text ≡ profile_text (profile_of program sampled) ++ (repairs ++ report_text (classes_of program) sampled)
 
 -- What may be written of a good binary, a good branch text and a good block text.

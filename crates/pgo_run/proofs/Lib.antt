@@ -1,4 +1,5 @@
 pub mod BranchTextLemmas
+pub mod BuildLemmas
 pub mod Examples
 pub mod ProfileLemmas
 pub mod ReachedLemmas

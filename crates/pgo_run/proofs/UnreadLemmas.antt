@@ -1,10 +1,12 @@
 -- A file that was not read, or is too large, ends the command as its judge says.
-use Rattle.std.proofs.Common.{◌≡◌, ℕ, List, ◌∷◌, Option, None, Some, refl, sym, ap, ◌∙◌}
+use Rattle.std.proofs.Common.{◌≡◌, ℕ, List, [], ◌∷◌, Option, None, Some, refl, sym, ap, ◌∙◌}
 use Rattle.std.specs.Prelude.{IfSome}
 use Rattle.refusal.specs.declared.place.Place.{Place}
 use Rattle.refusal.specs.Place.{first_bad, size_item}
 use Rattle.io_edge.specs.Inputs.{Store}
 use Rattle.binary_model.specs.Binary.{first_bad_of_binary, items_behind_size, max_binary_bytes}
+use Rattle.block_model.specs.Judging.{first_bad_of_text}
+use Rattle.command_model.specs.Files.{first_bad_of_blocks, max_block_bytes}
 use Rattle.command_model.specs.Answer.{Answer, fails_check, unless_bad, usage}
 use Rattle.pgo_run.specs.Halt.{IfAnswers, answer_in}
 use Rattle.pgo_run.specs.Output.{EndsAt}
@@ -36,3 +38,12 @@ pub unread-binary : (store : Option Store) (name : List ℕ) (h : Halt)
     → IfSome store (λ files. IfAnswers h (EndsAt 1 (files name) (size_item 1 max_binary_bytes))) → IfSome store (λ files. IfAnswers h (EndsAt 1 (files name) first_bad_of_binary))
 unread-binary None name h ends = tt
 unread-binary (Some files) name h ends = answers-wider (answer_in h) 1 (files name) (size_item 1 max_binary_bytes) first_bad_of_binary too-large ends
+
+too-large-blocks : (bytes : List ℕ) (place : Place) → size_item 3 max_block_bytes bytes ≡ Some place → first_bad_of_blocks 3 bytes ≡ Some place
+unfolding first_bad_of_blocks
+too-large-blocks bytes place is = ap (λ item. first_bad (item ∷ first_bad_of_text 3 bytes ∷ [])) is
+
+pub unread-blocks : (store : Option Store) (name : List ℕ) (h : Halt)
+    → IfSome store (λ files. IfAnswers h (EndsAt 3 (files name) (size_item 3 max_block_bytes))) → IfSome store (λ files. IfAnswers h (EndsAt 3 (files name) (first_bad_of_blocks 3)))
+unread-blocks None name h ends = tt
+unread-blocks (Some files) name h ends = answers-wider (answer_in h) 3 (files name) (size_item 3 max_block_bytes) (first_bad_of_blocks 3) too-large-blocks ends

@@ -6,6 +6,7 @@
 #![tactic(auto)]
 
 mod branch_text;
+mod build;
 mod counts;
 mod halt;
 mod order;

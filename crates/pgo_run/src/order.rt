@@ -11,6 +11,9 @@ use std::alloc::Global;
 /// The most bytes of a binary.
 pub(crate) const MAX_BINARY: u64 = 1 << 30;
 
+/// The most bytes of a block text.
+pub(crate) const MAX_BLOCKS: u64 = 1 << 28;
+
 /// Opens the file of the k-th file word.
 ///
 /// # Errors

@@ -13,7 +13,7 @@ ghost use Rattle.command_words.specs.Words.{meaning_of, texts_of};
 
 use crate::halt::Halt;
 use crate::status::Status;
-use crate::{counts, profile, where_};
+use crate::{build, counts, profile, where_};
 use command_words::{Command, parse};
 use io_edge::{Inputs, Sink, write_all};
 use std::alloc::Global;
@@ -113,5 +113,11 @@ fn output<I: Inputs>(alloc: Global, command: Command<'_>, inputs: &mut I) -> Res
             binary,
             perf,
         } => profile::output(alloc, options, binary, perf, inputs),
+        Command::Build {
+            options,
+            binary,
+            perf,
+            blocks,
+        } => build::output(alloc, options, binary, perf, blocks, inputs),
     }
 }

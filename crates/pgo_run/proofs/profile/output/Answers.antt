@@ -1,85 +1,67 @@
-use Rattle.std.proofs.Common.{[], ◌∷◌, Err, ℕ, Ok, refl, subst, sym, ◌∙◌}
-use Rattle.std.specs.Global.{Vec}
-use Rattle.std.specs.Prelude.{IfSome}
+use Rattle.std.proofs.Common.{[], ◌∷◌, ℕ, Err, Ok, refl, subst, sym, ◌∙◌}
 use Rattle.std.specs.Option.{option_map}
-use Rattle.refusal.specs.declared.place.Place.{Place}
+use Rattle.std.specs.Global.{Vec}
 use Rattle.branch_counts.specs.Tally.{Tally}
 use Rattle.sample_model.specs.Judging.{first_bad_of_text}
 use Rattle.binary_model.specs.Binary.{first_bad_of_binary, max_binary_bytes}
 use Rattle.command_model.specs.Command.{Command, profile as profile_command}
-use Rattle.command_model.specs.Files.{named}
 use Rattle.command_words.specs.Words.{told_options}
-use Rattle.pgo_run.specs.Halt.{IfAnswers}
-use Rattle.pgo_run.specs.Output.{EndsAt, HasFileCause}
-use Rattle.pgo_run.specs.Samples.{SamplesFile}
-use Rattle.pgo_run.proofs.ReachedLemmas.{Reached-all, Reached-judged, Reached-more, Reached-no-memory, Reached-start, Reached-stop, is-good, is-there, judged-good, where-told}
+use Rattle.pgo_run.specs.Output.{HasFileCause}
+use Rattle.pgo_run.proofs.ReachedLemmas.{Reached-all, Reached-judged, Reached-no-memory, Reached-start, Reached-stop, is-there, judged-good, where-told}
 use Rattle.pgo_run.proofs.UnreadLemmas.{unread-binary}
-use Rattle.pgo_run.proofs.ProfileLemmas.{sampled-text, written}
+use Rattle.pgo_run.proofs.ProfileLemmas.{asked_samples, behind-binary, behind-samples, samples-end, written}
 use Rattle.pgo_run.proofs.profile.output.Goals as goal
 
 pub returns-in_err-file-clause-carried : goal.returns-in_err-file-clause-carried
 returns-in_err-file-clause-carried g c =
     let command : Command = profile_command (told_options c.args.options) c.args.binary.now c.args.perf.now in
-    Reached-stop (Vec ℕ) command _ [] c.args.binary.now (λ before. first_bad_of_binary) (record { source = named c.args.perf.now; judge = λ before. first_bad_of_text 2 } ∷ []) 1 c.in_err-file.field-0.0 _ _ _ _ _ _
+    Reached-stop (Vec ℕ) command _ [] c.args.binary.now (λ before. first_bad_of_binary) (asked_samples c.args.perf.now ∷ []) 1 c.in_err-file.field-0.0 _ _ _ _ _ _
     (Reached-start command _ _) refl c.in_err-file.ensures.opens
     (unread-binary _ c.args.binary.now c.in_err-file.field-0.0 c.in_err-file.ensures.file) c.in_err-file.ensures.cause c.from_residual.ensures.1
 
 pub returns-in_err-binary-clause-carried : goal.returns-in_err-binary-clause-carried
 returns-in_err-binary-clause-carried g c =
     let command : Command = profile_command (told_options c.args.options) c.args.binary.now c.args.perf.now in
-    Reached-judged command _ [] c.args.binary.now (λ before. first_bad_of_binary) (record { source = named c.args.perf.now; judge = λ before. first_bad_of_text 2 } ∷ []) 1 c.deref.result.now c.read.result _ c.in_err-binary.field-0.0 _ _ _ _ _ _
+    Reached-judged command _ [] c.args.binary.now (λ before. first_bad_of_binary) (asked_samples c.args.perf.now ∷ []) 1 c.deref.result.now c.read.result _ c.in_err-binary.field-0.0 _ _ _ _ _ _
     (Reached-start command _ _) refl c.in_ok-file.ensures.opens
     (is-there _ c.args.binary.now 1 max_binary_bytes c.in_ok-file.file c.deref.result.now c.in_ok-file.ensures.file c.deref.ensures.value)
     c.read.ensures (sym c.in_file.ensures ∙ c.in_err-binary.was) c.in_ok-file.ensures.cause.0 c.from_residual-in_err-binary.ensures.1
+
+pub returns-in_err-counts-clause-carried : goal.returns-in_err-counts-clause-carried
+returns-in_err-counts-clause-carried g c =
+    let command : Command = profile_command (told_options c.args.options) c.args.binary.now c.args.perf.now in
+    let first = behind-binary command _ c.args.binary.now c.deref.result.now (asked_samples c.args.perf.now ∷ []) c.read.result _ c.in_ok-binary.binary _ _ (Reached-start command _ _)
+        (is-there _ c.args.binary.now 1 max_binary_bytes c.in_ok-file.file c.deref.result.now c.in_ok-file.ensures.file c.deref.ensures.value) c.read.ensures (sym c.in_file.ensures ∙ c.in_ok-binary.was) c.in_ok-file.ensures.opens in
+    Reached-stop Tally command _ (c.deref.result.now ∷ []) c.args.perf.now (λ before. first_bad_of_text 2) ([]) 2 c.in_err-counts.field-0.0 _ _ _ _ _ _
+    first refl c.in_err-counts.ensures.opens
+    (samples-end _ _ c.args.perf.now (option_map (λ name. record { name = name.now; segments = c.deref-2.result.now }) c.args.options.map) c.in_err-counts.field-0.0 c.read_file.ensures.store c.in_err-counts.ensures.file)
+    (subst (λ n. HasFileCause {A = Tally} 2 n (g.I.Inputs.faults c.sampled.new.inputs) (Err c.in_err-counts.field-0.0)) c.in_ok-file.ensures.cause.0 c.in_err-counts.ensures.cause)
+    c.from_residual-in_err-counts.ensures.1
 
 pub make-requires : goal.make-requires
 make-requires g c =
     let good = judged-good 1 (first_bad_of_binary c.deref.result.now) c.read.result _ c.in_ok-binary.binary c.read.ensures (sym c.in_file.ensures ∙ c.in_ok-binary.was) in
     (c.deref.result.now, c.args.options.base, good.1)
 
-pub returns-in_err-counts-clause-carried : goal.returns-in_err-counts-clause-carried
-returns-in_err-counts-clause-carried g c =
-    let command : Command = profile_command (told_options c.args.options) c.args.binary.now c.args.perf.now in
-    let good = judged-good 1 (first_bad_of_binary c.deref.result.now) c.read.result _ c.in_ok-binary.binary c.read.ensures (sym c.in_file.ensures ∙ c.in_ok-binary.was) in
-    Reached-stop Tally command _ (c.deref.result.now ∷ []) c.args.perf.now (λ before. first_bad_of_text 2) [] 2 c.in_err-counts.field-0.0 _ _ _ _ _ _
-    (Reached-more command _ [] c.args.binary.now (λ before. first_bad_of_binary) (record { source = named c.args.perf.now; judge = λ before. first_bad_of_text 2 } ∷ []) c.deref.result.now _ _ _
-    (Reached-start command _ _)
-    (is-good _ c.args.binary.now first_bad_of_binary c.deref.result.now
-    (is-there _ c.args.binary.now 1 max_binary_bytes c.in_ok-file.file c.deref.result.now c.in_ok-file.ensures.file c.deref.ensures.value) good.0) c.in_ok-file.ensures.opens)
-    refl c.in_err-counts.ensures.opens
-    (subst (λ s. IfSome s (λ files. IfAnswers c.in_err-counts.field-0.0 (EndsAt 2 (files c.args.perf.now) (first_bad_of_text 2)))) c.read_file.ensures.store c.in_err-counts.ensures.file)
-    (subst (λ n. HasFileCause {A = Tally} 2 n (g.I.Inputs.faults c.sampled.new.inputs) (Err c.in_err-counts.field-0.0)) c.in_ok-file.ensures.cause.0 c.in_err-counts.ensures.cause)
-    c.from_residual-in_err-counts.ensures.1
-
 pub returns-in_err-text-clause-carried : goal.returns-in_err-text-clause-carried
 returns-in_err-text-clause-carried g c =
     let command : Command = profile_command (told_options c.args.options) c.args.binary.now c.args.perf.now in
-    let good = judged-good 1 (first_bad_of_binary c.deref.result.now) c.read.result _ c.in_ok-binary.binary c.read.ensures (sym c.in_file.ensures ∙ c.in_ok-binary.was) in
-    let text = sampled-text _ c.args.perf.now (option_map (λ name. record { name = name.now; segments = c.deref-2.result.now }) c.args.options.map) c.in_ok-counts.counts
-    (subst (λ s. IfSome s (λ files. SamplesFile (files c.args.perf.now) (option_map (λ name. record { name = name.now; segments = c.deref-2.result.now }) c.args.options.map) (Ok c.in_ok-counts.counts))) c.read_file.ensures.store c.in_ok-counts.ensures.file) in
-    Reached-no-memory command _ (c.deref.result.now ∷ text.0 ∷ []) [] _ _ _ _ _
-    (Reached-more command _ (c.deref.result.now ∷ []) c.args.perf.now (λ before. first_bad_of_text 2) [] text.0 _ _ _
-    (Reached-more command _ [] c.args.binary.now (λ before. first_bad_of_binary) (record { source = named c.args.perf.now; judge = λ before. first_bad_of_text 2 } ∷ []) c.deref.result.now _ _ _
-    (Reached-start command _ _)
-    (is-good _ c.args.binary.now first_bad_of_binary c.deref.result.now
-    (is-there _ c.args.binary.now 1 max_binary_bytes c.in_ok-file.file c.deref.result.now c.in_ok-file.ensures.file c.deref.ensures.value) good.0) c.in_ok-file.ensures.opens)
-    text.1 c.in_ok-counts.ensures.opens)
+    let first = behind-binary command _ c.args.binary.now c.deref.result.now (asked_samples c.args.perf.now ∷ []) c.read.result _ c.in_ok-binary.binary _ _ (Reached-start command _ _)
+        (is-there _ c.args.binary.now 1 max_binary_bytes c.in_ok-file.file c.deref.result.now c.in_ok-file.ensures.file c.deref.ensures.value) c.read.ensures (sym c.in_file.ensures ∙ c.in_ok-binary.was) c.in_ok-file.ensures.opens in
+    let samples = behind-samples command _ _ c.args.perf.now c.deref.result.now (option_map (λ name. record { name = name.now; segments = c.deref-2.result.now }) c.args.options.map) c.in_ok-counts.counts ([]) _ _ _ first
+        c.read_file.ensures.store c.in_ok-counts.ensures.file c.in_ok-counts.ensures.opens in
+    Reached-no-memory command _ (c.deref.result.now ∷ samples.0 ∷ []) [] _ _ _ _ _ samples.1
     (c.in_ok-counts.ensures.cause.0 ∙ c.in_ok-file.ensures.cause.0) c.from_residual-in_err-text.ensures.1
 
 pub returns-clause-carried : goal.returns-clause-carried
 returns-clause-carried g c =
     let command : Command = profile_command (told_options c.args.options) c.args.binary.now c.args.perf.now in
     let good = judged-good 1 (first_bad_of_binary c.deref.result.now) c.read.result _ c.in_ok-binary.binary c.read.ensures (sym c.in_file.ensures ∙ c.in_ok-binary.was) in
-    let text = sampled-text _ c.args.perf.now (option_map (λ name. record { name = name.now; segments = c.deref-2.result.now }) c.args.options.map) c.in_ok-counts.counts
-    (subst (λ s. IfSome s (λ files. SamplesFile (files c.args.perf.now) (option_map (λ name. record { name = name.now; segments = c.deref-2.result.now }) c.args.options.map) (Ok c.in_ok-counts.counts))) c.read_file.ensures.store c.in_ok-counts.ensures.file) in
-    Reached-all command _ (c.deref.result.now ∷ text.0 ∷ []) c.in_ok-text.text _ _ _ _
-    (Reached-more command _ (c.deref.result.now ∷ []) c.args.perf.now (λ before. first_bad_of_text 2) [] text.0 _ _ _
-    (Reached-more command _ [] c.args.binary.now (λ before. first_bad_of_binary) (record { source = named c.args.perf.now; judge = λ before. first_bad_of_text 2 } ∷ []) c.deref.result.now _ _ _
-    (Reached-start command _ _)
-    (is-good _ c.args.binary.now first_bad_of_binary c.deref.result.now
-    (is-there _ c.args.binary.now 1 max_binary_bytes c.in_ok-file.file c.deref.result.now c.in_ok-file.ensures.file c.deref.ensures.value) good.0) c.in_ok-file.ensures.opens)
-    text.1 c.in_ok-counts.ensures.opens)
-    refl
-    (where-told _ text.2 (λ files tells. written c.deref.result.now c.args.options.base c.in_ok-binary.binary c.args.options.map c.deref-2.result.now c.in_ok-counts.counts text.0 c.in_ok-text.text.items
+    let first = behind-binary command _ c.args.binary.now c.deref.result.now (asked_samples c.args.perf.now ∷ []) c.read.result _ c.in_ok-binary.binary _ _ (Reached-start command _ _)
+        (is-there _ c.args.binary.now 1 max_binary_bytes c.in_ok-file.file c.deref.result.now c.in_ok-file.ensures.file c.deref.ensures.value) c.read.ensures (sym c.in_file.ensures ∙ c.in_ok-binary.was) c.in_ok-file.ensures.opens in
+    let samples = behind-samples command _ _ c.args.perf.now c.deref.result.now (option_map (λ name. record { name = name.now; segments = c.deref-2.result.now }) c.args.options.map) c.in_ok-counts.counts ([]) _ _ _ first
+        c.read_file.ensures.store c.in_ok-counts.ensures.file c.in_ok-counts.ensures.opens in
+    Reached-all command _ (c.deref.result.now ∷ samples.0 ∷ []) c.in_ok-text.text _ _ _ _ samples.1 refl
+    (where-told _ samples.2 (λ files tells. written c.deref.result.now c.args.options.base c.in_ok-binary.binary c.args.options.map c.deref-2.result.now c.in_ok-counts.counts samples.0 c.in_ok-text.text.items
     good.1 c.deref-2.ensures.value c.in_ok-text.ensures tells.0 tells.1))
     (c.in_ok-counts.ensures.cause.0 ∙ c.in_ok-file.ensures.cause.0)

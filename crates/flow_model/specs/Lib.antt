@@ -1,11 +1,10 @@
-pub mod Balance
-pub mod BalanceLaws
 pub mod Circulation
 pub mod Cut
 pub mod Laws
 pub mod Network
-pub mod Passing
 pub mod Prices
 pub mod Repair
-pub mod Sides
+pub mod Balance
+pub mod BalanceLaws
+pub mod Passing
 pub mod Sound

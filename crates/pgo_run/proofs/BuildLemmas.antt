@@ -4,6 +4,7 @@ use Rattle.std.specs.Prelude.{IfSome, if◌then◌else◌}
 use Rattle.std.specs.List.{All}
 use Rattle.std.specs.Option.{option_map}
 use Rattle.std.proofs.lemmas.Bool.Decides.{nat_tests}
+use Rattle.std.proofs.lemmas.List.Elements.{All-cons, All-head, All-nil, All-tail}
 use Rattle.refusal.specs.declared.kind.Kind.TheVariants.{FileTooLarge}
 use Rattle.refusal.specs.declared.place.Place.{Place}
 use Rattle.refusal.specs.declared.place.Stop.{Stop}
@@ -51,8 +52,9 @@ blocks_judged text r P within judges = subst (λ bad. JudgesUnlessNoMemory bad r
 
 -- What holds of each function of a good text holds of each that was read.
 all_unmapped : {X Y : Type 0} (P : Y → Type 0) (f : X → Y) (xs : List X) → All P (map f xs) → All (λ x. P (f x)) xs
-all_unmapped P f [] all = all
-all_unmapped P f (x ∷ xs) all = (all.0, all_unmapped P f xs all.1)
+all_unmapped P f [] all = All-nil (λ x. P (f x))
+all_unmapped P f (x ∷ xs) all =
+    All-cons (λ y. P (f y)) x xs (All-head P (f x) (map f xs) all) (all_unmapped P f xs (All-tail P (f x) (map f xs) all))
 
 pub read_soundly : (text : List ℕ) (funs : List Fun) → first_bad_of_text 3 text ≡ None → map function_of funs ≡ functions_of text
     → All (λ fun. IsSound fun.blocks fun.edges) funs

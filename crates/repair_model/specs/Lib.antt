@@ -3,4 +3,5 @@ pub mod Laws
 pub mod Line
 pub mod Made
 pub mod Repair
+pub mod Sides
 pub mod Text

@@ -1,2 +1,2 @@
-mod LineLemmas
-mod TextLemmas
+pub mod LineLemmas
+pub mod TextLemmas

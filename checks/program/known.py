@@ -5,6 +5,7 @@ What it has to write is worked out by hand from docs/FORMATS.md and docs/RULES.m
 changed byte is refused too. The last line tells how many cases passed and failed; a case that failed has a line.
 """
 import os
+import re
 import subprocess
 import sys
 import tempfile
@@ -14,7 +15,7 @@ sys.path.insert(0, os.path.join(os.path.dirname(os.path.abspath(__file__)), ".."
 import make
 
 USAGE = b"usage: pgo counts, where, profile, build, check or make\n"
-DONE, BAD_WORDS, REFUSED = 0, 2, 4
+DONE, BAD_WORDS, MISSING, REFUSED = 0, 2, 3, 4
 
 # The generated binaries of one function and of two: `f0000` with a call of `g` inlined into it, and `f0001` behind it.
 ONE = make.small(1)
@@ -88,15 +89,16 @@ HEADERS = [int.from_bytes(ALL_SECTIONS[40:48], "little") + 64 * (9 - k) for k in
 passed = failed = 0
 
 
-def judge(title, wanted, words, **files):
-    """Runs the program on these words and files; wanted is its status, its output and what it says on the error output."""
+def judge(title, wanted, words, told=lambda out: out, **files):
+    """Runs the program on these words and files; wanted is its status, what is told of its output, and what it says on the
+    error output."""
     global passed, failed
     with tempfile.TemporaryDirectory() as folder:
         for name, data in files.items():
             with open(f"{folder}/{name}", "wb") as file:
                 file.write(data)
         ran = subprocess.run([PROGRAM, *words], cwd=folder, stdin=subprocess.DEVNULL, capture_output=True)
-    if (ran.returncode, ran.stdout, ran.stderr) == wanted:
+    if (ran.returncode, told(ran.stdout), ran.stderr) == wanted:
         passed += 1
     else:
         failed += 1
@@ -285,11 +287,13 @@ def words():
     for spelled in [
         "where", "where bin", "where bin xyz", "where bin 0x", "where bin 0X1", "where bin 00000000000401000",
         "where --base --base bin 401000", "where --bases bin 401000", "where -- bin 401000", "where bin --base 401000",
-        "where bin 401000 --base", "profile", "profile bin", "make 1 bin", "build bin perf perf",
+        "where bin 401000 --base", "profile", "profile bin", "make 1 bin", "build bin perf",
         "where --base bin 401000 x", "where --base bin 401000 x y", "where --base bin 401000 x y z",
         "profile --map=/x --base bin perf x", "profile --map=/x --base bin perf x y", "profile bin perf x y z v",
         "profile --map=/x --base --base bin perf", "profile --map=/x --base --base --map=/y bin perf",
-        "counts perf x y z u", "counts perf x y z u v",
+        "counts perf x y z u", "counts perf x y z u v", "where --edges bin 401000", "profile --edges bin perf",
+        "build bin perf perf perf", "build --edges --edges bin perf perf", "build --map= bin perf perf",
+        "build --scaled bin perf perf", "build --edges bin perf", "build bin --edges perf perf",
     ]:
         judge(spelled, (BAD_WORDS, b"", USAGE), spelled.split(), bin=ONE, perf=b"")
     for options in [["--map=/x", "--base"], ["--base", "--map=/x"]]:
@@ -402,6 +406,97 @@ def bases_and_loads():
     )
 
 
+# The generated block text of one function.
+BLOCKS = (
+    b"func f0000\nblock 0 0x401000 0x401008\nblock 1 0x401008 0x401010\nblock 2 0x401010 0x401020\n"
+    b"block 3 0x401020 0x401040 exit\nedge 0 1\nedge 0 2\nedge 1 3\nedge 2 3\nend\n"
+)
+LOOP = b"func loop\nblock 0 0x401000 0x401008\nblock 1 0x401008 0x401010\nedge 0 1\nedge 1 0\nend\n"
+
+
+def without_prices(out):
+    """The output without the prices of blocks, of which any that fit may be told."""
+    return re.sub(rb"( count \d+) in -?\d+ out -?\d+$", rb"\1", out, flags=re.M)
+
+
+def repaired(title, text, blocks, wanted, *options):
+    """What is told of repairs alone, without their prices."""
+    lines = rb"# (?:function|block|edge|end) .*\n"
+    only = lambda out: b"".join(re.findall(lines, without_prices(out)))
+    judge(title, (DONE, wanted, b""), ["build", *options, "bin", "perf", "cfg"], told=only, bin=ONE, perf=text, cfg=blocks)
+
+
+def counted(weights, counts, cost, name=b"f0000", edges=None):
+    """The lines of counts of the function of the generated block text, with the weights of its edges or without."""
+    lines = [b"# function %s flow" % name]
+    lines += [b"# block %d weight %s count %d" % (k, weight, count) for k, (weight, count) in enumerate(zip(weights, counts[:4]))]
+    for k, (pair, count) in enumerate(zip((b"0 1", b"0 2", b"1 3", b"2 3"), counts[4:])):
+        lines.append(b"# edge %s %scount %d" % (pair, b"weight %s " % edges[k] if edges else b"", count))
+    return b"\n".join(lines) + b"\n# end %d\n" % cost
+
+
+def builds():
+    # The profile, the repairs and the report, whole; no counts cost as little.
+    first = TWO_SAMPLES.split(b"\n")[0]
+    wanted = b"f0000:4:1\n 0: 1\n 1: 1\n 2.2: 1\n 3: 1 f0000:1\n" + counted(
+        (b"1", b"1", b"0", b"1"), (1, 1, 0, 1, 1, 0, 1, 0), 0
+    ) + (
+        b"# branches 3\n# entries 1\n# inside 2\n# ranges ran 2\n# ranges reversed 0\n# ranges outside 0\n"
+        b"# ranges crossing 0\n# units read 1 passed 0\n"
+    )
+    judge(
+        "a repair between profile and report", (DONE, wanted, b""), ["build", "bin", "perf", "cfg"], told=without_prices,
+        bin=ONE, perf=first, cfg=BLOCKS,
+    )
+    none = (b"0", b"0", b"0", b"0"), (0,) * 8, 0
+    repaired("no sample", b"", BLOCKS, counted(*none))
+    uneven = b"0x401001/0x9 0x9/0x401001\n" * 100 + b"0x401008/0x9 0x9/0x401008\n" * 60 + b"0x401020/0x9 0x9/0x401020\n" * 100
+    weights, counts = (b"100", b"60", b"0", b"100"), (100, 100, 0, 100, 100, 0, 100, 0)
+    repaired("weights that do not conserve", uneven, BLOCKS, counted(weights, counts, 400))
+    repaired("the same with edges that no branch took", uneven, BLOCKS, counted(weights, counts, 1000, edges=(b"0",) * 4), "--edges")
+    both = (b"1", b"1", b"1", b"2"), (2, 1, 1, 2, 1, 1, 1, 1), 40
+    repaired("two ways", TWO_SAMPLES, BLOCKS, counted(*both))
+    repaired("two ways by their edges", TWO_SAMPLES, BLOCKS, counted(*both, edges=(b"1",) * 4), "--edges")
+    repaired("a function twice", TWO_SAMPLES, BLOCKS + BLOCKS, 2 * counted(*both))
+    repaired("no function", TWO_SAMPLES, b"", b"")
+    repaired(
+        "a function of other addresses", TWO_SAMPLES, b"func far\nblock 0 0x1 0x2 exit\nend\n",
+        b"# function far flow\n# block 0 weight ? count 0\n# end 0\n",
+    )
+    loop = b"0x401000/0x9 0x9/0x401000\n" * 5
+    repaired(
+        "a loop without an exit", loop, LOOP,
+        b"# function loop cut 0\n# block 0 weight 5 in 1 out 1\n# block 1 weight 0 in 1 out 1\n# end 1 0\n",
+    )
+    bounded = BLOCKS.replace(b"exit\n", b"exit hi=1\n")
+    judge(
+        "a bound from above", (DONE, b"# block 3 weight 2 count 1\n# end 40\n", b""), ["build", "bin", "perf", "cfg"],
+        told=lambda out: b"".join(re.findall(rb"# (?:block 3|end) .*\n", without_prices(out))),
+        bin=ONE, perf=TWO_SAMPLES, cfg=bounded,
+    )
+    repaired(
+        "bounds that no counts meet", TWO_SAMPLES, bounded.replace(b"0x401008\nblock 1", b"0x401008 lo=2\nblock 1"),
+        b"# function f0000 cut 0\n# block 0 weight 1 in 0 out 1\n# block 1 weight 1 in 1 out 1\n"
+        b"# block 2 weight 1 in 1 out 1\n# block 3 weight 2 in 1 out 0\n# end 2 1\n",
+    )
+    for said, text, blocks, perf in [
+        (b"file 3 at 2: BlockOrder", ONE, b"func a\nblock 1 0x1 0x2\n", b""),
+        (b"file 3 at 2: BadBound", ONE, b"func a\nblock 0 0x1 0x2 lo=3 hi=2\n", b""),
+        (b"file 3 at 3: NoEndLine", ONE, b"func a\nblock 0 0x1 0x2\n", b""),
+        (b"file 2 at 1: BadLine", ONE, b"zz\n", b"zz\n"),
+        (b"file 1 at 0: NotElf", b"zz\n", b"zz\n", b"zz\n"),
+    ]:
+        judge(
+            said.decode(), (REFUSED, b"", b"refused: " + said + b"\n"), ["build", "bin", "perf", "cfg"],
+            bin=text, perf=perf, cfg=blocks,
+        )
+    for k, words in enumerate((["x", "perf", "cfg"], ["bin", "x", "cfg"], ["bin", "perf", "x"]), 1):
+        judge(
+            "file %d missing" % k, (MISSING, b"", b"no such file: %d\n" % k), ["build", *words],
+            bin=ONE, perf=b"", cfg=BLOCKS,
+        )
+
+
 def large():
     # More functions than 16 bits number, with two lines each. Function k calls the next three from its line 11 + 2 k,
     # and itself begins in line 5. The three branches of a sample have two ranges between them, which go back to that
@@ -426,7 +521,7 @@ def large():
 
 
 PROGRAM = os.path.abspath(sys.argv[1])
-for part in [places, range_lists, other_places, refusals, words, profiles, reports, bases_and_loads, large]:
+for part in [places, range_lists, other_places, refusals, words, profiles, reports, bases_and_loads, builds, large]:
     part()
 print(f"{passed} passed, {failed} failed")
 sys.exit(failed > 0)

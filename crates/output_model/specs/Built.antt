@@ -44,7 +44,8 @@ pub record IsBuilt (edges : Bool) (program : Program) (sampled : Sampled) (funs 
   pub repairs : List ℕ
   pub repaired : AreRepairsOf (way_at program) (count_of_way program sampled) (edges_of edges program sampled)
       funs repairs
-  pub spelled : text ≡ profile_text (profile_of program sampled) ++ (repairs ++ report_text (classes_of program) sampled)
+  pub spelled : text
+      ≡ profile_text (profile_of program sampled) ++ (repairs ++ report_text (classes_of program) sampled)
 
 -- What may be written of a good binary, a good branch text and a good block text.
 abbrev pub IsBuiltOf : Option (List ℕ) → Bool → Bool → List ℕ → List ℕ → List ℕ → List ℕ → Type 0

@@ -12,17 +12,22 @@ usage:
   pgo profile [--map=NAME] [--base] BIN PERF
                               the sample profile that a branch text gives of a
                               binary, then a report on it
+  pgo build [--map=NAME] [--base] [--edges] BIN PERF CFG
+                              the same, with the block counts of each function
+                              of a block text repaired between them
   pgo --help                  this text
   pgo --version               the version
 
 PERF is what `perf script -F ip,brstack` prints, in a file. BIN is a 64-bit ELF
-file with DWARF 4 or 5, HEX an address in hexadecimal digits.
+file with DWARF 4 or 5, HEX an address in hexadecimal digits. CFG is a block
+text, as `contrib/blocks BIN` prints it.
 
 --base      discriminators are taken apart as clang packs them: give it for
             binaries of clang and rustc, and not for those of gcc
 --map=NAME  addresses are moved by the load lines of the branch text, in which
             the binary has this name: position-independent programs and shared
             objects need it, and `perf script --show-mmap-events`
+--edges     edges are weighed by the branches along them, and their weights told
 
 Messages count file words and lines from 1, and places in a binary from 0.
 

@@ -10,5 +10,5 @@ mod maker;
 mod map_laws;
 
 pub use laws::{binaries_show_programs, key_ways_are_told};
-pub use maker::{build, make};
+pub use maker::make;
 pub use map_laws::{entries_are_given, keys_have_names, places_are_given, segments_fit};

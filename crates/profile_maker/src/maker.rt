@@ -2,18 +2,12 @@ ghost use Rattle.std.specs.Prelude.{◌≡◌, ℕ, Bool, List, Option, true, If
 ghost use Rattle.binary_places.specs.Binary.{IsBinary};
 ghost use Rattle.branch_counts.specs.Tally.{Tells};
 ghost use Rattle.sample_model.specs.Moves.{LoadMap};
-ghost use Rattle.std.specs.Prelude.{map};
-ghost use Rattle.std.specs.List.{All};
-ghost use Rattle.cfg_text.specs.Fun.{function_of};
-ghost use Rattle.flow_model.specs.Sound.{IsSound};
-ghost use Rattle.output_model.specs.Built.{IsBuilt};
 ghost use Rattle.output_model.specs.Output.{output_text, sampled_by};
 ghost use Rattle.output_model.specs.Program.{program_of};
 
 use binary_places::Binary;
 use branch_counts::Counts;
 use profile_writer::{Samples, Units, write};
-use cfg_text::Fun;
 use refusal::NoMemory;
 use std::alloc::Global;
 
@@ -50,23 +44,4 @@ pub fn make(alloc: Global, binary: &Binary<'_>, counts: Counts) -> Result<Vec<u8
         &binary.keys,
         &binary.names,
     )
-}
-
-/// STUB for a trial of the layer above.
-pub fn build(
-    alloc: Global,
-    binary: &Binary<'_>,
-    counts: Counts,
-    funs: &[Fun<'_>],
-    edges: bool,
-) -> Result<Vec<u8>, NoMemory>
-    requires binary { (file : List ℕ) × (base : Bool) × IsBinary file base binary.now }
-    requires sound { All (λ fun. IsSound fun.blocks fun.edges) funs.now }
-    ensures { IfOk result (λ out. (file : List ℕ) (base : Bool) (loading : Option LoadMap)
-        (lines : List (List ℕ)) → IsBinary file base binary.now → counts.with_ranges ≡ true
-        → Tells loading lines counts
-        → IsBuilt edges (program_of file base) (sampled_by loading file lines)
-        (map function_of funs.now) out.items) }
-{
-    Err(NoMemory)
 }

@@ -1,4 +1,6 @@
+pub mod BuiltLemmas
 pub mod NameLemmas
+pub mod RepairLemmas
 pub mod SegmentLemmas
 pub mod KeyWayLemmas
 pub mod SampleLemmas

@@ -21,7 +21,6 @@ use Rattle.chain_model.proofs.ChainLemmas.{begin_with_the_function}
 use Rattle.entry_facts.specs.Meaning.{IsNumberOf}
 use Rattle.tree_model.specs.Members.{Told}
 use Rattle.inline_tree.specs.Told.{AreTold, IsTold}
-use Rattle.profile_lists.specs.Laws.{factor_by, place_by}
 use Rattle.key_types.specs.Segments as segments
 use Rattle.key_types.specs.Segments.{segment_at, key_told}
 use Rattle.line_model.specs.declared.row.Row.{Row}

@@ -2,12 +2,11 @@
 use Rattle.std.proofs.Common.{◌≡◌, ℕ, Bool, List, ◌++◌, filter, length, Option, None, Some, refl, sym, ap, ◌∙◌}
 use Rattle.std.specs.Prelude.{codes, count_by}
 use Rattle.std.specs.List.{flat_map}
-use Rattle.std.specs.Option.{option_map}
 use Rattle.key_types.specs.declared.ids.NameId.{NameId}
 use Rattle.key_types.specs.declared.key.Key.{Key}
 use Rattle.key_types.specs.declared.places.Seg.{Seg}
 use Rattle.key_types.specs.declared.places.Where.{Where}
-use Rattle.key_types.specs.declared.places.Where.TheVariants.{Outside, Nameless, NoLine, At}
+use Rattle.key_types.specs.declared.places.Where.TheVariants.{At}
 use Rattle.sample_model.specs.Pairs.{distinct_pairs, times_of}
 use Rattle.report_model.specs.declared.class.Class.{Class}
 use Rattle.report_model.specs.declared.class.Class.TheVariants.{Entry, Inside, Unmapped}

@@ -1,17 +1,18 @@
 -- The count of each way is the largest hits times factor over all addresses.
-use Rattle.std.proofs.Common.{◌≡◌, ◌≤◌, ◌<◌, ℕ, ◌+◌, ◌*◌, ◌^◌, nat_lt, nat_le, max, true, false, cond, ◌&&◌, ◌||◌, List, [], ◌∷◌, map, length, get_or, sum_by, Option, None, Some, refl, sym, ap, subst, ◌∙◌, inl, inr, arith, add-zero, zero-add}
-use Rattle.std.specs.Prelude.{filter, IsSome}
+use Rattle.std.proofs.Common.{◌≡◌, ◌≤◌, ◌<◌, ℕ, ◌+◌, ◌*◌, ◌^◌, nat_lt, nat_le, max, Bool, true, false, cond, ◌&&◌, ◌||◌, List, [], ◌∷◌, map, length, get_or, sum_by, Option, None, Some, refl, sym, ap, subst, ◌∙◌, inl, inr, arith, add-zero, zero-add}
+use Rattle.std.specs.Prelude.{filter, count_by, IsSome}
 use Rattle.std.specs.List.{filter_map, range_with_len}
 use Rattle.std.specs.List.Sorted.{IsStrictlySortedBy}
-use Rattle.std.specs.Option.{option_map_or}
+use Rattle.std.specs.Option.{option_map, option_map_or}
 use Rattle.std.specs.Ordering.{is_eq}
 use Rattle.std.specs.declared.cmp.Ordering.{Ordering}
 use Rattle.std.specs.declared.cmp.Ordering.TheVariants.{Less}
 use Rattle.std.proofs.lemmas.Bool.{true≢false}
 use Rattle.std.proofs.lemmas.List.Sums.{sum_by-cons}
-use Rattle.profile_model.specs.Hits.{hits_at, holds}
+use Rattle.profile_model.specs.Hits.{hits_at, times_of}
 use Rattle.profile_model.specs.declared.ran_range.RanRange.{RanRange}
 use Rattle.profile_lists.specs.Laws.{factor_by, place_by}
+use Rattle.key_types.specs.Segments.{key_told, segment_at}
 use Rattle.key_types.specs.declared.ids.KeyId.{KeyId}
 use Rattle.key_types.specs.declared.ids.NameId.{NameId}
 use Rattle.key_types.specs.declared.key.Key.{Key}
@@ -31,6 +32,7 @@ use Rattle.profile_model.specs.Ways.{Way, same_way}
 use Rattle.profile_model.proofs.OrderLemmas.{ways_tell_apart}
 use Rattle.profile_model.proofs.OrderedLemmas.{Above, has-head, ordered_is_in_order}
 use Rattle.profile_report.specs.Classed.{classed_by}
+use Rattle.profile_report.specs.declared.classed.Classed.{Classed}
 use Rattle.profile_tree.proofs.ListLemmas.{Among, all_among, among_filter, among_filter_back, among_has, among_map, among_map_back, among_range, bool_cases, has_among, nat_same, sum_filter, sum_map, sum_none}
 use Rattle.profile_tree.proofs.SumLemmas.{Given, count_is, ways_apart}
 use Rattle.profile_tree.proofs.WayLemmas.{same_ways, way_itself}
@@ -40,7 +42,9 @@ use Rattle.profile_lists.specs.declared.pairs.Call.{Call}
 use Rattle.report_model.specs.Report.{Sampled}
 use Rattle.output_model.specs.Program.{Program, way_of_place}
 use Rattle.output_model.specs.Program as program_told
-use Rattle.output_model.specs.Sampled.{count_among, has_way, hits_of, largest, profile_among, ran_over, ways_among}
+use Rattle.output_model.specs.Built.{ran_past}
+use Rattle.output_model.specs.Sampled.{class_of_range, count_among, has_way, hits_of, largest, profile_among, ways_among}
+use Rattle.weight_model.specs.Edges.{passed}
 use Rattle.profile_writer.proofs.SumLemmas.{kept_among, kept_from, kept_sum, members}
 use Rattle.profile_writer.specs.Items.{ran_by, ran_in}
 use Rattle.profile_writer.specs.Shown.{ShowsPlace, ShowsProgram, key_of}
@@ -63,26 +67,36 @@ largest_at_most bound (m ∷ numbers) each =
 
 -- ---- hits
 
-abbrev hits_weight : ℕ → RanRange → ℕ
-hits_weight address range = cond (holds address range) range.times 0
+-- what ran, by a test of first and last addresses
+abbrev ran_weight : (ℕ → ℕ → Bool) → RanRange → ℕ
+ran_weight test range = cond (test range.lo range.hi) range.times 0
 
-ran_row : (address : ℕ) (class : RangeClass) (lo hi times : ℕ)
-    → option_map_or (hits_weight address) (ran_by class lo hi times) 0 ≡ cond (is_class Ran class && (nat_le lo address && nat_le address hi)) times 0
-ran_row address Ran lo hi times = refl
-ran_row address Reversed lo hi times = refl
-ran_row address RangeOutside lo hi times = refl
-ran_row address Crossing lo hi times = refl
+ran_row : (test : ℕ → ℕ → Bool) (class : RangeClass) (lo hi times : ℕ)
+    → option_map_or (ran_weight test) (ran_by class lo hi times) 0 ≡ cond (is_class Ran class && test lo hi) times 0
+ran_row test Ran lo hi times = refl
+ran_row test Reversed lo hi times = refl
+ran_row test RangeOutside lo hi times = refl
+ran_row test Crossing lo hi times = refl
 
-pub hits_alike : (program : Program) (sampled : Sampled) (function : ℕ → Option ℕ) (rows : List Pair) → ((address : ℕ) → function address ≡ program.function address) → Tallies sampled.ranges rows
-    → (address : ℕ) → hits_at (filter_map ran_in (map (classed_by (range_class function)) rows)) address ≡ hits_of program sampled address
-hits_alike program sampled function rows functions tallied address =
-    let classed = map (classed_by (range_class function)) rows in
-    sum_filter (λ range. range.times) (holds address) (filter_map ran_in classed)
-    ∙ kept_sum ran_in (hits_weight address) classed
-    ∙ sum_map (λ r. option_map_or (hits_weight address) (ran_in r) 0) (classed_by (range_class function)) rows
-    ∙ (λ i. sum_by (λ row. ran_row address (range_class function row.from row.to) row.from row.to row.times i) rows)
-    ∙ (λ i. sum_by (λ (row : Pair). cond (is_class Ran (range_class (λ a. functions a i) row.from row.to) && (nat_le row.from address && nat_le address row.to)) row.times 0) rows)
-    ∙ members sampled.ranges rows (ran_over program address) tallied
+module _ (program : Program) (sampled : Sampled) (function : ℕ → Option ℕ) (rows : List Pair) (functions : (address : ℕ) → function address ≡ program.function address) (tallied : Tallies sampled.ranges rows) where
+  abbrev classed : List (Classed RangeClass)
+  classed = map (classed_by (range_class function)) rows
+
+  ran_alike : (test : ℕ → ℕ → Bool) → times_of (filter (λ range. test range.lo range.hi) (filter_map ran_in classed))
+      ≡ count_by (λ range. is_class Ran (class_of_range program range) && test range.0 range.1) sampled.ranges
+  ran_alike test =
+      sum_filter (λ range. range.times) (λ range. test range.lo range.hi) (filter_map ran_in classed)
+      ∙ kept_sum ran_in (ran_weight test) classed
+      ∙ sum_map (λ r. option_map_or (ran_weight test) (ran_in r) 0) (classed_by (range_class function)) rows
+      ∙ (λ i. sum_by (λ row. ran_row test (range_class function row.from row.to) row.from row.to row.times i) rows)
+      ∙ (λ i. sum_by (λ (row : Pair). cond (is_class Ran (range_class (λ a. functions a i) row.from row.to) && test row.from row.to) row.times 0) rows)
+      ∙ members sampled.ranges rows (λ range. is_class Ran (class_of_range program range) && test range.0 range.1) tallied
+
+  pub hits_alike : (address : ℕ) → hits_at (filter_map ran_in classed) address ≡ hits_of program sampled address
+  hits_alike address = ran_alike (λ lo hi. nat_le lo address && nat_le address hi)
+
+  pub passed_alike : passed (filter_map ran_in classed) ≡ ran_past program sampled
+  passed_alike = λ i address. ran_alike (λ lo hi. nat_lt lo address && nat_le address hi) i
 
 -- ---- one way among ways in order
 
@@ -232,6 +246,26 @@ module _ (program : Program) (sampled : Sampled) (all : List (List ℕ)) (keys :
 
   count_same : (n : ℕ) → n < length counts → get_or counts n 0 ≡ count_among addresses program sampled (way_at all keys n)
   count_same n low = let a = count_at_most n low in let b = count_at_least n low in omega arith
+
+  -- an address has a key where it has a way, and both count the same
+  count_here : (n address : ℕ) (way : Way) → place_by segments address ≡ Some n → way_here address ≡ Some way → get_or counts n 0 ≡ count_among addresses program sampled way
+  count_here n address way by_number e =
+      let key = key_there address way e in
+      let same : key.0.0 ≡ n = number_there key.0.0 n (sym key.1 ∙ by_number) in
+      count_same n (omega (arith, key.2, len, same)) ∙ ap (count_among addresses program sampled) (ap (way_at all keys) (sym same) ∙ key.3)
+
+  counted_by : (address : ℕ) (segment : Option Seg) (o : Option Way) → segment_at segments address ≡ segment → way_here address ≡ o
+      → option_map (λ key. get_or counts key.0 0) (option_map (λ s. s.key) segment) ≡ option_map (count_among addresses program sampled) o
+  counted_by address None None there e = refl
+  counted_by address None (Some way) there e =
+      let key = key_there address way e in
+      absurd (no_number key.0.0 (sym (ap (option_map (λ s. s.key.0)) there) ∙ key.1))
+  counted_by address (Some s) None there e =
+      absurd (no_way (way_at all keys s.key.0) (sym e ∙ way_by_key address s.key.0 (ap (option_map (λ s. s.key.0)) there)))
+  counted_by address (Some s) (Some way) there e = ap (λ n. Some n) (count_here s.key.0 address way (ap (option_map (λ s. s.key.0)) there) e)
+
+  pub counted_alike : (address : ℕ) → option_map (λ key. get_or counts key.0 0) (key_told segments address) ≡ option_map (count_among addresses program sampled) (way_here address)
+  counted_alike address = counted_by address (segment_at segments address) (way_here address) refl refl
 
   abbrev cmp : Way → Way → Ordering
   cmp = way_cmp (λ _. 0)

@@ -15,7 +15,7 @@ use Rattle.report_model.specs.Branches.{branch_class}
 use Rattle.report_model.specs.Ranges.{range_class}
 use Rattle.profile_laws.proofs.CountLemmas.{lines_are_by_counts}
 use Rattle.profile_model.specs.Profile.{lines_of}
-use Rattle.profile_model.specs.Text.{text_of_lines}
+use Rattle.profile_model.specs.Text.{profile_text, text_of_lines}
 use Rattle.profile_report.specs.Classed.{classed_by}
 use Rattle.profile_report.specs.Told.{Tells}
 use Rattle.profile_report.specs.declared.classed.Classed.{Classed}
@@ -26,14 +26,16 @@ use Rattle.profile_tree.specs.Known.{HasNames}
 use Rattle.profile_tree.specs.Said.{AreCountsOfPlaces, said}
 use Rattle.profile_tree.specs.Told.{told}
 use Rattle.profile_tree.specs.declared.line.Line.{Line}
+use Rattle.weight_model.specs.Edges.{passed}
 use Rattle.report_model.specs.Report.{Classes, Sampled, report_text}
 use Rattle.output_model.specs.Output.{output_text}
 use Rattle.output_model.specs.Program.{Program}
 use Rattle.output_model.specs.Sampled.{all_addresses, hits_of, profile_of}
 use Rattle.profile_writer.proofs.BranchLemmas.{calls_given, heads_alike, heads_given, targets_alike}
 use Rattle.profile_writer.proofs.ClassLemmas.{classes_told, report_alike}
-use Rattle.profile_writer.proofs.CountLemmas.{counts_alike, hits_alike}
+use Rattle.profile_writer.proofs.CountLemmas.{counted_alike, counts_alike, hits_alike, passed_alike}
 use Rattle.profile_writer.specs.Items.{call_in, head_in, ran_in}
+use Rattle.profile_writer.specs.Profile.{IsProfileOf, Parts, lines_text}
 use Rattle.profile_writer.specs.Shown.{ShowsProgram, ShowsSampled}
 
 -- every address is among all
@@ -72,20 +74,16 @@ module _ (program : Program) (sampled : Sampled) (all : List (List ℕ)) (keys :
         heads = heads_alike program all keys segments place function entered shown sampled.branches branch_rows rows.of_branches counts calls;
       })
 
-  -- what is written is the profile and the report
-  pub output_alike : (bs : List (Classed Class)) → bs ≡ branches → (rs : List (Classed RangeClass)) → rs ≡ ranges
+  -- what is made is the profile
+  pub profile_alike : (bs : List (Classed Class)) → bs ≡ branches → (rs : List (Classed RangeClass)) → rs ≡ ranges
       → IsNumbered all → IsNumbered keys → All (HasNames (length all)) keys
       → (lines : List Line) (counts : List ℕ)
       → map (told all) lines ≡ lines_of (said all keys counts (filter_map (call_in place) bs) (filter_map head_in bs))
       → length counts ≡ length keys → AreCountsOfPlaces segments (hits_at (filter_map ran_in rs)) counts
       → ((address : ℕ) → nat_lt address (2 ^ 64) ≡ false → hits_at (filter_map ran_in rs) address ≡ 0)
-      → (none before after : List ℕ) → none ≡ [] → before ≡ none ++ text_of_lines (map (told all) lines)
       → (cs : List (Classed Class)) → cs ≡ branches → (ds : List (Classed RangeClass)) → ds ≡ ranges
-      → ((classes : Classes) (s : Sampled) → Tells classes s cs ds units → after ≡ before ++ report_text classes s)
-      → after ≡ output_text program sampled
-  unfolding output_text
-  output_alike bs bs_are rs rs_are names_apart keys_apart key_names lines counts lines_are len counts_are beyond none before after none_is before_is cs cs_are ds ds_are after_is =
-      let classes = classes_told place function entered in
+      → IsProfileOf program sampled all segments (record { lines = lines; counts = counts; branches = cs; ranges = ds; units = units })
+  profile_alike bs bs_are rs rs_are names_apart keys_apart key_names lines counts lines_are len counts_are beyond cs cs_are ds ds_are =
       let given : Given all keys (filter_map (call_in place) branches) (filter_map head_in branches) = record {
         names_apart = names_apart;
         keys_apart = keys_apart;
@@ -93,21 +91,39 @@ module _ (program : Program) (sampled : Sampled) (all : List (List ℕ)) (keys :
         calls_given = calls_given program all keys segments place function entered shown branch_rows;
         heads_given = heads_given program all keys segments place function entered shown branch_rows;
       } in
-      let tells : Tells classes sampled cs ds units = record {
-        branch_rows = branch_rows;
-        range_rows = range_rows;
-        branches_are = cs_are;
-        ranges_are = ds_are;
-        of_branches = rows.of_branches;
-        of_ranges = rows.of_ranges;
-        in_order = rows.in_order;
-        read = rows.read;
-        passed = rows.passed;
-      } in
-      let text : map (told all) lines ≡ lines_of (profile_of program sampled) =
-      lines_are ∙ ap (λ (xs : List (Classed Class)). lines_of (said all keys counts (filter_map (call_in place) xs) (filter_map head_in xs))) bs_are
-      ∙ lines_alike counts given len (subst (λ (xs : List (Classed RangeClass)). AreCountsOfPlaces segments (hits_at (filter_map ran_in xs)) counts) rs_are counts_are)
-      (λ address far. ap (λ (xs : List (Classed RangeClass)). hits_at (filter_map ran_in xs) address) (sym rs_are) ∙ beyond address far) in
-      after_is classes sampled tells
-      ∙ ap (λ (t : List ℕ). t ++ report_text classes sampled) (before_is ∙ ap (λ (t : List ℕ). t ++ text_of_lines (map (told all) lines)) none_is ∙ ap text_of_lines text)
-      ∙ ap (λ (t : List ℕ). text_of_lines (lines_of (profile_of program sampled)) ++ t) (report_alike program all keys segments place function entered shown sampled)
+      let counts_told : AreCountsOfPlaces segments (hits_at (filter_map ran_in ranges)) counts =
+      subst (λ (xs : List (Classed RangeClass)). AreCountsOfPlaces segments (hits_at (filter_map ran_in xs)) counts) rs_are counts_are in
+      let none_beyond : (address : ℕ) → nat_lt address (2 ^ 64) ≡ false → hits_at (filter_map ran_in ranges) address ≡ 0 =
+      λ address far. ap (λ (xs : List (Classed RangeClass)). hits_at (filter_map ran_in xs) address) (sym rs_are) ∙ beyond address far in
+      record {
+        written = ap text_of_lines
+            (lines_are ∙ ap (λ (xs : List (Classed Class)). lines_of (said all keys counts (filter_map (call_in place) xs) (filter_map head_in xs))) bs_are
+            ∙ lines_alike counts given len counts_told none_beyond);
+        classes = classes_told place function entered;
+        classed = record {
+          branch_rows = branch_rows;
+          range_rows = range_rows;
+          branches_are = cs_are;
+          ranges_are = ds_are;
+          of_branches = rows.of_branches;
+          of_ranges = rows.of_ranges;
+          in_order = rows.in_order;
+          read = rows.read;
+          passed = rows.passed;
+        };
+        reported = report_alike program all keys segments place function entered shown sampled;
+        counted = counted_alike program sampled all keys segments place function entered shown all_addresses address_inside (λ address far. sym (ap (λ f. f address) hits_are) ∙ none_beyond address far) counts
+            (filter_map (call_in place) branches) (filter_map head_in branches) given len (subst (λ f. AreCountsOfPlaces segments f counts) hits_are counts_told);
+        passing = ap (λ (xs : List (Classed RangeClass)). passed (filter_map ran_in xs)) ds_are ∙ passed_alike program sampled function range_rows shown.functions rows.of_ranges;
+      }
+
+-- what is written of it is the profile and the report
+pub output_alike : (program : Program) (sampled : Sampled) (names : List (List ℕ)) (segments : List Seg) (parts : Parts) → IsProfileOf program sampled names segments parts
+    → (none before after : List ℕ) → none ≡ [] → before ≡ none ++ lines_text names parts
+    → ((classes : Classes) (s : Sampled) → Tells classes s parts.branches parts.ranges parts.units → after ≡ before ++ report_text classes s)
+    → after ≡ output_text program sampled
+unfolding output_text
+output_alike program sampled names segments parts is none before after none_is before_is after_is =
+    after_is is.classes sampled is.classed
+    ∙ ap (λ (t : List ℕ). t ++ report_text is.classes sampled) (before_is ∙ ap (λ (t : List ℕ). t ++ lines_text names parts) none_is ∙ is.written)
+    ∙ ap (λ (t : List ℕ). profile_text (profile_of program sampled) ++ t) is.reported

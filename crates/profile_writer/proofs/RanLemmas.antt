@@ -58,6 +58,9 @@ hits_fit ranges address few = omega (arith, few, ran_fits ranges, hits_are_withi
 pub times_small : (ran : List RanRange) (ranges : List (Classed RangeClass)) → ran ≡ filter_map ran_in ranges → all_times ranges ≤ max_branches → times_of ran < 2 ^ 64
 times_small ran ranges is few = subst (λ (rs : List RanRange). times_of rs < 2 ^ 64) (sym is) (omega (arith, few, ran_fits ranges))
 
+pub ran_few : (ran : List RanRange) (ranges : List (Classed RangeClass)) → ran ≡ filter_map ran_in ranges → all_times ranges ≤ max_branches → times_of ran ≤ max_branches
+ran_few ran ranges is few = subst (λ (rs : List RanRange). times_of rs ≤ max_branches) (sym is) (omega (arith, few, ran_fits ranges))
+
 pub hits_small : (hits : ℕ → ℕ) (ran : List RanRange) (ranges : List (Classed RangeClass)) → hits ≡ hits_at ran → ran ≡ filter_map ran_in ranges → all_times ranges ≤ max_branches → (address : ℕ) → hits address < 2 ^ 32
 hits_small hits ran ranges are is few address = subst (λ (f : ℕ → ℕ). f address < 2 ^ 32) (sym (are ∙ ap hits_at is)) (hits_fit ranges address few)
 

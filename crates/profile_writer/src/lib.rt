@@ -1,13 +1,18 @@
 //! The profile of a program and the report on its samples, as they are written, by any map of the
 //! program's places.
 //!
-//! `write` classes the sampled branches and ranges, counts how often addresses ran, what was called
-//! and what was entered, and writes the lines that come of these.
+//! `Profile` classes the sampled branches and ranges once, and counts how often addresses ran, what
+//! was called and what was entered. It appends the lines that come of these and the report, and
+//! lends the counts of keys and the ranges that ran to what is weighed by them. `write` does both.
 #![tactic(auto)]
 
 mod counted;
 mod output;
+mod profile;
+mod samples;
 mod tree;
 
-pub use output::{Samples, write};
+pub use output::write;
+pub use profile::Profile;
 pub use profile_report::Units;
+pub use samples::Samples;

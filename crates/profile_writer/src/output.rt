@@ -10,22 +10,11 @@ ghost use Rattle.output_model.specs.Output.{output_text};
 ghost use Rattle.output_model.specs.Program.{Program};
 ghost use Rattle.profile_writer.specs.Shown.{ShowsProgram, ShowsSampled};
 
-use crate::tree::tree_of;
+use crate::profile::Profile;
+use crate::samples::Samples;
 use key_types::{Keys, Names, Places, Seg};
-use profile_report::{Units, class_branches, class_ranges};
 use refusal::NoMemory;
-use sample_model::Pair;
 use std::alloc::Global;
-
-/// What was sampled of a program, and how many units its debugging information has.
-#[derive(Clone, Copy, Debug)]
-pub struct Samples<'s> {
-    /// The distinct branches by source and then by target, each with how often it was taken.
-    pub branches: &'s [Pair],
-    /// The distinct sampled ranges, each with how often it stands.
-    pub ranges: &'s [Pair],
-    pub units: Units,
-}
 
 /// The profile of a program and its samples, then the report on them. `places` is the map of the
 /// program; the numbers in it are those of `keys` and `names`, and `segments` are the parts of the
@@ -54,13 +43,9 @@ pub fn write<P: Places>(
         → ShowsSampled sampled samples.now.branches.now samples.now.ranges.now samples.now.units
         → out.items ≡ output_text program sampled) }
 {
-    keys.each_once();
-    names.each_once();
-    let branches = class_branches(alloc, samples.branches, places)?;
-    let ranges = class_ranges(alloc, samples.ranges, places)?;
-    let tree = tree_of(alloc, &branches, &ranges, places, segments, keys, names)?;
+    let profile = Profile::make(alloc, samples, places, segments, keys, names)?;
     let mut out = Vec::new(alloc);
-    profile_text::write(&tree, names, &mut out)?;
-    profile_report::write(&mut out, &branches, &ranges, samples.units)?;
+    profile.push_lines(names, &mut out)?;
+    profile.push_report(&mut out)?;
     Ok(out)
 }

@@ -52,6 +52,7 @@ pub(crate) fn tree_of<P: Places>(
     ensures counts { IfOk result (λ tree. AreCountsOfPlaces segments.now
         (hits_at (filter_map ran_in ranges.now)) tree.counts) }
     ensures len { IfOk result (λ tree. length tree.counts ≡ length keys.now) }
+    ensures small { IfOk result (λ tree. All (λ count. count < 2 ^ 44) tree.counts) }
     ensures beyond { OnOk result ((address : ℕ) → nat_lt address (2 ^ 64) ≡ false
         → hits_at (filter_map ran_in ranges.now) address ≡ 0) }
 {

@@ -37,7 +37,7 @@ pub returns-in_err-counts-clause-carried : goal.returns-in_err-counts-clause-car
 returns-in_err-counts-clause-carried g c =
     let command : Command = build_command (told_options c.args.options) c.args.binary.now c.args.perf.now c.args.blocks.now in
     let first = behind-binary command _ c.args.binary.now c.deref.result.now (asked_samples c.args.perf.now ∷ asked_blocks c.args.blocks.now ∷ []) c.read.result _ c.in_ok-binary.binary _ _ (Reached-start command _ _)
-        (is-there _ c.args.binary.now 1 max_binary_bytes c.in_ok-file.file c.deref.result.now c.in_ok-file.ensures.file c.deref.ensures.value) c.read.ensures (sym c.in_file.ensures ∙ c.in_ok-binary.was) c.in_ok-file.ensures.opens in
+    (is-there _ c.args.binary.now 1 max_binary_bytes c.in_ok-file.file c.deref.result.now c.in_ok-file.ensures.file c.deref.ensures.value) c.read.ensures (sym c.in_file.ensures ∙ c.in_ok-binary.was) c.in_ok-file.ensures.opens in
     Reached-stop Tally command _ (c.deref.result.now ∷ []) c.args.perf.now (λ before. first_bad_of_text 2) (asked_blocks c.args.blocks.now ∷ []) 2 c.in_err-counts.field-0.0 _ _ _ _ _ _
     first refl c.in_err-counts.ensures.opens
     (samples-end _ _ c.args.perf.now (option_map (λ name. record { name = name.now; segments = c.deref-2.result.now }) c.args.options.map) c.in_err-counts.field-0.0 c.read_file.ensures.store c.in_err-counts.ensures.file)
@@ -48,9 +48,9 @@ pub returns-in_err-block_text-clause-carried : goal.returns-in_err-block_text-cl
 returns-in_err-block_text-clause-carried g c =
     let command : Command = build_command (told_options c.args.options) c.args.binary.now c.args.perf.now c.args.blocks.now in
     let first = behind-binary command _ c.args.binary.now c.deref.result.now (asked_samples c.args.perf.now ∷ asked_blocks c.args.blocks.now ∷ []) c.read.result _ c.in_ok-binary.binary _ _ (Reached-start command _ _)
-        (is-there _ c.args.binary.now 1 max_binary_bytes c.in_ok-file.file c.deref.result.now c.in_ok-file.ensures.file c.deref.ensures.value) c.read.ensures (sym c.in_file.ensures ∙ c.in_ok-binary.was) c.in_ok-file.ensures.opens in
+    (is-there _ c.args.binary.now 1 max_binary_bytes c.in_ok-file.file c.deref.result.now c.in_ok-file.ensures.file c.deref.ensures.value) c.read.ensures (sym c.in_file.ensures ∙ c.in_ok-binary.was) c.in_ok-file.ensures.opens in
     let samples = behind-samples command _ _ c.args.perf.now c.deref.result.now (option_map (λ name. record { name = name.now; segments = c.deref-2.result.now }) c.args.options.map) c.in_ok-counts.counts (asked_blocks c.args.blocks.now ∷ []) _ _ _ first
-        c.read_file.ensures.store c.in_ok-counts.ensures.file c.in_ok-counts.ensures.opens in
+    c.read_file.ensures.store c.in_ok-counts.ensures.file c.in_ok-counts.ensures.opens in
     Reached-stop (Vec ℕ) command _ (c.deref.result.now ∷ samples.0 ∷ []) c.args.blocks.now (λ before. first_bad_of_blocks 3) [] 3 c.in_err-block_text.field-0.0 _ _ _ _ _ _
     samples.1 refl c.in_err-block_text.ensures.opens
     (ends-behind _ _ c.args.blocks.now c.in_err-block_text.field-0.0 (c.in_ok-counts.ensures.store ∙ c.read_file.ensures.store) (unread-blocks _ c.args.blocks.now c.in_err-block_text.field-0.0 c.in_err-block_text.ensures.file))
@@ -61,9 +61,9 @@ pub returns-in_err-funs-clause-carried : goal.returns-in_err-funs-clause-carried
 returns-in_err-funs-clause-carried g c =
     let command : Command = build_command (told_options c.args.options) c.args.binary.now c.args.perf.now c.args.blocks.now in
     let first = behind-binary command _ c.args.binary.now c.deref.result.now (asked_samples c.args.perf.now ∷ asked_blocks c.args.blocks.now ∷ []) c.read.result _ c.in_ok-binary.binary _ _ (Reached-start command _ _)
-        (is-there _ c.args.binary.now 1 max_binary_bytes c.in_ok-file.file c.deref.result.now c.in_ok-file.ensures.file c.deref.ensures.value) c.read.ensures (sym c.in_file.ensures ∙ c.in_ok-binary.was) c.in_ok-file.ensures.opens in
+    (is-there _ c.args.binary.now 1 max_binary_bytes c.in_ok-file.file c.deref.result.now c.in_ok-file.ensures.file c.deref.ensures.value) c.read.ensures (sym c.in_file.ensures ∙ c.in_ok-binary.was) c.in_ok-file.ensures.opens in
     let samples = behind-samples command _ _ c.args.perf.now c.deref.result.now (option_map (λ name. record { name = name.now; segments = c.deref-2.result.now }) c.args.options.map) c.in_ok-counts.counts (asked_blocks c.args.blocks.now ∷ []) _ _ _ first
-        c.read_file.ensures.store c.in_ok-counts.ensures.file c.in_ok-counts.ensures.opens in
+    c.read_file.ensures.store c.in_ok-counts.ensures.file c.in_ok-counts.ensures.opens in
     Reached-judged command _ (c.deref.result.now ∷ samples.0 ∷ []) c.args.blocks.now (λ before. first_bad_of_blocks 3) [] 3 c.deref-3.result.now c.read-2.result _ c.in_err-funs.field-0.0 _ _ _ _ _ _
     samples.1 refl c.in_ok-block_text.ensures.opens (there-behind _ _ c.args.blocks.now c.deref-3.result.now (c.in_ok-counts.ensures.store ∙ c.read_file.ensures.store) (is-there _ c.args.blocks.now 3 max_block_bytes c.in_ok-block_text.block_text c.deref-3.result.now c.in_ok-block_text.ensures.file c.deref-3.ensures.value))
     (blocks_judged c.deref-3.result.now c.read-2.result _ (subst (λ t. length t ≤ max_block_bytes) (sym c.deref-3.ensures.value) c.in_ok-block_text.ensures.within) c.read-2.ensures) (sym c.in_file-2.ensures ∙ c.in_err-funs.was) (c.in_ok-block_text.ensures.cause.0 ∙ c.in_ok-counts.ensures.cause.0 ∙ c.in_ok-file.ensures.cause.0) c.from_residual-in_err-funs.ensures.1
@@ -83,11 +83,11 @@ returns-in_err-text-clause-carried g c =
     let command : Command = build_command (told_options c.args.options) c.args.binary.now c.args.perf.now c.args.blocks.now in
     let read = judged-good 3 (block_model.first_bad_of_text 3 c.deref-3.result.now) c.read-2.result _ c.in_ok-funs.funs c.read-2.ensures (sym c.in_file-2.ensures ∙ c.in_ok-funs.was) in
     let first = behind-binary command _ c.args.binary.now c.deref.result.now (asked_samples c.args.perf.now ∷ asked_blocks c.args.blocks.now ∷ []) c.read.result _ c.in_ok-binary.binary _ _ (Reached-start command _ _)
-        (is-there _ c.args.binary.now 1 max_binary_bytes c.in_ok-file.file c.deref.result.now c.in_ok-file.ensures.file c.deref.ensures.value) c.read.ensures (sym c.in_file.ensures ∙ c.in_ok-binary.was) c.in_ok-file.ensures.opens in
+    (is-there _ c.args.binary.now 1 max_binary_bytes c.in_ok-file.file c.deref.result.now c.in_ok-file.ensures.file c.deref.ensures.value) c.read.ensures (sym c.in_file.ensures ∙ c.in_ok-binary.was) c.in_ok-file.ensures.opens in
     let samples = behind-samples command _ _ c.args.perf.now c.deref.result.now (option_map (λ name. record { name = name.now; segments = c.deref-2.result.now }) c.args.options.map) c.in_ok-counts.counts (asked_blocks c.args.blocks.now ∷ []) _ _ _ first
-        c.read_file.ensures.store c.in_ok-counts.ensures.file c.in_ok-counts.ensures.opens in
+    c.read_file.ensures.store c.in_ok-counts.ensures.file c.in_ok-counts.ensures.opens in
     let third = Reached-more command _ (c.deref.result.now ∷ samples.0 ∷ []) c.args.blocks.now (λ before. first_bad_of_blocks 3) [] c.deref-3.result.now _ _ _ samples.1
-        (is-good _ c.args.blocks.now (first_bad_of_blocks 3) c.deref-3.result.now (there-behind _ _ c.args.blocks.now c.deref-3.result.now (c.in_ok-counts.ensures.store ∙ c.read_file.ensures.store) (is-there _ c.args.blocks.now 3 max_block_bytes c.in_ok-block_text.block_text c.deref-3.result.now c.in_ok-block_text.ensures.file c.deref-3.ensures.value)) (judged_by_lines c.deref-3.result.now (subst (λ t. length t ≤ max_block_bytes) (sym c.deref-3.ensures.value) c.in_ok-block_text.ensures.within) ∙ read.0)) c.in_ok-block_text.ensures.opens in
+    (is-good _ c.args.blocks.now (first_bad_of_blocks 3) c.deref-3.result.now (there-behind _ _ c.args.blocks.now c.deref-3.result.now (c.in_ok-counts.ensures.store ∙ c.read_file.ensures.store) (is-there _ c.args.blocks.now 3 max_block_bytes c.in_ok-block_text.block_text c.deref-3.result.now c.in_ok-block_text.ensures.file c.deref-3.ensures.value)) (judged_by_lines c.deref-3.result.now (subst (λ t. length t ≤ max_block_bytes) (sym c.deref-3.ensures.value) c.in_ok-block_text.ensures.within) ∙ read.0)) c.in_ok-block_text.ensures.opens in
     Reached-no-memory command _ (c.deref.result.now ∷ samples.0 ∷ c.deref-3.result.now ∷ []) [] _ _ _ _ _ third (c.in_ok-block_text.ensures.cause.0 ∙ c.in_ok-counts.ensures.cause.0 ∙ c.in_ok-file.ensures.cause.0) c.from_residual-in_err-text.ensures.1
 
 pub returns-clause-carried : goal.returns-clause-carried
@@ -96,11 +96,11 @@ returns-clause-carried g c =
     let good = judged-good 1 (first_bad_of_binary c.deref.result.now) c.read.result _ c.in_ok-binary.binary c.read.ensures (sym c.in_file.ensures ∙ c.in_ok-binary.was) in
     let read = judged-good 3 (block_model.first_bad_of_text 3 c.deref-3.result.now) c.read-2.result _ c.in_ok-funs.funs c.read-2.ensures (sym c.in_file-2.ensures ∙ c.in_ok-funs.was) in
     let first = behind-binary command _ c.args.binary.now c.deref.result.now (asked_samples c.args.perf.now ∷ asked_blocks c.args.blocks.now ∷ []) c.read.result _ c.in_ok-binary.binary _ _ (Reached-start command _ _)
-        (is-there _ c.args.binary.now 1 max_binary_bytes c.in_ok-file.file c.deref.result.now c.in_ok-file.ensures.file c.deref.ensures.value) c.read.ensures (sym c.in_file.ensures ∙ c.in_ok-binary.was) c.in_ok-file.ensures.opens in
+    (is-there _ c.args.binary.now 1 max_binary_bytes c.in_ok-file.file c.deref.result.now c.in_ok-file.ensures.file c.deref.ensures.value) c.read.ensures (sym c.in_file.ensures ∙ c.in_ok-binary.was) c.in_ok-file.ensures.opens in
     let samples = behind-samples command _ _ c.args.perf.now c.deref.result.now (option_map (λ name. record { name = name.now; segments = c.deref-2.result.now }) c.args.options.map) c.in_ok-counts.counts (asked_blocks c.args.blocks.now ∷ []) _ _ _ first
-        c.read_file.ensures.store c.in_ok-counts.ensures.file c.in_ok-counts.ensures.opens in
+    c.read_file.ensures.store c.in_ok-counts.ensures.file c.in_ok-counts.ensures.opens in
     let third = Reached-more command _ (c.deref.result.now ∷ samples.0 ∷ []) c.args.blocks.now (λ before. first_bad_of_blocks 3) [] c.deref-3.result.now _ _ _ samples.1
-        (is-good _ c.args.blocks.now (first_bad_of_blocks 3) c.deref-3.result.now (there-behind _ _ c.args.blocks.now c.deref-3.result.now (c.in_ok-counts.ensures.store ∙ c.read_file.ensures.store) (is-there _ c.args.blocks.now 3 max_block_bytes c.in_ok-block_text.block_text c.deref-3.result.now c.in_ok-block_text.ensures.file c.deref-3.ensures.value)) (judged_by_lines c.deref-3.result.now (subst (λ t. length t ≤ max_block_bytes) (sym c.deref-3.ensures.value) c.in_ok-block_text.ensures.within) ∙ read.0)) c.in_ok-block_text.ensures.opens in
+    (is-good _ c.args.blocks.now (first_bad_of_blocks 3) c.deref-3.result.now (there-behind _ _ c.args.blocks.now c.deref-3.result.now (c.in_ok-counts.ensures.store ∙ c.read_file.ensures.store) (is-there _ c.args.blocks.now 3 max_block_bytes c.in_ok-block_text.block_text c.deref-3.result.now c.in_ok-block_text.ensures.file c.deref-3.ensures.value)) (judged_by_lines c.deref-3.result.now (subst (λ t. length t ≤ max_block_bytes) (sym c.deref-3.ensures.value) c.in_ok-block_text.ensures.within) ∙ read.0)) c.in_ok-block_text.ensures.opens in
     Reached-all command _ (c.deref.result.now ∷ samples.0 ∷ c.deref-3.result.now ∷ []) c.in_ok-text.text _ _ _ _ third refl
     (where-told _ samples.2 (λ files tells. built c.deref.result.now c.args.options.base c.in_ok-binary.binary c.args.options.map c.deref-2.result.now c.in_ok-counts.counts samples.0 c.deref-3.result.now c.in_ok-text.text.items
     c.args.options.edges c.deref-4.result.now good.1 c.deref-2.ensures.value c.in_ok-text.ensures tells.0 tells.1 (ap (map function_of) c.deref-4.ensures.value ∙ read.1)))

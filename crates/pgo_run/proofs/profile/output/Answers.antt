@@ -31,7 +31,7 @@ pub returns-in_err-counts-clause-carried : goal.returns-in_err-counts-clause-car
 returns-in_err-counts-clause-carried g c =
     let command : Command = profile_command (told_options c.args.options) c.args.binary.now c.args.perf.now in
     let first = behind-binary command _ c.args.binary.now c.deref.result.now (asked_samples c.args.perf.now ∷ []) c.read.result _ c.in_ok-binary.binary _ _ (Reached-start command _ _)
-        (is-there _ c.args.binary.now 1 max_binary_bytes c.in_ok-file.file c.deref.result.now c.in_ok-file.ensures.file c.deref.ensures.value) c.read.ensures (sym c.in_file.ensures ∙ c.in_ok-binary.was) c.in_ok-file.ensures.opens in
+    (is-there _ c.args.binary.now 1 max_binary_bytes c.in_ok-file.file c.deref.result.now c.in_ok-file.ensures.file c.deref.ensures.value) c.read.ensures (sym c.in_file.ensures ∙ c.in_ok-binary.was) c.in_ok-file.ensures.opens in
     Reached-stop Tally command _ (c.deref.result.now ∷ []) c.args.perf.now (λ before. first_bad_of_text 2) ([]) 2 c.in_err-counts.field-0.0 _ _ _ _ _ _
     first refl c.in_err-counts.ensures.opens
     (samples-end _ _ c.args.perf.now (option_map (λ name. record { name = name.now; segments = c.deref-2.result.now }) c.args.options.map) c.in_err-counts.field-0.0 c.read_file.ensures.store c.in_err-counts.ensures.file)
@@ -47,9 +47,9 @@ pub returns-in_err-text-clause-carried : goal.returns-in_err-text-clause-carried
 returns-in_err-text-clause-carried g c =
     let command : Command = profile_command (told_options c.args.options) c.args.binary.now c.args.perf.now in
     let first = behind-binary command _ c.args.binary.now c.deref.result.now (asked_samples c.args.perf.now ∷ []) c.read.result _ c.in_ok-binary.binary _ _ (Reached-start command _ _)
-        (is-there _ c.args.binary.now 1 max_binary_bytes c.in_ok-file.file c.deref.result.now c.in_ok-file.ensures.file c.deref.ensures.value) c.read.ensures (sym c.in_file.ensures ∙ c.in_ok-binary.was) c.in_ok-file.ensures.opens in
+    (is-there _ c.args.binary.now 1 max_binary_bytes c.in_ok-file.file c.deref.result.now c.in_ok-file.ensures.file c.deref.ensures.value) c.read.ensures (sym c.in_file.ensures ∙ c.in_ok-binary.was) c.in_ok-file.ensures.opens in
     let samples = behind-samples command _ _ c.args.perf.now c.deref.result.now (option_map (λ name. record { name = name.now; segments = c.deref-2.result.now }) c.args.options.map) c.in_ok-counts.counts ([]) _ _ _ first
-        c.read_file.ensures.store c.in_ok-counts.ensures.file c.in_ok-counts.ensures.opens in
+    c.read_file.ensures.store c.in_ok-counts.ensures.file c.in_ok-counts.ensures.opens in
     Reached-no-memory command _ (c.deref.result.now ∷ samples.0 ∷ []) [] _ _ _ _ _ samples.1
     (c.in_ok-counts.ensures.cause.0 ∙ c.in_ok-file.ensures.cause.0) c.from_residual-in_err-text.ensures.1
 
@@ -58,9 +58,9 @@ returns-clause-carried g c =
     let command : Command = profile_command (told_options c.args.options) c.args.binary.now c.args.perf.now in
     let good = judged-good 1 (first_bad_of_binary c.deref.result.now) c.read.result _ c.in_ok-binary.binary c.read.ensures (sym c.in_file.ensures ∙ c.in_ok-binary.was) in
     let first = behind-binary command _ c.args.binary.now c.deref.result.now (asked_samples c.args.perf.now ∷ []) c.read.result _ c.in_ok-binary.binary _ _ (Reached-start command _ _)
-        (is-there _ c.args.binary.now 1 max_binary_bytes c.in_ok-file.file c.deref.result.now c.in_ok-file.ensures.file c.deref.ensures.value) c.read.ensures (sym c.in_file.ensures ∙ c.in_ok-binary.was) c.in_ok-file.ensures.opens in
+    (is-there _ c.args.binary.now 1 max_binary_bytes c.in_ok-file.file c.deref.result.now c.in_ok-file.ensures.file c.deref.ensures.value) c.read.ensures (sym c.in_file.ensures ∙ c.in_ok-binary.was) c.in_ok-file.ensures.opens in
     let samples = behind-samples command _ _ c.args.perf.now c.deref.result.now (option_map (λ name. record { name = name.now; segments = c.deref-2.result.now }) c.args.options.map) c.in_ok-counts.counts ([]) _ _ _ first
-        c.read_file.ensures.store c.in_ok-counts.ensures.file c.in_ok-counts.ensures.opens in
+    c.read_file.ensures.store c.in_ok-counts.ensures.file c.in_ok-counts.ensures.opens in
     Reached-all command _ (c.deref.result.now ∷ samples.0 ∷ []) c.in_ok-text.text _ _ _ _ samples.1 refl
     (where-told _ samples.2 (λ files tells. written c.deref.result.now c.args.options.base c.in_ok-binary.binary c.args.options.map c.deref-2.result.now c.in_ok-counts.counts samples.0 c.in_ok-text.text.items
     good.1 c.deref-2.ensures.value c.in_ok-text.ensures tells.0 tells.1))

@@ -479,6 +479,17 @@ def builds():
         b"# function f0000 cut 0\n# block 0 weight 1 in 0 out 1\n# block 1 weight 1 in 1 out 1\n"
         b"# block 2 weight 1 in 1 out 1\n# block 3 weight 2 in 1 out 0\n# end 2 1\n",
     )
+    # As many blocks and edges as a function may have: a chain to the exit, and from each block edges that lead no nearer.
+    edges = [(0, 65535), (0, 0), (1, 0), (1, 1), (1, 2), (1, 3), (1, 4), (1, 65535)]
+    edges += [pair for n in range(2, 65536) for pair in ((n, n - 1), (n, n), (n, 0), (n, 65535))]
+    widest = [b"func widest", b"block 0 0x401000 0x401001"]
+    widest += [b"block %d 0x%x 0x%x%s" % (n, 0x500000 + n, 0x500001 + n, b" exit" if n == 1 else b"") for n in range(1, 65536)]
+    widest += [b"edge %d %d" % pair for pair in edges] + [b"end\n"]
+    judge(
+        "the widest function", (DONE, b"65536 262144 # end 65535\n", b""), ["build", "bin", "perf", "cfg"],
+        told=lambda out: b"%d %d %s" % (out.count(b"# block "), out.count(b"# edge "), re.findall(rb"# end .*\n", out)[0]),
+        bin=ONE, perf=b"0x401000/0x9 0x9/0x401000\n", cfg=b"\n".join(widest),
+    )
     for said, text, blocks, perf in [
         (b"file 3 at 2: BlockOrder", ONE, b"func a\nblock 1 0x1 0x2\n", b""),
         (b"file 3 at 2: BadBound", ONE, b"func a\nblock 0 0x1 0x2 lo=3 hi=2\n", b""),

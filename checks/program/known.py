@@ -450,6 +450,7 @@ def builds():
     )
     none = (b"0", b"0", b"0", b"0"), (0,) * 8, 0
     repaired("no sample", b"", BLOCKS, counted(*none))
+    repaired("no sample of edges", b"", BLOCKS, counted(*none, edges=(b"0",) * 4), "--edges")
     uneven = b"0x401001/0x9 0x9/0x401001\n" * 100 + b"0x401008/0x9 0x9/0x401008\n" * 60 + b"0x401020/0x9 0x9/0x401020\n" * 100
     weights, counts = (b"100", b"60", b"0", b"100"), (100, 100, 0, 100, 100, 0, 100, 0)
     repaired("weights that do not conserve", uneven, BLOCKS, counted(weights, counts, 400))

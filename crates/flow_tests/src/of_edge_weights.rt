@@ -94,25 +94,3 @@ fn edges_have_the_weights_of_their_ways(rt: HostRuntime) -> Result<(), test::Fai
     assert_eq!(rt; made.as_slice(), want.as_slice());
     Ok(())
 }
-
-#[test]
-fn without_samples_each_known_edge_has_the_weight_0(rt: HostRuntime) -> Result<(), test::Fail> {
-    let alloc = rt.alloc();
-    let blocks = [block(0x401000, 0x401008), block(0x401008, 0x401010)];
-    let edges = [edge(0, 1), edge(1, 0)];
-    let fun = Fun {
-        name: b"f",
-        blocks: Items::new(Vec::from_slice(alloc, &blocks)?),
-        edges: Items::new(Vec::from_slice(alloc, &edges)?),
-    };
-    let samples = EdgeSamples::new(alloc, &[], &[])?;
-    let made = edge_weights(
-        alloc,
-        &fun,
-        &samples,
-        &[Weight::Known(100), Weight::Known(60)],
-    )?;
-    let want = [Weight::Known(0), Weight::Known(0)];
-    assert_eq!(rt; made.as_slice(), want.as_slice());
-    Ok(())
-}

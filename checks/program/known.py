@@ -456,9 +456,12 @@ def builds():
     repaired("weights that do not conserve", uneven, BLOCKS, counted(weights, counts, 400))
     repaired("the same with edges that no branch took", uneven, BLOCKS, counted(weights, counts, 1000, edges=(b"0",) * 4), "--edges")
     both = (b"1", b"1", b"1", b"2"), (2, 1, 1, 2, 1, 1, 1, 1), 40
-    repaired("two ways", TWO_SAMPLES, BLOCKS, counted(*both))
+    judge(
+        "two ways, of which several counts cost as little", (DONE, b"# end 40\n", b""), ["build", "bin", "perf", "cfg"],
+        told=lambda out: b"".join(re.findall(rb"# end .*\n", out)), bin=ONE, perf=TWO_SAMPLES, cfg=BLOCKS,
+    )
     repaired("two ways by their edges", TWO_SAMPLES, BLOCKS, counted(*both, edges=(b"1",) * 4), "--edges")
-    repaired("a function twice", TWO_SAMPLES, BLOCKS + BLOCKS, 2 * counted(*both))
+    repaired("a function twice", uneven, BLOCKS + BLOCKS, 2 * counted(weights, counts, 400))
     repaired("no function", TWO_SAMPLES, b"", b"")
     repaired(
         "a function of other addresses", TWO_SAMPLES, b"func far\nblock 0 0x1 0x2 exit\nend\n",
@@ -481,14 +484,15 @@ def builds():
         b"# block 2 weight 1 in 1 out 1\n# block 3 weight 2 in 1 out 0\n# end 2 1\n",
     )
     # As many blocks and edges as a function may have: a chain to the exit, and from each block edges that lead no nearer.
-    edges = [(0, 65535), (0, 0), (1, 0), (1, 1), (1, 2), (1, 3), (1, 4), (1, 65535)]
-    edges += [pair for n in range(2, 65536) for pair in ((n, n - 1), (n, n), (n, 0), (n, 65535))]
+    edges = [(0, 65535), (0, 0), (1, 0), (1, 1), (1, 2), (1, 3), (1, 4), (1, 5), (1, 65535)]
+    edges += [pair for n in range(2, 65535) for pair in ((n, n - 1), (n, n), (n, 0), (n, 65535))]
+    edges += [(65535, 65534), (65535, 65535), (65535, 0)]
     widest = [b"func widest", b"block 0 0x401000 0x401001"]
     widest += [b"block %d 0x%x 0x%x%s" % (n, 0x500000 + n, 0x500001 + n, b" exit" if n == 1 else b"") for n in range(1, 65536)]
     widest += [b"edge %d %d" % pair for pair in edges] + [b"end\n"]
     judge(
         "the widest function", (DONE, b"65536 262144 # end 65535\n", b""), ["build", "bin", "perf", "cfg"],
-        told=lambda out: b"%d %d %s" % (out.count(b"# block "), out.count(b"# edge "), re.findall(rb"# end .*\n", out)[0]),
+        told=lambda out: b"%d %d " % (out.count(b"# block "), out.count(b"# edge ")) + b"".join(re.findall(rb"# end .*\n", out)),
         bin=ONE, perf=b"0x401000/0x9 0x9/0x401000\n", cfg=b"\n".join(widest),
     )
     for said, text, blocks, perf in [

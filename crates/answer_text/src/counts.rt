@@ -1,8 +1,8 @@
 // What `counts` writes.
-ghost use Rattle.std.specs.Prelude.{◌≡◌, ◌++◌, List, ℕ, IfOk, OnOk};
+ghost use Rattle.std.specs.Prelude.{◌≡◌, ◌++◌, List, ℕ, IfOk, OnOk, None};
 ghost use Rattle.sample_model.specs.Samples.{branches_of_lines};
 ghost use Rattle.branch_counts.specs.Table.{pair_of};
-ghost use Rattle.branch_counts.specs.Tally.{TellsOf};
+ghost use Rattle.branch_counts.specs.Tally.{Tells};
 ghost use Rattle.command_model.specs.Counts as model;
 
 use branch_counts::Counts;
@@ -14,7 +14,7 @@ use text_scan::{push_hex, push_number};
 /// What `counts` writes of what was counted of a branch text: the lines of the branches, by source
 /// and then by target, and the line of their number.
 pub fn counts_text(alloc: Global, counts: Counts) -> Result<Vec<u8>, NoMemory>
-    ensures { IfOk result (λ out. (lines : List (List ℕ)) → TellsOf lines counts →
+    ensures { IfOk result (λ out. (lines : List (List ℕ)) → Tells None lines counts →
         out.items ≡ model.counts_text (branches_of_lines lines)) }
 {
     let total = counts.total();

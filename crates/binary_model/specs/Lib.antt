@@ -2,5 +2,5 @@ pub mod Sections
 pub mod LinePrograms
 pub mod Binary
 pub mod Places
-pub mod Shown
+pub mod Told
 pub mod Addresses

@@ -12,7 +12,7 @@ use Rattle.context_map.specs.Maps.{IsMap, place_told, rows_of}
 use Rattle.profile_model.specs.Ways.{Way}
 use Rattle.binary_model.specs.Binary.{members_in, tables_in, units_in}
 use Rattle.binary_model.specs.Places.{Place, way_of}
-use Rattle.binary_model.specs.Shown.{ShowsBy}
+use Rattle.binary_model.specs.Told.{TellsBy}
 use Rattle.binary_places.specs.declared.binary.Binary.{Binary}
 
 -- The map is that of the binary's members, whose names have numbers among the names, and each key has a segment in it;
@@ -38,6 +38,6 @@ pub record IsWay (names : List (List ℕ)) (keys : List Key) (way : Way) (id : K
   pub given : IsGiven names key
   pub way_is : way ≡ way_of names key
 
--- An answer of a map shows a place, a way by a key whose names all have numbers.
-abbrev pub Shows : List (List ℕ) → List Key → Place → Where → Type 0
-Shows names keys place answer = ShowsBy (IsWay names keys) place answer
+-- An answer of a map tells a place, a way by a key whose names all have numbers.
+abbrev pub Tells : List (List ℕ) → List Key → Place → Where → Type 0
+Tells names keys place answer = TellsBy (IsWay names keys) place answer

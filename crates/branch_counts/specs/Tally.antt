@@ -39,10 +39,6 @@ pub record Tells (loading : Option LoadMap) (lines : List (List ℕ)) (tally : T
   pub branches : Tallies (branches_by loading lines) tally.branches
   pub ranges : Tallies (ranges_by loading (counted tally.with_ranges lines)) tally.ranges
 
--- The same of lines whose addresses are as they stand.
-abbrev pub TellsOf : List (List ℕ) → Tally → Type 0
-TellsOf lines tally = Tells None lines tally
-
 -- What is kept: both are tables, the total is that of the branches and within the limit, and there are no more ranges
 -- than branches.
 pub record IsCounted (tally : Tally) (count : ℕ) : Type 0 where

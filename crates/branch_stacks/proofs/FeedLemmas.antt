@@ -22,7 +22,7 @@ use Rattle.sample_model.specs.Moves.{LoadMap}
 use Rattle.sample_model.proofs.JudgingLemmas.{next_item, first_bad_of_piece-within, lines_before_bad-all}
 use Rattle.branch_stacks.specs.Loads.{AddsLine}
 use Rattle.branch_stacks.specs.Reader.{Reading, HasRead, behind_line, new_reading_by, held_of, room_of, ended_text, Feeds, Finishes, ReadsMore}
-use Rattle.branch_counts.specs.Tally.{Tally, Tells, TellsOf}
+use Rattle.branch_counts.specs.Tally.{Tally, Tells}
 use Rattle.branch_stacks.specs.Text.{item_of_counted, TellsBefore}
 use Rattle.branch_stacks.proofs.ReaderLemmas.{HasRead-ended, HasRead-sized, item_is, line_stop, text_ended}
 use Rattle.branch_stacks.proofs.TextLemmas.{Tells-nothing}
@@ -176,7 +176,7 @@ Finishes-line old new before after (Err stop) some judged same text has =
 
 -- ---- before the first piece
 
-pub HasRead-start : (loading : Option LoadMap) (file : ℕ) (tally : Tally) → TellsOf [] tally → HasRead [] (new_reading_by loading file) tally
+pub HasRead-start : (loading : Option LoadMap) (file : ℕ) (tally : Tally) → Tells None [] tally → HasRead [] (new_reading_by loading file) tally
 unfolding lines_of ended_lines_of items_of_lines
 HasRead-start None file tally tells = record {
   rest = [];

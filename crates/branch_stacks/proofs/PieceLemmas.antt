@@ -1,5 +1,5 @@
 -- A text that comes in pieces, as one text.
-use Rattle.std.proofs.Common.{◌≡◌, ℕ, ◌+◌, ◌-◌, ◌<◌, ◌≤◌, nat_lt, true, false, List, [], ◌∷◌, ◌++◌, length, take, drop, get_or, Option, Some, Result, Ok, Err, refl, sym, ap, subst, ◌∙◌, arith, length-append}
+use Rattle.std.proofs.Common.{◌≡◌, ℕ, ◌+◌, ◌-◌, ◌<◌, ◌≤◌, nat_lt, true, false, List, [], ◌∷◌, ◌++◌, length, take, drop, get_or, Option, Some, Result, Ok, Err, refl, sym, ap, subst, ◌∙◌, arith, length-append, None}
 use Rattle.std.specs.List.{flat_map}
 use Rattle.std.proofs.lemmas.Bool.Decides.{nat_tests}
 use Rattle.std.proofs.lemmas.Grind.{flat_map-append}
@@ -15,7 +15,7 @@ use Rattle.sample_model.specs.Limits.{max_text_bytes}
 use Rattle.sample_model.specs.Moves.{LoadMap}
 use Rattle.sample_model.proofs.JudgingLemmas.{bad_places_stay, first_bad_of_piece-within, first_bad_of_text-within, judged_lines_of-cut, judged_lines_of-front, judged_lines_of-whole, lines_before_bad-more, lines_before_bad-some}
 use Rattle.branch_stacks.specs.Reader.{Reading, HasRead, new_reading_by, room_of, Feeds, Finishes}
-use Rattle.branch_counts.specs.Tally.{Tally, Tells, TellsOf}
+use Rattle.branch_counts.specs.Tally.{Tally, Tells}
 use Rattle.branch_stacks.specs.Text.{TellsBefore}
 use Rattle.branch_stacks.proofs.FeedLemmas.{HasRead-start}
 
@@ -27,7 +27,7 @@ pub record PiecesSoFar (loading : Option LoadMap) (file : ℕ) (text : List ℕ)
   pub within : reader.size ≤ max_text_bytes
   pub has : HasRead text reader tally
 
-pub PiecesSoFar-none : (reader : Reading) (tally : Tally) → reader ≡ new_reading_by reader.loading reader.file → TellsOf [] tally → PiecesSoFar reader.loading reader.file [] reader tally
+pub PiecesSoFar-none : (reader : Reading) (tally : Tally) → reader ≡ new_reading_by reader.loading reader.file → Tells None [] tally → PiecesSoFar reader.loading reader.file [] reader tally
 PiecesSoFar-none reader tally is tells = record {
   file_is = refl;
   moved_by = refl;

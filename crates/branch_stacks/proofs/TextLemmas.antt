@@ -12,7 +12,7 @@ use Rattle.sample_model.specs.Samples.{ranges_between, ranges_of_line, branches_
 use Rattle.sample_model.specs.declared.pair.Pair.{Pair}
 use Rattle.branch_stacks.specs.Loads.{met_in, AddsLine}
 use Rattle.branch_counts.specs.Table.{Tallies, IsTable, total_in}
-use Rattle.branch_counts.specs.Tally.{Tally, counted, total_of, AddsStack, Tells, TellsOf, IsCounted}
+use Rattle.branch_counts.specs.Tally.{Tally, counted, total_of, AddsStack, Tells, IsCounted}
 use Rattle.branch_counts.proofs.TableLemmas.{Tallies-more}
 
 of_lines-push : (f : List ℕ → List (ℕ × ℕ)) (lines : List (List ℕ)) (line : List ℕ) → flat_map f (lines ++ line ∷ []) ≡ flat_map f lines ++ f line
@@ -25,8 +25,8 @@ unfolding ranges_between
 counted_ranges-push true lines line = of_lines-push ranges_of_line lines line
 counted_ranges-push false lines line = refl
 
-pub TellsOf-more : (lines : List (List ℕ)) (line : List ℕ) (old new : Tally) → TellsOf lines old → AddsStack old new (branches_of_line line) → TellsOf (lines ++ line ∷ []) new
-TellsOf-more lines line old new tells adds = record {
+pub Tells_none-more : (lines : List (List ℕ)) (line : List ℕ) (old new : Tally) → Tells None lines old → AddsStack old new (branches_of_line line) → Tells None (lines ++ line ∷ []) new
+Tells_none-more lines line old new tells adds = record {
   branches = subst (λ (ps : List (ℕ × ℕ)). Tallies ps new.branches) (sym (of_lines-push branches_of_line lines line))
       (Tallies-more (branches_of_lines lines) (branches_of_line line) old.branches new.branches tells.branches adds.branches);
   ranges = subst (λ (ps : List (ℕ × ℕ)). Tallies ps new.ranges)
@@ -79,7 +79,7 @@ moved_ranges-push false loading lines line = refl
 -- What is counted of lines, and one line more.
 pub Tells-more : (loading : Option LoadMap) (lines : List (List ℕ)) (line : List ℕ) (old new : Tally) → Tells loading lines old → AddsLine loading (met_in loading lines) old new line
     → Tells loading (lines ++ line ∷ []) new
-Tells-more None lines line old new tells adds = TellsOf-more lines line old new tells adds
+Tells-more None lines line old new tells adds = Tells_none-more lines line old new tells adds
 Tells-more (Some loading) lines line old new tells adds =
     let moved = moved_line loading.segments (loads_of loading.name lines) line in
     record {
@@ -115,8 +115,8 @@ empty_table : (rows : List Pair) → IsTable rows → total_in rows ≤ 0 → Ta
 empty_table [] table none = record { table = table; times = λ p. refl; total = refl }
 empty_table (row ∷ rows) table none = absurd (omega (arith, table.positive.0, none, sum_by-cons (λ (r : Pair). r.times) row rows))
 
-pub TellsOf-nothing : (tally : Tally) → IsCounted tally (total_of tally) → total_of tally ≡ 0 → TellsOf [] tally
-TellsOf-nothing tally kept none = record {
+pub Tells_none-nothing : (tally : Tally) → IsCounted tally (total_of tally) → total_of tally ≡ 0 → Tells None [] tally
+Tells_none-nothing tally kept none = record {
   branches = empty_table tally.branches kept.branches (omega arith);
   ranges = subst (λ (ps : List (ℕ × ℕ)). Tallies ps tally.ranges) (sym (nothing tally.with_ranges)) (empty_table tally.ranges kept.ranges (omega (arith, kept.fewer_ranges)));
 }
@@ -126,7 +126,7 @@ TellsOf-nothing tally kept none = record {
     nothing false = refl
 
 -- nothing is told of no lines, whether addresses are moved or not
-pub Tells-nothing : (loading : Option LoadMap) (tally : Tally) → TellsOf [] tally → Tells loading [] tally
+pub Tells-nothing : (loading : Option LoadMap) (tally : Tally) → Tells None [] tally → Tells loading [] tally
 Tells-nothing None tally tells = tells
 Tells-nothing (Some loading) tally tells = record { branches = tells.branches; ranges = by_ranges tally.with_ranges tally tells.ranges }
   where

@@ -1,5 +1,5 @@
 // A branch text as one piece, and one line of it, judged and counted.
-ghost use Rattle.std.specs.Prelude.{◌≡◌, ◌+◌, ◌<◌, ◌≤◌, ◌∷◌, ◌++◌, [], length, IsErrOf, OnErr, OnOk, vec_capacity};
+ghost use Rattle.std.specs.Prelude.{◌≡◌, ◌+◌, ◌<◌, ◌≤◌, ◌∷◌, ◌++◌, [], length, IsErrOf, OnErr, OnOk, vec_capacity, None};
 ghost use Rattle.text_model.specs.Lines.{lines_of};
 ghost use Rattle.refusal.specs.Place.{JudgesUnlessNoMemory};
 ghost use Rattle.refusal.specs.declared.place.Stop.TheVariants.{Refused};
@@ -7,7 +7,7 @@ ghost use Rattle.sample_model.specs.Judging.{first_bad_of_text, judged_lines_of}
 ghost use Rattle.sample_model.specs.Line.{branches_of_line};
 ghost use Rattle.sample_model.specs.Limits.{max_branches};
 ghost use Rattle.branch_stacks.specs.Loads.{map_of, met_of, met_in, AddsLine};
-ghost use Rattle.branch_counts.specs.Tally.{total_of, TellsOf};
+ghost use Rattle.branch_counts.specs.Tally.{total_of, Tells};
 ghost use Rattle.branch_stacks.specs.Text.{item_of_counted, TellsLinesBefore};
 ghost use Rattle.branch_lines.specs.declared.line.TheConstants.{MAX_KEPT};
 
@@ -32,7 +32,7 @@ use text_scan::Line;
 pub fn read_text(text: &[u8], file: u8, counts: &mut Counts) -> Result<(), Stop>
     requires { total_of counts.old ≡ 0 }
     ensures judged { JudgesUnlessNoMemory (first_bad_of_text file text.now) result
-        (λ _. TellsOf (lines_of text.now) counts.new) }
+        (λ _. Tells None (lines_of text.now) counts.new) }
     ensures before { TellsLinesBefore file (judged_lines_of text.now) result counts.new }
     ensures ranged { counts.new.with_ranges ≡ counts.old.with_ranges }
 {

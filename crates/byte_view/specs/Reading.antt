@@ -71,7 +71,7 @@ uleb_at bytes = leb_at unsigned_value fits_u64 bytes
 unfoldable pub sleb_at : List ℕ → Reading ℤ
 sleb_at bytes = leb_at signed_value fits_i64 bytes
 
--- A call answered, and left these bytes, as they are read. `seen` is what clauses see of its value.
+-- A call gives what is read, and left these bytes. `seen` is what clauses see of its value.
 abbrev pub Gives : {X Y : Type 0} → (X → Y) → Result X ViewFault → List ℕ → Reading Y → Type 0
 Gives seen (Ok value) left reading = reading ≡ Ok (seen value, left)
 Gives seen (Err fault) left reading = reading ≡ Err fault

@@ -4,7 +4,7 @@ use Rattle.byte_view.specs.Cursor.{Cursor}
 use Rattle.refusal.specs.declared.place.Stop.{Stop}
 use Rattle.refusal.specs.declared.place.Stop.TheVariants.{Refused, NoMemory}
 use Rattle.refusal.specs.declared.place.Place.{Place}
-use Rattle.placed_view.specs.Reader.{Read, Answers}
+use Rattle.placed_view.specs.Reader.{Read, Gives}
 use Rattle.unit_model.specs.Abbrev.{Attr}
 use Rattle.unit_model.specs.Table.{next_attr}
 
@@ -15,7 +15,7 @@ more_attrs before (Some attr) = Some (before ++ attr ∷ [])
 
 -- The next attribute is read, whichever stand before it.
 abbrev pub ReadsAttr : Result (Option Attr) Place → Cursor → Cursor → Type 0
-ReadsAttr result old new = (before : List Attr) → Answers (more_attrs before) result new (next_attr before old)
+ReadsAttr result old new = (before : List Attr) → Gives (more_attrs before) result new (next_attr before old)
 
 -- The attributes that are read stand behind the others.
 abbrev pub ReadsAttrs : Result (Unit {0}) Stop → List Attr → List Attr → Cursor → Read (List Attr) → Type 0

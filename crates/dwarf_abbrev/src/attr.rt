@@ -1,5 +1,5 @@
 ghost use Rattle.std.specs.Prelude.{◌≡◌, ◌++◌, ◌∷◌, [], ◌<◌, ◌≤◌, length, OnOk};
-ghost use Rattle.placed_view.specs.Reader.{Answers};
+ghost use Rattle.placed_view.specs.Reader.{Gives};
 ghost use Rattle.unit_model.specs.Table.{attrs as attrs_told, implicit as implicit_told};
 ghost use Rattle.dwarf_abbrev.specs.Table.{ReadsAttr, ReadsAttrs};
 
@@ -31,7 +31,7 @@ impl Model for Attr {
 /// The value behind a form, where it stands in the table.
 #[tactic(auto, unfolding(unit_model::specs::Table::implicit))]
 fn read_implicit(cur: &mut Cur<'_>, form: u64) -> Result<i64, Place>
-    ensures read { Answers (λ z. z) result cur.new (implicit_told form cur.old) }
+    ensures read { Gives (λ z. z) result cur.new (implicit_told form cur.old) }
     ensures not_longer { OnOk result (length cur.new.left ≤ length cur.old.left) }
 {
     if form == DW_FORM_IMPLICIT_CONST {

@@ -1,6 +1,6 @@
 // A table in memory, while it is read.
 ghost use Rattle.std.specs.Prelude.{◌≡◌, ◌++◌, ◌∷◌, [], ◌<◌, ◌≤◌, length, None, OnOk};
-ghost use Rattle.placed_view.specs.Reader.{Answers};
+ghost use Rattle.placed_view.specs.Reader.{Gives};
 ghost use Rattle.unit_model.specs.Table.{children_byte, abbrev_of, next_abbrev};
 ghost use Rattle.dwarf_abbrev.specs.Codes.{place_of};
 
@@ -35,7 +35,7 @@ pub(crate) struct Rows {
 /// Whether children may follow an entry.
 #[tactic(auto, unfolding(unit_model::specs::Table::children_byte))]
 fn read_children(cur: &mut Cur<'_>) -> Result<bool, Place>
-    ensures read { Answers (λ b. b) result cur.new (children_byte cur.old) }
+    ensures read { Gives (λ b. b) result cur.new (children_byte cur.old) }
     ensures shorter { OnOk result (length cur.new.left < length cur.old.left) }
 {
     let at = cur.at();

@@ -1,7 +1,7 @@
 // The header of a unit.
 ghost use Rattle.std.specs.Prelude.{◌≡◌, ◌<◌, ◌≤◌, ⊤, length, IfOk, OnOk};
 ghost use Rattle.std.specs.Option.{option_map};
-ghost use Rattle.placed_view.specs.Reader.{Answers, cursor_behind, field, start_of};
+ghost use Rattle.placed_view.specs.Reader.{Gives, cursor_behind, field, start_of};
 ghost use Rattle.byte_view.specs.Part.{bytes_of_part};
 ghost use Rattle.value_model.specs.Forms.{offset_size};
 ghost use Rattle.unit_model.specs.Header.{abbrevs_at, address_size, header as header_told, header_4, header_5, unit_length, sized};
@@ -32,7 +32,7 @@ impl<'b> Model for Header<'b> {
 /// The length that follows `at`, whether it is in 64 bits, for 64-bit DWARF, and the length.
 #[tactic(auto, unfolding(unit_model::specs::Header::sized))]
 fn read_size(cur: &mut Cur<'_>, at: usize) -> Result<(bool, u64), Place>
-    ensures read { Answers (λ size. (size.0, size.1)) result cur.new (sized at cur.old) }
+    ensures read { Gives (λ size. (size.0, size.1)) result cur.new (sized at cur.old) }
     ensures shorter { OnOk result (length cur.new.left < length cur.old.left) }
 {
     let bad = Place::in_binary(at, Kind::BadUnitLength);
@@ -57,7 +57,7 @@ fn read_size(cur: &mut Cur<'_>, at: usize) -> Result<(bool, u64), Place>
 /// Source: DWARF 5, sections 7.4 and 7.5.1.
 #[tactic(auto, unfolding(unit_model::specs::Header::unit_length))]
 pub(crate) fn read_length(cur: &mut Cur<'_>) -> Result<(bool, u64), Place>
-    ensures read { Answers (λ size. (size.0, size.1)) result cur.new (unit_length cur.old) }
+    ensures read { Gives (λ size. (size.0, size.1)) result cur.new (unit_length cur.old) }
     ensures within { IfOk result (λ size. size.1 ≤ length cur.new.left) }
     ensures shorter { OnOk result (length cur.new.left < length cur.old.left) }
 {
@@ -70,7 +70,7 @@ pub(crate) fn read_length(cur: &mut Cur<'_>) -> Result<(bool, u64), Place>
 
 /// An offset of the unit's width.
 fn read_offset(cur: &mut Cur<'_>, shape: UnitShape) -> Result<u64, Place>
-    ensures { Answers (λ n. n) result cur.new (field (offset_size shape.wide) cur.old) }
+    ensures { Gives (λ n. n) result cur.new (field (offset_size shape.wide) cur.old) }
 {
     if shape.wide {
         field_u64(cur)
@@ -99,7 +99,7 @@ fn read_abbrevs_at<'b>(
     shape: UnitShape,
     abbrev: Option<Part<'b>>,
 ) -> Result<Part<'b>, Place>
-    ensures { Answers start_of result cur.new
+    ensures { Gives start_of result cur.new
         (abbrevs_at shape.wide (option_map start_of abbrev.entry) cur.old) }
 {
     let at = cur.at();
@@ -115,7 +115,7 @@ fn read_abbrevs_at<'b>(
 /// The size of addresses, which has to be 8.
 #[tactic(auto, unfolding(unit_model::specs::Header::address_size))]
 fn read_address_size(cur: &mut Cur<'_>) -> Result<(), Place>
-    ensures { Answers (λ _. tt) result cur.new (address_size cur.old) }
+    ensures { Gives (λ _. tt) result cur.new (address_size cur.old) }
 {
     let at = cur.at();
     let size = byte(cur)?;
@@ -129,7 +129,7 @@ fn read_header_4<'b>(
     shape: UnitShape,
     abbrev: Option<Part<'b>>,
 ) -> Result<Option<Header<'b>>, Place>
-    ensures { Answers (λ h. h) result cur.new
+    ensures { Gives (λ h. h) result cur.new
         (header_4 shape.wide (option_map start_of abbrev.entry) cur.old) }
 {
     let abbrevs = read_abbrevs_at(cur, shape, abbrev)?;
@@ -148,7 +148,7 @@ fn read_header_5<'b>(
     shape: UnitShape,
     abbrev: Option<Part<'b>>,
 ) -> Result<Option<Header<'b>>, Place>
-    ensures { Answers (λ h. h) result cur.new
+    ensures { Gives (λ h. h) result cur.new
         (header_5 shape.wide (option_map start_of abbrev.entry) cur.old) }
 {
     let kind = byte(cur)?;
@@ -176,7 +176,7 @@ pub(crate) fn read_header<'b>(
     shape: UnitShape,
     abbrev: Option<Part<'b>>,
 ) -> Result<Option<Header<'b>>, Place>
-    ensures { Answers (λ h. h) result cur.new
+    ensures { Gives (λ h. h) result cur.new
         (header_told shape.wide (option_map start_of abbrev.entry) cur.old) }
 {
     let at = cur.at();

@@ -1,7 +1,7 @@
 // The values of an entry's attributes.
 ghost use Rattle.std.specs.Prelude.{◌≡◌, ◌≤◌, drop, length, OnOk, vec_len};
 ghost use Rattle.refusal.specs.Place.{in_binary};
-ghost use Rattle.placed_view.specs.Reader.{Answers};
+ghost use Rattle.placed_view.specs.Reader.{Gives};
 ghost use Rattle.unit_model.specs.Values.{kind_of_value, next_value, value as value_told, values as values_told};
 ghost use Rattle.dwarf_forms.specs.Meaning.{fault_of, meaning_of};
 ghost use Rattle.dwarf_info.specs.Values.{AddsFound, ReadsFound, ReadsValues, has_name as has_name_told};
@@ -27,7 +27,7 @@ fn place_of(fault: FormFault, at: usize) -> Place
 
 /// The value of an attribute.
 fn read_at<'a>(cur: &mut Cur<'a>, attr: &Attr, shape: UnitShape) -> Result<Value<'a>, Place>
-    ensures read { Answers meaning_of result cur.new (value_told shape.wide attr.now cur.old) }
+    ensures read { Gives meaning_of result cur.new (value_told shape.wide attr.now cur.old) }
     ensures not_longer { OnOk result (length cur.new.left ≤ length cur.old.left) }
 {
     let at = cur.at();

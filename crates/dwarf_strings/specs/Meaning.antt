@@ -36,7 +36,7 @@ pub record IsAt (section : Part) (offset : ℕ) (cur : Cursor) : Type 0 where
   pub at : cur.at ≡ section.at + offset
   pub left : cur.left ≡ drop offset (bytes_of_part section)
 
--- A call answered what is meant, or the cause why nothing is. `seen` is what clauses see of its value.
-abbrev pub Means : {X Y E : Type 0} → (X → Y) → Result X E → Result Y E → Type 0
-Means seen (Ok value) meant = meant ≡ Ok (seen value)
-Means seen (Err cause) meant = meant ≡ Err cause
+-- A call gives what is meant, or the cause why nothing is. `seen` is what clauses see of its value.
+abbrev pub Gives : {X Y E : Type 0} → (X → Y) → Result X E → Result Y E → Type 0
+Gives seen (Ok value) meant = meant ≡ Ok (seen value)
+Gives seen (Err cause) meant = meant ≡ Err cause

@@ -3,7 +3,7 @@ ghost use Rattle.byte_view.specs.Part.{bytes_of_part};
 ghost use Rattle.byte_view.specs.Reading.{Gives, field_at};
 ghost use Rattle.range_model.specs.Texts.{slot};
 ghost use Rattle.value_model.specs.Forms.{offset_size};
-ghost use Rattle.dwarf_strings.specs.Meaning.{IsAt, Means, bytes_of};
+ghost use Rattle.dwarf_strings.specs.Meaning.{IsAt, Gives as GivesValue, bytes_of};
 
 use byte_view::{Cur, Part, ViewFault};
 use refusal::Kind;
@@ -56,7 +56,7 @@ pub fn slot(
     wide: bool,
     index: u64,
 ) -> Result<u64, Kind>
-    ensures { Means (λ n. n) result
+    ensures { GivesValue (λ n. n) result
         (slot base (bytes_of section.entry) (offset_size wide) index) }
 {
     let base = base.ok_or(Kind::NoBase)?;

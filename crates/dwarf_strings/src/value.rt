@@ -1,6 +1,6 @@
 ghost use Rattle.range_model.specs.Texts.{address_of, text_in, text_of};
 ghost use Rattle.dwarf_forms.specs.Meaning.{meaning_of};
-ghost use Rattle.dwarf_strings.specs.Meaning.{Means, bases_of, bytes_of, sections_of};
+ghost use Rattle.dwarf_strings.specs.Meaning.{Gives, bases_of, bytes_of, sections_of};
 
 use crate::section::{cursor_at, slot};
 use crate::unit::{Bases, Texts};
@@ -10,7 +10,7 @@ use refusal::Kind;
 
 /// The text at an offset of a section.
 fn text_at(section: Option<Part<'_>>, at: u64) -> Result<&[u8], Kind>
-    ensures { Means (λ text. text.now) result (text_in (bytes_of section.entry) at) }
+    ensures { Gives (λ text. text.now) result (text_in (bytes_of section.entry) at) }
 {
     let section = section.ok_or(Kind::NoSection)?;
     let Some(mut cur) = cursor_at(section, u128::from(at)) else {
@@ -33,7 +33,7 @@ fn text_at(section: Option<Part<'_>>, at: u64) -> Result<&[u8], Kind>
 /// Source: DWARF 5, sections 7.5.5, class `string`, and 7.26.
 #[tactic(auto, unfolding(range_model::specs::Texts::text_of))]
 pub fn text<'a>(value: Value<'a>, texts: &Texts<'a>, bases: &Bases) -> Result<&'a [u8], Kind>
-    ensures { Means (λ text. text.now) result
+    ensures { Gives (λ text. text.now) result
         (text_of (sections_of texts.now) (bases_of bases.now) (meaning_of value.entry)) }
 {
     match value {
@@ -57,7 +57,7 @@ pub fn text<'a>(value: Value<'a>, texts: &Texts<'a>, bases: &Bases) -> Result<&'
 /// Source: DWARF 5, sections 7.5.5, class `address`, and 7.27.
 #[tactic(auto, unfolding(range_model::specs::Texts::address_of))]
 pub fn address(value: Value<'_>, texts: &Texts<'_>, bases: &Bases) -> Result<u64, Kind>
-    ensures { Means (λ address. address) result
+    ensures { Gives (λ address. address) result
         (address_of (sections_of texts.now) (bases_of bases.now) (meaning_of value.entry)) }
 {
     match value {

@@ -8,7 +8,7 @@ use Rattle.unit_model.specs.Entries.{Entry}
 use Rattle.tree_model.specs.Way.{Info, entry_beginning_at, way_from}
 use Rattle.tree_model.specs.Origin.{said_on}
 use Rattle.key_types.specs.declared.ids.NameId.{NameId}
-use Rattle.entry_facts.specs.Meaning.{Extends, IsNumberOf, TellsOrigin}
+use Rattle.entry_facts.specs.Meaning.{Extends, IsNumberOf, GivesOrigin}
 use Rattle.entry_facts.specs.Memo.{AddsKnown, IsKnown, Remembers, kept_at}
 use Rattle.entry_facts.specs.declared.origin.Origin.{Origin}
 use Rattle.entry_facts.proofs.StepLemmas.{said_any}
@@ -31,7 +31,7 @@ pub Remembers-more : (sections : Sections) (info : Info) (old new : List (List �
 Remembers-more sections info old new kept more known = λ at origin here. IsKnown-more sections info old new at origin more (known at origin here)
 
 pub IsKnown-told : (sections : Sections) (info : Info) (names : List (List ℕ)) (began at : ℕ) (entry : Entry) (origin : Origin) → entry_beginning_at info.units.entries at ≡ Some entry
-    → TellsOrigin names (Ok origin) (said_on sections info.units (way_from info began 15 entry)) → IsKnown sections info names at origin
+    → GivesOrigin names (Ok origin) (said_on sections info.units (way_from info began 15 entry)) → IsKnown sections info names at origin
 IsKnown-told sections info names began at entry origin begins told = record {
   entry = entry;
   begins = begins;

@@ -54,12 +54,12 @@ Numbers names name (Ok number) = IsNumberOf names name number
 Numbers names name (Err fault) = ⊤
 
 -- A call answered the start line of an entry and the number of its name, or the place at which either is refused.
-abbrev pub TellsOrigin : List (List ℕ) → Result Origin Stop → Result told.Origin Place → Type 0
-TellsOrigin names (Ok origin) told =
+abbrev pub GivesOrigin : List (List ℕ) → Result Origin Stop → Result told.Origin Place → Type 0
+GivesOrigin names (Ok origin) told =
     (name : Option (List ℕ)) × (told ≡ Ok (record { name = name; line = origin.line }))
     × IsNumberOf names name origin.name
-TellsOrigin names (Err (Refused place)) told = told ≡ Err place
-TellsOrigin names (Err NoMemory) told = ⊤
+GivesOrigin names (Err (Refused place)) told = told ≡ Err place
+GivesOrigin names (Err NoMemory) told = ⊤
 
 -- One name more may be there, and those that were there have their numbers.
 pub record Extends (old new : List (List ℕ)) : Type 0 where

@@ -8,7 +8,7 @@ use Rattle.unit_model.specs.Entries.{Entry}
 use Rattle.tree_model.specs.Bases.{attribute}
 use Rattle.tree_model.specs.Way.{Info, entry_beginning_at, reference_of, target_of, way_from}
 use Rattle.tree_model.specs.Origin.{said_on}
-use Rattle.entry_facts.specs.Meaning.{TellsOrigin}
+use Rattle.entry_facts.specs.Meaning.{GivesOrigin}
 use Rattle.entry_facts.specs.declared.origin.Origin.{Origin}
 
 -- An entry has no name and no line of its own.
@@ -29,7 +29,7 @@ pub record LeadsOn (info : Info) (entry : Entry) (at : ℕ) : Type 0 where
 pub record IsKnown (sections : Sections) (info : Info) (names : List (List ℕ)) (at : ℕ) (origin : Origin) : Type 0 where
   pub entry : Entry
   pub begins : entry_beginning_at info.units.entries at ≡ Some entry
-  pub told : (began : ℕ) → TellsOrigin names (Ok origin) (said_on sections info.units (way_from info began 15 entry))
+  pub told : (began : ℕ) → GivesOrigin names (Ok origin) (said_on sections info.units (way_from info began 15 entry))
 
 -- The origin that is kept for the entry at an offset.
 abbrev pub kept_at : List (ℕ × Origin) → ℕ → Option Origin

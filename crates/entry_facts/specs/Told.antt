@@ -17,9 +17,9 @@ in_unit of = record {
   bases = bases_of of.bases;
 }
 
--- A call answered what is told, or the place that stands in its way. `seen` is what clauses see of its value. Memory
--- that was refused tells nothing.
-abbrev pub Tells : {X Y : Type 0} → (X → Y) → Result X Stop → Result Y Place → Type 0
-Tells seen (Ok x) told = told ≡ Ok (seen x)
-Tells seen (Err (Refused place)) told = told ≡ Err place
-Tells seen (Err NoMemory) told = ⊤
+-- A call gives what is told, or the place that stands in its way. `seen` is what clauses see of its value. Where
+-- memory was refused nothing is said.
+abbrev pub GivesUnlessNoMemory : {X Y : Type 0} → (X → Y) → Result X Stop → Result Y Place → Type 0
+GivesUnlessNoMemory seen (Ok x) told = told ≡ Ok (seen x)
+GivesUnlessNoMemory seen (Err (Refused place)) told = told ≡ Err place
+GivesUnlessNoMemory seen (Err NoMemory) told = ⊤

@@ -2,7 +2,7 @@
 ghost use Rattle.std.specs.Prelude.{◌≡◌};
 ghost use Rattle.std.specs.List.{list_any};
 ghost use Rattle.std.specs.Option.{option_map};
-ghost use Rattle.dwarf_strings.specs.Meaning.{Means, sections_of};
+ghost use Rattle.dwarf_strings.specs.Meaning.{Gives, sections_of};
 ghost use Rattle.tree_model.specs.Origin.{begins_no_name as begins_no_name_told, is_name as is_name_told, name_said as name_told, parts_names as parts_names_told};
 ghost use Rattle.entry_facts.specs.Meaning.{held_of};
 
@@ -21,7 +21,7 @@ pub(crate) fn name_said<'a>(
     info: &Info<'a, '_>,
     held: Option<Held<'a>>,
 ) -> Result<Option<&'a [u8]>, Place>
-    ensures { Means (option_map (λ name. name.now)) result (name_told (sections_of
+    ensures { Gives (option_map (λ name. name.now)) result (name_told (sections_of
         info.now.texts.now) info.now.units.now (option_map held_of held.entry)) }
 {
     let Some(held) = held else {

@@ -1,11 +1,11 @@
 ghost use Rattle.std.specs.Prelude.{◌<◌, ◌-◌, ◌^◌, length, Result};
 ghost use Rattle.std.specs.Option.{option_map};
-ghost use Rattle.dwarf_strings.specs.Meaning.{Means, sections_of};
+ghost use Rattle.dwarf_strings.specs.Meaning.{Gives, sections_of};
 ghost use Rattle.entry_model.specs.Order.{AreInOrder};
 ghost use Rattle.tree_model.specs.Origin.{Origin as told_origin, origin as origin_told, said_on};
 ghost use Rattle.refusal.specs.declared.place.Place.{Place};
 ghost use Rattle.tree_model.specs.Way.{way_from};
-ghost use Rattle.entry_facts.specs.Meaning.{Extends, Numbers, TellsOrigin, info_of, said_of};
+ghost use Rattle.entry_facts.specs.Meaning.{Extends, Numbers, GivesOrigin, info_of, said_of};
 
 use crate::findings::findings_from;
 use crate::info::Info;
@@ -53,7 +53,7 @@ pub fn origin_of<'a>(
 ) -> Result<Origin, Stop>
     requires order { AreInOrder 0 (2 ^ 64) info.now.units.now.entries }
     requires room { length names.old < 2 ^ 32 - 1 }
-    ensures told { TellsOrigin names.new result (origin_told (sections_of info.now.texts.now)
+    ensures told { GivesOrigin names.new result (origin_told (sections_of info.now.texts.now)
         (info_of info.now) entry.now) }
     ensures names { Extends names.old names.new }
 {
@@ -73,7 +73,7 @@ pub(crate) fn said_from<'a>(
     entry: &Entry<'a, '_>,
 ) -> Result<Said<'a>, Place>
     requires { AreInOrder 0 (2 ^ 64) info.now.units.now.entries }
-    ensures { Means said_of result (said_on (sections_of info.now.texts.now) info.now.units.now
+    ensures { Gives said_of result (said_on (sections_of info.now.texts.now) info.now.units.now
         (way_from (info_of info.now) began steps entry.now)) }
 {
     match findings_from(info, began, steps, entry) {
@@ -94,8 +94,8 @@ pub(crate) fn numbered<'a>(
     names: &mut Names<'a>,
 ) -> Result<Origin, Stop>
     requires { length names.old < 2 ^ 32 - 1 }
-    ensures told { (told : Result told_origin Place) → Means said_of said.entry told
-        → TellsOrigin names.new result told }
+    ensures told { (told : Result told_origin Place) → Gives said_of said.entry told
+        → GivesOrigin names.new result told }
     ensures names { Extends names.old names.new }
 {
     match said {

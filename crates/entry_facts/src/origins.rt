@@ -4,7 +4,7 @@ ghost use Rattle.tree_model.specs.Bases.{attribute as attribute_told};
 ghost use Rattle.entry_model.specs.Order.{AreInOrder};
 ghost use Rattle.tree_model.specs.Way.{entry_beginning_at as beginning_told, way_from};
 ghost use Rattle.tree_model.specs.Origin.{origin as origin_told, said_on};
-ghost use Rattle.entry_facts.specs.Meaning.{Extends, TellsOrigin, info_of};
+ghost use Rattle.entry_facts.specs.Meaning.{Extends, GivesOrigin, info_of};
 ghost use Rattle.entry_facts.specs.Memo.{AddsKnown, LeadsOn, Remembers, SaysNothing, kept_at};
 
 use crate::attributes::attribute;
@@ -80,7 +80,7 @@ impl Origins {
         requires begins { beginning_told info.now.units.now.entries at ≡ Some next.now }
         requires known { Remembers (sections_of info.now.texts.now) (info_of info.now) names.old
             self.old }
-        ensures told { TellsOrigin names.new result (said_on (sections_of info.now.texts.now)
+        ensures told { GivesOrigin names.new result (said_on (sections_of info.now.texts.now)
             info.now.units.now (way_from (info_of info.now) began 15 next.now)) }
         ensures names { Extends names.old names.new }
         ensures known { Remembers (sections_of info.now.texts.now) (info_of info.now) names.new
@@ -110,7 +110,7 @@ impl Origins {
         requires room { length names.old < 2 ^ 32 - 1 }
         requires known { Remembers (sections_of info.now.texts.now) (info_of info.now) names.old
             self.old }
-        ensures told { TellsOrigin names.new result (origin_told (sections_of info.now.texts.now)
+        ensures told { GivesOrigin names.new result (origin_told (sections_of info.now.texts.now)
             (info_of info.now) entry.now) }
         ensures names { Extends names.old names.new }
         ensures known { Remembers (sections_of info.now.texts.now) (info_of info.now) names.new

@@ -1,6 +1,6 @@
 ghost use Rattle.std.specs.Prelude.{◌≡◌, ◌≤◌, ◌^◌};
 ghost use Rattle.tree_model.specs.Pieces.{live_ranges, pieces as pieces_told};
-ghost use Rattle.entry_facts.specs.Told.{Tells, in_unit};
+ghost use Rattle.entry_facts.specs.Told.{GivesUnlessNoMemory, in_unit};
 
 use crate::in_unit::InUnit;
 use crate::spelled::spelled;
@@ -31,7 +31,7 @@ pub fn pieces(
     entry: &Entry<'_, '_>,
 ) -> Result<Vec<(u64, u64)>, Stop>
     requires { before ≤ 2 ^ 26 }
-    ensures { Tells (λ pieces. pieces.items) result
+    ensures { GivesUnlessNoMemory (λ pieces. pieces.items) result
         (pieces_told elf.now (in_unit of.now) before entry.now) }
 {
     let mut ranges = spelled(alloc, of, entry)?;

@@ -1,9 +1,9 @@
 // The ranges that an entry spells.
 ghost use Rattle.std.specs.Prelude.{◌≡◌, IfOk, None};
 ghost use Rattle.std.specs.Option.{option_to_list};
-ghost use Rattle.dwarf_strings.specs.Meaning.{Means};
+ghost use Rattle.dwarf_strings.specs.Meaning.{Gives};
 ghost use Rattle.tree_model.specs.Pieces.{end_by as end_told, listed as listed_told, pair as pair_told, spelled_by, spelled_ranges};
-ghost use Rattle.entry_facts.specs.Told.{Tells, in_unit};
+ghost use Rattle.entry_facts.specs.Told.{GivesUnlessNoMemory, in_unit};
 
 use crate::attributes::{address_at, attribute};
 use crate::in_unit::InUnit;
@@ -21,7 +21,7 @@ pub(crate) fn spelled(
     of: &InUnit<'_>,
     entry: &Entry<'_, '_>,
 ) -> Result<Vec<(u64, u64)>, Stop>
-    ensures { Tells (λ ranges. ranges.items) result (spelled_ranges (in_unit of.now) entry.now) }
+    ensures { GivesUnlessNoMemory (λ ranges. ranges.items) result (spelled_ranges (in_unit of.now) entry.now) }
 {
     if let Some(list) = attribute(entry.found, DW_AT_RANGES) {
         return listed(alloc, of, &list);
@@ -34,7 +34,7 @@ pub(crate) fn spelled(
 
 /// The ranges of the list that `DW_AT_ranges` leads to.
 fn listed(alloc: Global, of: &InUnit<'_>, found: &Found<'_>) -> Result<Vec<(u64, u64)>, Stop>
-    ensures { Tells (λ ranges. ranges.items) result (listed_told (in_unit of.now) found.now) }
+    ensures { GivesUnlessNoMemory (λ ranges. ranges.items) result (listed_told (in_unit of.now) found.now) }
 {
     let InUnit {
         parts,
@@ -51,7 +51,7 @@ fn between(
     low: Option<Found<'_>>,
     high: Option<Found<'_>>,
 ) -> Result<Option<(u64, u64)>, Place>
-    ensures { Means option_to_list result (spelled_by (in_unit of.now) None low.entry high.entry) }
+    ensures { Gives option_to_list result (spelled_by (in_unit of.now) None low.entry high.entry) }
 {
     let Some(low) = low else {
         return Ok(None);
@@ -64,7 +64,7 @@ fn between(
 
 /// The range from `DW_AT_low_pc` up to `DW_AT_high_pc`, if it is not empty.
 fn pair(of: &InUnit<'_>, low: &Found<'_>, high: &Found<'_>) -> Result<Option<(u64, u64)>, Place>
-    ensures { Means option_to_list result (pair_told (in_unit of.now) low.now high.now) }
+    ensures { Gives option_to_list result (pair_told (in_unit of.now) low.now high.now) }
 {
     let start = address_at(low, &of.parts.texts, &of.bases)?;
     let end = end_by(of, start, high)?;

@@ -4,13 +4,13 @@ use Rattle.std.specs.Result.{IsErrAnd}
 use Rattle.refusal.specs.declared.place.Place.{Place}
 use Rattle.refusal.specs.declared.place.Stop.{Stop}
 use Rattle.refusal.specs.declared.place.Stop.TheVariants.{Refused}
-use Rattle.entry_facts.specs.Told.{Tells}
+use Rattle.entry_facts.specs.Told.{GivesUnlessNoMemory}
 use Rattle.unit_model.specs.Entries.{Entry}
 use Rattle.chain_model.specs.declared.member.Member.{Member}
 use Rattle.tree_model.specs.Pieces.{InUnit, and_then, pieces}
 use Rattle.tree_model.specs.Origin as way
 use Rattle.entry_facts.specs.declared.origin.Origin.{Origin}
-use Rattle.entry_facts.specs.Meaning.{Extends, TellsOrigin}
+use Rattle.entry_facts.specs.Meaning.{Extends, GivesOrigin}
 use Rattle.tree_model.specs.Members.{Told, call_told}
 use Rattle.member_lists.specs.declared.frame.Frame.{Frame}
 use Rattle.member_lists.specs.Frames.{SoFar, behind_call, behind_other, frame_above, left_out, one_deeper}
@@ -85,7 +85,7 @@ pub call-some : (source : Source) (of : InUnit) (entry : Entry) (above : Frame) 
     (depth count : ℕ) (member : Member)
     → IsSoFar names told old → above ≡ frame_above entry.depth old.frames → CountsCalls entry.at above.calls (Ok calls)
     → pieces source.file of old.pieces entry ≡ Ok ps → 0 < length ps
-    → TellsOrigin more (Ok o) (way.origin source.sections.texts source.info entry) → Extends names more
+    → GivesOrigin more (Ok o) (way.origin source.sections.texts source.info entry) → Extends names more
     → depth ≡ entry.depth → member ≡ call_made calls entry o ps → count ≡ length ps
     → new ≡ behind_call depth (record { calls = calls; function = above.function }) member count old
     → Advances more (Ok tt) new (next_call source of entry (frame_above entry.depth told.frames) told)
@@ -123,20 +123,20 @@ call-stop_calls source of entry above names told old new deep r is frame counted
 pub call-stop_pieces : (source : Source) (of : InUnit) (entry : Entry) (above : Frame) (names : List (List ℕ)) (told : SoFar Told) (old new : SoFar Member) (calls : ℕ)
     (why : Stop) (r : Result (Unit {0}) Stop)
     → IsSoFar names told old → above ≡ frame_above entry.depth old.frames → CountsCalls entry.at above.calls (Ok calls)
-    → Tells (λ (u : Unit {0}). []) (Err why) (pieces source.file of old.pieces entry) → IsErrAnd r (λ s. s ≡ why)
+    → GivesUnlessNoMemory (λ (u : Unit {0}). []) (Err why) (pieces source.file of old.pieces entry) → IsErrAnd r (λ s. s ≡ why)
     → Advances names r new (next_call source of entry (frame_above entry.depth told.frames) told)
 call-stop_pieces source of entry above names told old new calls why r is frame counted tells stops =
     stopped names new (next_call source of entry (frame_above entry.depth told.frames) told) why r
     (λ place same. call-bad_pieces source of entry above names told old calls place is frame counted
-    (subst (λ w. Tells (λ (u : Unit {0}). []) (Err w) (pieces source.file of old.pieces entry)) same tells)) stops
+    (subst (λ w. GivesUnlessNoMemory (λ (u : Unit {0}). []) (Err w) (pieces source.file of old.pieces entry)) same tells)) stops
 
 pub call-stop_origin : (source : Source) (of : InUnit) (entry : Entry) (above : Frame) (names more : List (List ℕ)) (told : SoFar Told) (old new : SoFar Member) (calls : ℕ) (ps : List (ℕ × ℕ))
     (why : Stop) (r : Result (Unit {0}) Stop)
     → IsSoFar names told old → above ≡ frame_above entry.depth old.frames → CountsCalls entry.at above.calls (Ok calls)
     → pieces source.file of old.pieces entry ≡ Ok ps → 0 < length ps
-    → TellsOrigin more (Err why) (way.origin source.sections.texts source.info entry) → IsErrAnd r (λ s. s ≡ why)
+    → GivesOrigin more (Err why) (way.origin source.sections.texts source.info entry) → IsErrAnd r (λ s. s ≡ why)
     → Advances more r new (next_call source of entry (frame_above entry.depth told.frames) told)
 call-stop_origin source of entry above names more told old new calls ps why r is frame counted found some tells stops =
     stopped more new (next_call source of entry (frame_above entry.depth told.frames) told) why r
     (λ place same. call-bad_origin source of entry above names told old calls ps place is frame counted found some
-    (subst (λ w. TellsOrigin more (Err w) (way.origin source.sections.texts source.info entry)) same tells)) stops
+    (subst (λ w. GivesOrigin more (Err w) (way.origin source.sections.texts source.info entry)) same tells)) stops

@@ -8,7 +8,7 @@ use Rattle.refusal.specs.declared.place.Stop.{Stop}
 use Rattle.refusal.specs.declared.place.Stop.TheVariants.{Refused, NoMemory}
 use Rattle.refusal.specs.declared.kind.Kind.TheVariants.{TooManyRanges}
 use Rattle.refusal.specs.Place.{in_binary}
-use Rattle.entry_facts.specs.Told.{Tells}
+use Rattle.entry_facts.specs.Told.{GivesUnlessNoMemory}
 use Rattle.unit_model.specs.Constants.{DW_TAG_inlined_subroutine, DW_TAG_subprogram}
 use Rattle.unit_model.specs.Entries.{Entry}
 use Rattle.chain_model.specs.declared.member.Member.{Member}
@@ -16,7 +16,7 @@ use Rattle.key_types.specs.declared.ids.NameId.{NameId}
 use Rattle.tree_model.specs.Pieces.{InUnit, RangesOrPlace, and_then, live_ranges, max_pieces, pieces, spelled_ranges, within_limit}
 use Rattle.tree_model.specs.Origin as way
 use Rattle.entry_facts.specs.declared.origin.Origin.{Origin}
-use Rattle.entry_facts.specs.Meaning.{Extends, IsNumberOf, TellsOrigin}
+use Rattle.entry_facts.specs.Meaning.{Extends, IsNumberOf, GivesOrigin}
 use Rattle.tree_model.specs.Members.{Told, function_told}
 use Rattle.member_lists.specs.declared.frame.Frame.{Frame}
 use Rattle.member_lists.specs.Frames.{SoFar, behind_call, behind_function, behind_other, frame_above, frame_of_function, frames_to, outside}
@@ -187,7 +187,7 @@ function-bad_origin source of entry names told old (p ∷ ps) place is found som
 pub function-some : (source : Source) (of : InUnit) (entry : Entry) (names more : List (List ℕ)) (told : SoFar Told) (old new : SoFar Member) (ps : List (ℕ × ℕ)) (o : Origin)
     (depth count : ℕ) (member : Member)
     → IsSoFar names told old → pieces source.file of old.pieces entry ≡ Ok ps → 0 < length ps
-    → TellsOrigin more (Ok o) (way.origin source.sections.texts source.info entry) → Extends names more
+    → GivesOrigin more (Ok o) (way.origin source.sections.texts source.info entry) → Extends names more
     → depth ≡ entry.depth → member ≡ function_made entry o ps → count ≡ length ps → new ≡ behind_function depth member count old
     → Advances more (Ok tt) new (next_function source of entry told)
 function-some source of entry names more told old new [] o depth count member is found some tells extends at made counted after = absurd (omega arith)
@@ -207,21 +207,21 @@ function-some source of entry names more told old new (p ∷ ps) o depth count m
 
 pub function-stop_pieces : (source : Source) (of : InUnit) (entry : Entry) (names : List (List ℕ)) (told : SoFar Told) (old new : SoFar Member)
     (why : Stop) (r : Result (Unit {0}) Stop)
-    → IsSoFar names told old → Tells (λ (u : Unit {0}). []) (Err why) (pieces source.file of old.pieces entry) → IsErrAnd r (λ s. s ≡ why)
+    → IsSoFar names told old → GivesUnlessNoMemory (λ (u : Unit {0}). []) (Err why) (pieces source.file of old.pieces entry) → IsErrAnd r (λ s. s ≡ why)
     → Advances names r new (next_function source of entry told)
 function-stop_pieces source of entry names told old new why r is tells stops =
     stopped names new (next_function source of entry told) why r
-    (λ place same. function-bad_pieces source of entry names told old place is (subst (λ w. Tells (λ (u : Unit {0}). []) (Err w) (pieces source.file of old.pieces entry)) same tells)) stops
+    (λ place same. function-bad_pieces source of entry names told old place is (subst (λ w. GivesUnlessNoMemory (λ (u : Unit {0}). []) (Err w) (pieces source.file of old.pieces entry)) same tells)) stops
 
 pub function-stop_origin : (source : Source) (of : InUnit) (entry : Entry) (names more : List (List ℕ)) (told : SoFar Told) (old new : SoFar Member) (ps : List (ℕ × ℕ))
     (why : Stop) (r : Result (Unit {0}) Stop)
     → IsSoFar names told old → pieces source.file of old.pieces entry ≡ Ok ps → 0 < length ps
-    → TellsOrigin more (Err why) (way.origin source.sections.texts source.info entry) → IsErrAnd r (λ s. s ≡ why)
+    → GivesOrigin more (Err why) (way.origin source.sections.texts source.info entry) → IsErrAnd r (λ s. s ≡ why)
     → Advances more r new (next_function source of entry told)
 function-stop_origin source of entry names more told old new ps why r is found some tells stops =
     stopped more new (next_function source of entry told) why r
     (λ place same. function-bad_origin source of entry names told old ps place is found some
-    (subst (λ w. TellsOrigin more (Err w) (way.origin source.sections.texts source.info entry)) same tells)) stops
+    (subst (λ w. GivesOrigin more (Err w) (way.origin source.sections.texts source.info entry)) same tells)) stops
 
 -- ---- an entry of another tag
 

@@ -3,7 +3,7 @@ ghost use Rattle.std.specs.Prelude.{◌≡◌, ◌+◌, ◌-◌, ◌<◌, ◌≤
 ghost use Rattle.entry_model.specs.Order.{AreInOrder};
 ghost use Rattle.entry_facts.specs.Meaning.{Extends};
 ghost use Rattle.tree_model.specs.Pieces.{pieces as pieces_told};
-ghost use Rattle.entry_facts.specs.Told.{Tells, in_unit};
+ghost use Rattle.entry_facts.specs.Told.{GivesUnlessNoMemory, in_unit};
 ghost use Rattle.member_lists.specs.Frames.{SoFar as so_far_told, frame_above};
 ghost use Rattle.tree_model.specs.Members.{Told};
 ghost use Rattle.member_lists.specs.Collecting.{next_call as next_call_told, next_entry as next_entry_told, next_function as next_function_told};
@@ -30,7 +30,7 @@ fn pieces_behind<'a>(
     before: &SoFar,
 ) -> Result<Vec<(u64, u64)>, Stop>
     requires { before.now.pieces ≤ 2 ^ 26 }
-    ensures { Tells (λ pieces. pieces.items) result
+    ensures { GivesUnlessNoMemory (λ pieces. pieces.items) result
         (pieces_told source.now.elf.now (in_unit of.now) before.now.pieces entry.now) }
 {
     pieces(alloc, source.elf, of, before.pieces(), entry)

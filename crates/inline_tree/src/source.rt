@@ -1,7 +1,7 @@
 ghost use Rattle.std.specs.Prelude.{◌<◌, ◌-◌, ◌^◌, length};
 ghost use Rattle.entry_model.specs.Order.{AreInOrder};
 ghost use Rattle.tree_model.specs.Origin.{origin as origin_told};
-ghost use Rattle.entry_facts.specs.Meaning.{Extends, TellsOrigin};
+ghost use Rattle.entry_facts.specs.Meaning.{Extends, GivesOrigin};
 ghost use Rattle.inline_tree.specs.Told.{Knows, source_of};
 
 use dwarf_info::{Entry, Units};
@@ -36,7 +36,7 @@ impl<'a, 's> Source<'a, 's> {
         requires room { length names.old < 2 ^ 32 - 1 }
         requires known { Knows (source_of self.now) names.old origins.old }
         ensures told { let source = source_of self.now in
-            TellsOrigin names.new result
+            GivesOrigin names.new result
             (origin_told source.sections.texts source.info entry.now) }
         ensures names { Extends names.old names.new }
         ensures known { Knows (source_of self.now) names.new origins.new }

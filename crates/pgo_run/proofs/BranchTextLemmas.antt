@@ -12,7 +12,7 @@ use Rattle.sample_model.specs.Limits.{max_text_bytes}
 use Rattle.sample_model.specs.Moves.{LoadMap}
 use Rattle.sample_model.proofs.JudgingLemmas.{bad_places_stay, first_bad_of_text-within}
 use Rattle.branch_stacks.specs.Reader.{Reading, HasRead, new_reading_by, Feeds, Finishes}
-use Rattle.branch_counts.specs.Tally.{Tally, Tells, TellsOf}
+use Rattle.branch_counts.specs.Tally.{Tally, Tells}
 use Rattle.branch_stacks.proofs.FeedLemmas.{HasRead-start}
 use Rattle.pgo_run.specs.BranchText.{FeedsText, JudgesText}
 use Rattle.pgo_run.specs.Halt.{halt_of_stop, judged_in}
@@ -34,7 +34,7 @@ pub new_by : (reader : Reading) (k : ℕ) → (loading : Option LoadMap) × (rea
     → reader ≡ new_reading_by reader.loading k
 new_by reader k (loading, is) = is ∙ ap (λ l. new_reading_by l k) (sym (ap (λ (r : Reading). r.loading) is))
 
-pub ReadSoFar-none : (loading : Option LoadMap) (k : ℕ) (left : Option (List ℕ)) (reader : Reading) (tally : Tally) → reader ≡ new_reading_by loading k → TellsOf [] tally → ReadSoFar loading k left left reader tally
+pub ReadSoFar-none : (loading : Option LoadMap) (k : ℕ) (left : Option (List ℕ)) (reader : Reading) (tally : Tally) → reader ≡ new_reading_by loading k → Tells None [] tally → ReadSoFar loading k left left reader tally
 ReadSoFar-none loading k left reader tally is tells = subst (λ (r : Reading). ReadSoFar loading k left left r tally) (sym is) (record {
   read = [];
   consumed = Consumes-nil left;

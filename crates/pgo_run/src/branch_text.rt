@@ -1,7 +1,7 @@
 // A branch text, read piece by piece.
-ghost use Rattle.std.specs.Prelude.{◌≡◌, [], IfSome, Option};
+ghost use Rattle.std.specs.Prelude.{◌≡◌, [], IfSome, Option, None};
 ghost use Rattle.branch_stacks.specs.Reader.{new_reading_by};
-ghost use Rattle.branch_counts.specs.Tally.{TellsOf};
+ghost use Rattle.branch_counts.specs.Tally.{Tells};
 ghost use Rattle.sample_model.specs.Moves.{LoadMap};
 ghost use Rattle.pgo_run.specs.BranchText.{FeedsText, JudgesText};
 ghost use Rattle.pgo_run.specs.Output.{HasFileCause};
@@ -26,7 +26,7 @@ pub(crate) fn count_text<I: Inputs>(
     counts: &mut Counts,
 ) -> Result<(), Halt>
     requires reader { (loading : Option LoadMap) × (reader ≡ new_reading_by loading k) }
-    requires counts { TellsOf [] counts.old }
+    requires counts { Tells None [] counts.old }
     ensures text { IfSome (I.left inputs.old) (λ text.
         JudgesText reader.loading k text result counts.new) }
     ensures ranged { counts.new.with_ranges ≡ counts.old.with_ranges }
@@ -47,7 +47,7 @@ fn feed_all<I: Inputs>(
     counts: &mut Counts,
 ) -> Result<(), Halt>
     requires reader { (loading : Option LoadMap) × (reader.old ≡ new_reading_by loading k) }
-    requires counts { TellsOf [] counts.old }
+    requires counts { Tells None [] counts.old }
     ensures text { IfSome (I.left inputs.old) (λ text.
         FeedsText reader.old.loading k text result reader.new counts.new) }
     ensures ranged { counts.new.with_ranges ≡ counts.old.with_ranges }

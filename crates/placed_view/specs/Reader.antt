@@ -100,10 +100,10 @@ sleb cur = placed cur (sleb_at cur.left)
 unfoldable pub field : ℕ → Reader ℕ
 field size cur = placed cur (field_at size cur.left)
 
--- A call answered what is read, and left the cursor behind it. `seen` is what clauses see of its value.
-abbrev pub Answers : {X Y : Type 0} → (X → Y) → Result X Place → Cursor → Read Y → Type 0
-Answers seen (Ok x) new read = read ≡ Ok (seen x, new)
-Answers seen (Err place) new read = read ≡ Err place
+-- A call gives what is read, and left the cursor behind it. `seen` is what clauses see of its value.
+abbrev pub Gives : {X Y : Type 0} → (X → Y) → Result X Place → Cursor → Read Y → Type 0
+Gives seen (Ok x) new read = read ≡ Ok (seen x, new)
+Gives seen (Err place) new read = read ≡ Err place
 
 -- The same where memory may be refused, which tells nothing.
 abbrev pub AnswersUnlessNoMemory : {X Y : Type 0} → (X → Y) → Result X Stop → Cursor → Read Y → Type 0

@@ -1,7 +1,7 @@
 // The reads of a cursor, each with its fault as a place.
 ghost use Rattle.std.specs.Prelude.{◌≡◌, ◌<◌, length, OnOk};
 ghost use Rattle.refusal.specs.Place.{in_binary};
-ghost use Rattle.placed_view.specs.Reader.{Answers, field, kind_of as kind_told, sleb as signed_number, uleb as unsigned_number};
+ghost use Rattle.placed_view.specs.Reader.{Gives, field, kind_of as kind_told, sleb as signed_number, uleb as unsigned_number};
 
 use byte_view::{Cur, ViewFault};
 use refusal::{Kind, Place};
@@ -31,7 +31,7 @@ pub fn place_of(fault: ViewFault, at: usize) -> Place
 /// `Short` at the cursor, where none is left.
 #[inline]
 pub fn byte(cur: &mut Cur<'_>) -> Result<u8, Place>
-    ensures read { Answers (λ n. n) result cur.new (field 1 cur.old) }
+    ensures read { Gives (λ n. n) result cur.new (field 1 cur.old) }
     ensures shorter { OnOk result (length cur.new.left < length cur.old.left) }
 {
     let at = cur.at();
@@ -47,7 +47,7 @@ pub fn byte(cur: &mut Cur<'_>) -> Result<u8, Place>
 /// `Short` at the cursor, where the field passes the end.
 #[inline]
 pub fn field_u16(cur: &mut Cur<'_>) -> Result<u16, Place>
-    ensures read { Answers (λ n. n) result cur.new (field 2 cur.old) }
+    ensures read { Gives (λ n. n) result cur.new (field 2 cur.old) }
     ensures shorter { OnOk result (length cur.new.left < length cur.old.left) }
 {
     let at = cur.at();
@@ -63,7 +63,7 @@ pub fn field_u16(cur: &mut Cur<'_>) -> Result<u16, Place>
 /// `Short` at the cursor, where the field passes the end.
 #[inline]
 pub fn field_u32(cur: &mut Cur<'_>) -> Result<u32, Place>
-    ensures read { Answers (λ n. n) result cur.new (field 4 cur.old) }
+    ensures read { Gives (λ n. n) result cur.new (field 4 cur.old) }
     ensures shorter { OnOk result (length cur.new.left < length cur.old.left) }
 {
     let at = cur.at();
@@ -79,7 +79,7 @@ pub fn field_u32(cur: &mut Cur<'_>) -> Result<u32, Place>
 /// `Short` at the cursor, where the field passes the end.
 #[inline]
 pub fn field_u64(cur: &mut Cur<'_>) -> Result<u64, Place>
-    ensures read { Answers (λ n. n) result cur.new (field 8 cur.old) }
+    ensures read { Gives (λ n. n) result cur.new (field 8 cur.old) }
     ensures shorter { OnOk result (length cur.new.left < length cur.old.left) }
 {
     let at = cur.at();
@@ -97,7 +97,7 @@ pub fn field_u64(cur: &mut Cur<'_>) -> Result<u64, Place>
 /// Source: DWARF 5, section 7.6.
 #[inline]
 pub fn uleb(cur: &mut Cur<'_>) -> Result<u64, Place>
-    ensures read { Answers (λ n. n) result cur.new (unsigned_number cur.old) }
+    ensures read { Gives (λ n. n) result cur.new (unsigned_number cur.old) }
     ensures shorter { OnOk result (length cur.new.left < length cur.old.left) }
 {
     let at = cur.at();
@@ -115,7 +115,7 @@ pub fn uleb(cur: &mut Cur<'_>) -> Result<u64, Place>
 /// Source: DWARF 5, section 7.6.
 #[inline]
 pub fn sleb(cur: &mut Cur<'_>) -> Result<i64, Place>
-    ensures read { Answers (λ n. n) result cur.new (signed_number cur.old) }
+    ensures read { Gives (λ n. n) result cur.new (signed_number cur.old) }
     ensures shorter { OnOk result (length cur.new.left < length cur.old.left) }
 {
     let at = cur.at();

@@ -7,7 +7,7 @@ use Rattle.key_types.specs.declared.places.Seg.{Seg}
 use Rattle.address_spans.specs.Spans.{AreBetween}
 use Rattle.address_spans.proofs.SpanLemmas.{AreBetween-lower}
 use Rattle.key_types.specs.Segments.{span_of}
-use Rattle.profile_lists.specs.Segments.{AllFit, Gives, GivesNoMore, OneIs, IsSegmentCount, AreCounts}
+use Rattle.profile_lists.specs.Segments.{AllFit, Attains, GivesNoMore, OneIs, IsSegmentCount, AreCounts}
 use Rattle.std.proofs.Math.Nat.{mul-le-mul_right}
 
 one_left : (P : Seg → Type 0) (xs ys : List Seg) → OneIs P xs → OneIs P (xs ++ ys)
@@ -29,19 +29,19 @@ all_more hits key low high (x ∷ xs) h all = ((λ a f b k. let g : hits a * x.f
 -- a segment of another key changes nothing
 other_key : (hits : ℕ → ℕ) (key count : ℕ) (xs : List Seg) (y : Seg) → (y.key.0 ≢ key) → IsSegmentCount xs hits key count → IsSegmentCount (xs ++ y ∷ []) hits key count
 other_key hits key count xs y ne is = record {
-  attained = elim (is.attained) as (λ _. (count ≡ 0) ⊎ OneIs (Gives hits key count) (xs ++ y ∷ [])) [ inl z ↦ inl z | inr o ↦ inr (one_left (Gives hits key count) xs (y ∷ []) o) ];
+  attained = elim (is.attained) as (λ _. (count ≡ 0) ⊎ OneIs (Attains hits key count) (xs ++ y ∷ [])) [ inl z ↦ inl z | inr o ↦ inr (one_left (Attains hits key count) xs (y ∷ []) o) ];
   largest = all_push (GivesNoMore hits key count) xs y is.largest (λ a f b k. absurd (ne k));
 }
 
 -- a segment of the key raises its count
-raised_key : (hits : ℕ → ℕ) (key old count : ℕ) (xs : List Seg) (y : Seg) → old ≤ count → ((count ≡ old) ⊎ Gives hits key count y) → GivesNoMore hits key count y → IsSegmentCount xs hits key old → IsSegmentCount (xs ++ y ∷ []) hits key count
+raised_key : (hits : ℕ → ℕ) (key old count : ℕ) (xs : List Seg) (y : Seg) → old ≤ count → ((count ≡ old) ⊎ Attains hits key count y) → GivesNoMore hits key count y → IsSegmentCount xs hits key old → IsSegmentCount (xs ++ y ∷ []) hits key count
 raised_key hits key old count xs y h from no_more is = record {
-  attained = elim from as (λ _. (count ≡ 0) ⊎ OneIs (Gives hits key count) (xs ++ y ∷ [])) [
-    | inl same ↦ elim (is.attained) as (λ _. (count ≡ 0) ⊎ OneIs (Gives hits key count) (xs ++ y ∷ [])) [
+  attained = elim from as (λ _. (count ≡ 0) ⊎ OneIs (Attains hits key count) (xs ++ y ∷ [])) [
+    | inl same ↦ elim (is.attained) as (λ _. (count ≡ 0) ⊎ OneIs (Attains hits key count) (xs ++ y ∷ [])) [
       | inl z ↦ inl (same ∙ z)
-      | inr o ↦ inr (one_left (Gives hits key count) xs (y ∷ []) (subst (λ n. OneIs (Gives hits key n) xs) (sym same) o))
+      | inr o ↦ inr (one_left (Attains hits key count) xs (y ∷ []) (subst (λ n. OneIs (Attains hits key n) xs) (sym same) o))
     ]
-    | inr g ↦ inr (one_right (Gives hits key count) xs y g)
+    | inr g ↦ inr (one_right (Attains hits key count) xs y g)
   ];
   largest = all_push (GivesNoMore hits key count) xs y (all_more hits key old count xs h is.largest) no_more;
 }
@@ -65,7 +65,7 @@ one_more_segment hits counts xs y largest h is all key below =
           let was : IsSegmentCount xs hits key old = subst (λ k. IsSegmentCount xs hits k old) same (all n h) in
           let no_more : GivesNoMore hits key new y = λ a f b k.
           let m : hits a * y.factor ≤ largest * y.factor = mul-le-mul_right y.factor (is.bounded a f b) in omega arith in
-          let from : (new ≡ old) ⊎ Gives hits key new y = elim (max_cases old (largest * y.factor)) as (λ _. (new ≡ old) ⊎ Gives hits key new y) [
+          let from : (new ≡ old) ⊎ Attains hits key new y = elim (max_cases old (largest * y.factor)) as (λ _. (new ≡ old) ⊎ Attains hits key new y) [
             | inl e ↦ inl e
             | inr e ↦ inr (record { at = is.attained.0; from = is.attained.1; below = is.attained.2; key_is = same; count_is = ap (λ m. m * y.factor) is.attained.3 ∙ sym e })
           ] in

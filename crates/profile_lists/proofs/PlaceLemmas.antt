@@ -9,7 +9,7 @@ use Rattle.address_spans.proofs.SpanLemmas.{held, missed-behind}
 use Rattle.key_types.specs.declared.places.Seg.{Seg}
 use Rattle.key_types.specs.Segments.{segment_at, span_of}
 use Rattle.profile_lists.specs.Laws.{place_by, factor_by, CountsAreThoseOfPlaces}
-use Rattle.profile_lists.specs.Segments.{Gives, GivesNoMore, OneIs}
+use Rattle.profile_lists.specs.Segments.{Attains, GivesNoMore, OneIs}
 use Rattle.profile_lists.proofs.CountLemmas.{LieFrom}
 
 held_from : (a : ℕ) (s : Seg) → holds a (span_of s) ≡ true → s.lo ≤ a
@@ -32,7 +32,7 @@ behind : (a : ℕ) (s : Seg) (segments : List Seg) → s.hi ≤ a → segment_at
 behind a s segments h = ap (λ b. cond b (Some s) (segment_at segments a)) (missed-behind (span_of s) a h)
 
 -- what one of the segments gives, the map of places gives
-given : (from : ℕ) (segments : List Seg) (hits : ℕ → ℕ) (key count : ℕ) → LieFrom from segments → OneIs (Gives hits key count) segments → (a : ℕ) × (from ≤ a) × (place_by segments a ≡ Some key) × (hits a * factor_by segments a ≡ count)
+given : (from : ℕ) (segments : List Seg) (hits : ℕ → ℕ) (key count : ℕ) → LieFrom from segments → OneIs (Attains hits key count) segments → (a : ℕ) × (from ≤ a) × (place_by segments a ≡ Some key) × (hits a * factor_by segments a ≡ count)
 unfolding key_in factor_in
 given from [] hits key count up one = absurd one
 given from (s ∷ segments) hits key count up one =

@@ -4,10 +4,10 @@ use Rattle.std.specs.List.{All}
 use Rattle.std.proofs.Math.Nat.{mul-le-mul_right}
 use Rattle.std.proofs.lemmas.List.{get_or_default}
 use Rattle.key_types.specs.declared.places.Seg.{Seg}
-use Rattle.profile_lists.specs.Segments.{AllFit, Gives, OneIs, AreCounts}
+use Rattle.profile_lists.specs.Segments.{AllFit, Attains, OneIs, AreCounts}
 
 small_given : (keys : ℕ) (segments : List Seg) (hits : ℕ → ℕ) (key count : ℕ) → AllFit keys segments → ((a : ℕ) → hits a < 2 ^ 32)
-    → OneIs (Gives hits key count) segments → count < 2 ^ 44
+    → OneIs (Attains hits key count) segments → count < 2 ^ 44
 small_given keys [] hits key count fit few one = absurd one
 small_given keys (seg ∷ segments) hits key count fit few one = elim one as (λ _. count < 2 ^ 44) [
   | inl gives ↦

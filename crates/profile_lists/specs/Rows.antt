@@ -72,7 +72,7 @@ OneIs P [] = ⊥
 OneIs P (item ∷ items) = P item ⊎ OneIs P items
 
 -- The way of an item begins so, and a row tells of that item.
-pub record TellsOf (front : List Step) (row : Row) (item : Item) : Type 0 where
+pub record Tells (front : List Step) (row : Row) (item : Item) : Type 0 where
   pub leads : leads_to front item ≡ true
   pub count : row.count ≡ item.count
   pub key : row.key ≡ item.key
@@ -82,7 +82,7 @@ pub record IsRowOf (items : List Item) (front : List Step) (row : Row) : Type 0 
   pub depth : suc row.depth ≡ length front
   pub last : last_or None front ≡ Some row.step
   pub total : row.total ≡ total_of items front
-  pub told : OneIs (TellsOf front row) items
+  pub told : OneIs (Tells front row) items
 
 -- The ways of items.
 abbrev pub ways_of : List Item → List (List Step)

@@ -9,7 +9,7 @@ AllFit keys [] = Unit {0}
 AllFit keys (seg ∷ segments) = (seg.key.0 < keys) × (seg.factor < 4096) × AllFit keys segments
 
 -- A segment holds an address, has a key, and gives it so much there.
-pub record Gives (hits : ℕ → ℕ) (key count : ℕ) (seg : Seg) : Type 0 where
+pub record Attains (hits : ℕ → ℕ) (key count : ℕ) (seg : Seg) : Type 0 where
   pub at : ℕ
   pub from : seg.lo ≤ at
   pub below : at < seg.hi
@@ -28,7 +28,7 @@ OneIs P (seg ∷ segments) = P seg ⊎ OneIs P segments
 
 -- The count of a key is the largest that a segment gives it, and 0 where none does.
 pub record IsSegmentCount (segments : List Seg) (hits : ℕ → ℕ) (key count : ℕ) : Type 0 where
-  pub attained : (count ≡ 0) ⊎ OneIs (Gives hits key count) segments
+  pub attained : (count ≡ 0) ⊎ OneIs (Attains hits key count) segments
   pub largest : AllByRecursion (GivesNoMore hits key count) segments
 
 -- The counts of all keys, each at its number.

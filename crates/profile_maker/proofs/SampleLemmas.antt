@@ -12,12 +12,12 @@ use Rattle.branch_counts.proofs.OrderLemmas.{rows_tally_in_any_order}
 use Rattle.profile_report.specs.declared.report.Units.{Units}
 use Rattle.binary_model.specs.Binary.{units_in}
 use Rattle.output_model.specs.Output.{sampled_by}
-use Rattle.profile_writer.specs.Shown.{ShowsSampled}
+use Rattle.profile_writer.specs.Told.{TellsSampled}
 
 pub samples_shown : (loading : Option LoadMap) (file : List ℕ) (lines : List (List ℕ)) (tally : Tally) (branches ranges : List Pair) (units : Units)
     → tally.with_ranges ≡ true → Tells loading lines tally → IsPermutation tally.branches branches → IsSorted pair_cmp branches → ranges ≡ tally.ranges
     → units.read ≡ length (units_in file).units → units.passed ≡ length (units_in file).skipped
-    → ShowsSampled (sampled_by loading file lines) branches ranges units
+    → TellsSampled (sampled_by loading file lines) branches ranges units
 samples_shown loading file lines tally branches ranges units with_ranges tells moved sorted same read passed = record {
   of_branches = rows_tally_in_any_order (branches_by loading lines) tally.branches branches moved tells.branches;
   of_ranges =

@@ -34,10 +34,10 @@ use Rattle.profile_tree.specs.Steps.{frame_step, named, at_line, steps_of, steps
 use Rattle.binary_model.specs.Addresses.{entered_at, factor_of_address, function_of_address}
 use Rattle.binary_model.specs.Binary.{members_in, tables_in}
 use Rattle.binary_model.specs.Places.{Place, outside, nameless, no_line, at_way, name_of, names_of, numbered_from, row_in, way_of}
-use Rattle.binary_places.specs.Binary.{IsWay, Shows}
+use Rattle.binary_places.specs.Binary.{IsWay, Tells}
 use Rattle.binary_places.proofs.NumberLemmas.{are-told}
 use Rattle.binary_places.proofs.ShownLemmas.{places_shown}
-use Rattle.profile_writer.specs.Shown.{ShowsName, ShowsPlace, key_of}
+use Rattle.profile_writer.specs.Told.{TellsName, TellsPlace, key_of}
 use Rattle.profile_maker.specs.Laws.{BinariesShowPrograms}
 
 -- ---- places
@@ -50,7 +50,7 @@ calls_alike names (call ∷ calls) offset disc = ap (λ steps. to_call call.offs
 key_alike : (names : List (List ℕ)) (key : Key) → map (named names) (steps_of key) ≡ way_of names key
 key_alike names key = ap (λ steps. to_function (name_of names key.root) ∷ steps) (calls_alike names key.calls key.offset key.disc)
 
-place_shown : (names : List (List ℕ)) (keys : List Key) (place : Place) (answer : Where) → Shows names keys place answer → ShowsPlace names keys place answer
+place_shown : (names : List (List ℕ)) (keys : List Key) (place : Place) (answer : Where) → Tells names keys place answer → TellsPlace names keys place answer
 place_shown names keys outside answer shown = shown
 place_shown names keys nameless answer shown = shown
 place_shown names keys no_line answer shown = shown
@@ -122,7 +122,7 @@ module _ (names others : List (List ℕ)) where
   abbrev name_where : ℕ → Option (ℕ × Member) → Option NameId
   name_where address function = option_and_then (λ function. if is_entered_at address function.1.pieces then function.1.name else None) function
 
-  same_name : (name : Option (List ℕ)) (one other : Option NameId) → IsNumberOf names name one → IsNumberOf others name other → ShowsName names (option_map (name_of others) other) one
+  same_name : (name : Option (List ℕ)) (one other : Option NameId) → IsNumberOf names name one → IsNumberOf others name other → TellsName names (option_map (name_of others) other) one
   same_name name None None h k = refl
   same_name None None (Some j) h k = absurd (true≢false (sym k.0))
   same_name (Some n) None (Some j) h k = absurd cc
@@ -130,16 +130,16 @@ module _ (names others : List (List ℕ)) where
   same_name (Some n) (Some i) None h k = absurd cc
   same_name (Some n) (Some i) (Some j) h k = (i, refl, h.1 ∙ ap (λ o. Some (unwrap_or o [])) (sym k.1))
 
-  name_if : (b : Bool) (p q : Option NameId) → SameName p q → ShowsName names (option_map (name_of others) (if b then q else None)) (if b then p else None)
+  name_if : (b : Bool) (p q : Option NameId) → SameName p q → TellsName names (option_map (name_of others) (if b then q else None)) (if b then p else None)
   name_if true p q h = same_name h.0 p q h.1 h.2
   name_if false p q h = refl
 
-  same_entry : (address : ℕ) (x y : Option (ℕ × Member)) → SameFound x y → ShowsName names (option_map (name_of others) (name_where address y)) (name_where address x)
+  same_entry : (address : ℕ) (x y : Option (ℕ × Member)) → SameFound x y → TellsName names (option_map (name_of others) (name_where address y)) (name_where address x)
   same_entry address None None h = refl
   same_entry address None (Some q) h = absurd h
   same_entry address (Some p) None h = absurd h
   same_entry address (Some p) (Some q) h =
-      subst (λ pieces. ShowsName names (option_map (name_of others) (if is_entered_at address pieces then q.1.name else None)) (name_where address (Some p))) h.pieces_are
+      subst (λ pieces. TellsName names (option_map (name_of others) (if is_entered_at address pieces then q.1.name else None)) (name_where address (Some p))) h.pieces_are
       (name_if (is_entered_at address p.1.pieces) p.1.name q.1.name h.name_is)
 
   -- the row of its unit
@@ -241,7 +241,7 @@ programs_shown file base binary is =
       places = λ address. place_shown binary.names binary.keys _ (place_told binary.map address) (places_shown file base binary is address);
       functions = λ address. is.map.function address ∙ same_number binary.names others (function_of is.members address) (function_of cs address) (same address);
       entrances = λ address.
-          subst (ShowsName binary.names (entered_at file address)) (sym (is.map.entry address))
+          subst (TellsName binary.names (entered_at file address)) (sym (is.map.entry address))
           (same_entry binary.names others address (function_of is.members address) (function_of cs address) (same address));
       keys_told = λ address. key_of_place (segment address) _ _;
       factors_told = λ address some.

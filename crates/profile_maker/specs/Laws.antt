@@ -8,13 +8,13 @@ use Rattle.report_model.specs.Report.{Sampled}
 use Rattle.profile_laws.specs.Totals.{HasKeyWays}
 use Rattle.output_model.specs.Program.{program_of}
 use Rattle.output_model.specs.Sampled.{profile_of}
-use Rattle.profile_writer.specs.Shown.{ShowsProgram}
+use Rattle.profile_writer.specs.Told.{TellsProgram}
 
 -- The map of a binary shows the program in it.
 abbrev pub BinariesShowPrograms : Type 0
 BinariesShowPrograms =
     (file : List ℕ) (base : Bool) (binary : Binary) → IsBinary file base binary
-    → ShowsProgram (program_of file base) binary.names binary.keys binary.map.segments
+    → TellsProgram (program_of file base) binary.names binary.keys binary.map.segments
     (place_told binary.map) (λ address. function_at binary.map.stretches address) (entry_told binary.map)
 
 -- Of a binary each way with a count is that of a key, so totals add up.

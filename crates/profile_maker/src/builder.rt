@@ -17,7 +17,7 @@ ghost use Rattle.output_model.specs.Output.{sampled_by};
 ghost use Rattle.output_model.specs.Program.{program_of};
 ghost use Rattle.profile_tree.specs.Told.{IsOf};
 ghost use Rattle.profile_writer.specs.Profile.{IsProfileOf, ran as ranges_run};
-ghost use Rattle.profile_writer.specs.Shown.{ShowsSampled};
+ghost use Rattle.profile_writer.specs.Told.{TellsSampled};
 ghost use Rattle.profile_maker.specs.Edges.{edges_by};
 
 use binary_places::Binary;
@@ -76,7 +76,7 @@ fn profile_of(
     requires few_ranges { total_in ranges.now ≤ max_branches }
     ensures told { IfOk result (λ profile. (file : List ℕ) (base : Bool) (sampled : Sampled)
         → IsBinary file base binary.now
-        → ShowsSampled sampled branches.now ranges.now
+        → TellsSampled sampled branches.now ranges.now
         (record { read = binary.now.read; passed = binary.now.passed })
         → IsProfileOf (program_of file base) sampled binary.now.names binary.now.map.segments
         profile) }

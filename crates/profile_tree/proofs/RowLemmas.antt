@@ -27,7 +27,7 @@ use Rattle.profile_lists.specs.Pairs.{was_made}
 use Rattle.profile_lists.specs.declared.pairs.Call.{Call}
 use Rattle.profile_lists.proofs.FrontLemmas.{lists_tell_apart}
 use Rattle.profile_lists.proofs.OrderLemmas.{steps_tell_apart}
-use Rattle.profile_lists.specs.Rows.{IsRowOf, OneIs, TellsOf, leads_to as row_leads_to, same_step as same_rank, ways_of}
+use Rattle.profile_lists.specs.Rows.{IsRowOf, OneIs, Tells, leads_to as row_leads_to, same_step as same_rank, ways_of}
 use Rattle.profile_lists.specs.Ways.{step_cmp as rank_cmp, way_cmp as ranks_cmp}
 use Rattle.profile_lists.specs.declared.item.Item.{Item}
 use Rattle.profile_lists.specs.declared.item.Step.{Step as RankedStep}
@@ -140,7 +140,7 @@ module _ (names : List (List ℕ)) (keys : List Key) (counts : List ℕ) (calls 
 
   pub key_of_row : (s : NumberedStep) (w : List NumberedStep) (o d : ℕ) (row : Row) → AllByRecursion (IsNamed (length names)) (s ∷ w) → last_of s w ≡ at_line o d → IsRowOf sorted (map (ranked tr nr) (s ∷ w)) row → IsKeyWay names keys (map (named names) (s ∷ w)) row.key
   key_of_row s w o d row known e is =
-      let one = one_among (TellsOf (map (ranked tr nr) (s ∷ w)) row) sorted is.told in
+      let one = one_among (Tells (map (ranked tr nr) (s ∷ w)) row) sorted is.told in
       let src = source_of one.0 one.1 in
       let named_way : AllByRecursion (IsNamed (length names)) src.0.way = among_all (λ x. AllByRecursion (IsNamed (length names)) x.way) src.0 all_sources sources_named src.1 in
       let leads : leads_to (map (named names) (s ∷ w)) (map (named names) src.0.way) ≡ true =

@@ -34,7 +34,7 @@ use Rattle.output_model.specs.Sampled as told
 use Rattle.output_model.specs.Sampled.{call_by, call_of, has_way}
 use Rattle.profile_writer.proofs.SumLemmas.{kept_all, kept_sum, members}
 use Rattle.profile_writer.specs.Items.{call_from, call_from_key, call_in, head_by, head_in}
-use Rattle.profile_writer.specs.Shown.{ShowsName, ShowsPlace, ShowsProgram}
+use Rattle.profile_writer.specs.Told.{TellsName, TellsPlace, TellsProgram}
 
 -- a name is wanted
 abbrev names : List ℕ → Option (List ℕ) → Bool
@@ -53,7 +53,7 @@ no_head (Some reason) times = refl
 abbrev head_weight : List (List ℕ) → List ℕ → Head → ℕ
 head_weight all name head = cond (same_name name (name_at all head.name.0)) head.times 0
 
-head_row : (all : List (List ℕ)) (name : List ℕ) (o : Option (List ℕ)) (answer : Option NameId) → ShowsName all o answer → (from to : Where) (times : ℕ)
+head_row : (all : List (List ℕ)) (name : List ℕ) (o : Option (List ℕ)) (answer : Option NameId) → TellsName all o answer → (from to : Where) (times : ℕ)
     → option_map_or (head_weight all name) (head_by (class_by answer from to) times) 0 ≡ cond (names name o) times 0
 head_row all name None answer shown from to times =
     (λ i. option_map_or (head_weight all name) (head_by (class_by (shown i) from to) times) 0)
@@ -79,8 +79,8 @@ and_false false n = refl
 abbrev call_weight : List (List ℕ) → List Key → Way → List ℕ → Call → ℕ
 call_weight all keys way name call = cond (same_way way (way_at all keys call.key.0) && same_name name (name_at all call.callee.0)) call.times 0
 
-call_row : (all : List (List ℕ)) (keys : List Key) (way : Way) (name : List ℕ) (place : Place) (from : Where) → ShowsPlace all keys place from
-    → (o : Option (List ℕ)) (answer : Option NameId) → ShowsName all o answer → (to : Where) (times : ℕ)
+call_row : (all : List (List ℕ)) (keys : List Key) (way : Way) (name : List ℕ) (place : Place) (from : Where) → TellsPlace all keys place from
+    → (o : Option (List ℕ)) (answer : Option NameId) → TellsName all o answer → (to : Where) (times : ℕ)
     → option_map_or (call_weight all keys way name) (call_from from (class_by answer from to) times) 0 ≡ cond (ways way (way_of_place place) && names name o) times 0
 call_row all keys way name outside from shown o answer named to times = λ i. option_map_or (call_weight all keys way name) (call_from (shown i) (class_by answer from to) times) 0
 call_row all keys way name nameless from shown o answer named to times = λ i. option_map_or (call_weight all keys way name) (call_from (shown i) (class_by answer from to) times) 0
@@ -145,7 +145,7 @@ pub all_classed : {C : Type 0} (class : ℕ → ℕ → C) (rows : List Pair) �
 all_classed class rows = sum_map (λ r. r.row.times) (classed_by class) rows
 
 module _ (program : Program) (all : List (List ℕ)) (keys : List Key) (segments : List Seg) (place : ℕ → Where) (function : ℕ → Option ℕ) (entered : ℕ → Option NameId)
-    (shown : ShowsProgram program all keys segments place function entered) (pairs : List (ℕ × ℕ)) (rows : List Pair) (tallied : Tallies pairs rows) where
+    (shown : TellsProgram program all keys segments place function entered) (pairs : List (ℕ × ℕ)) (rows : List Pair) (tallied : Tallies pairs rows) where
   abbrev classed : List (Classed Class)
   classed = map (classed_by (branch_class place entered)) rows
 
@@ -181,14 +181,14 @@ module _ (program : Program) (all : List (List ℕ)) (keys : List Key) (segments
 -- numbers in calls and entries were given
 
 module _ (program : Program) (all : List (List ℕ)) (keys : List Key) (segments : List Seg) (place : ℕ → Where) (function : ℕ → Option ℕ) (entered : ℕ → Option NameId)
-    (shown : ShowsProgram program all keys segments place function entered) (rows : List Pair) where
+    (shown : TellsProgram program all keys segments place function entered) (rows : List Pair) where
   abbrev classed_rows : List (Classed Class)
   classed_rows = map (classed_by (branch_class place entered)) rows
 
   entered_given : (address : ℕ) (id : NameId) → entered address ≡ Some id → id.0 < length all
   entered_given address id e = by_name (program.entered address) (shown.entrances address)
     where
-      by_name : (o : Option (List ℕ)) → ShowsName all o (entered address) → id.0 < length all
+      by_name : (o : Option (List ℕ)) → TellsName all o (entered address) → id.0 < length all
       by_name None named = absurd (none_some id (sym named ∙ e))
         where
           none_some : (x : NameId) → None ≡ Some x → ⊥
@@ -203,7 +203,7 @@ module _ (program : Program) (all : List (List ℕ)) (keys : List Key) (segments
   key_given : (address : ℕ) (id : KeyId) → place address ≡ At id → id.0 < length keys
   key_given address id e = by_place (program.place address) (shown.places address)
     where
-      by_place : (p : Place) → ShowsPlace all keys p (place address) → id.0 < length keys
+      by_place : (p : Place) → TellsPlace all keys p (place address) → id.0 < length keys
       by_place outside is = absurd (no_key id (sym is ∙ e))
         where
           no_key : (x : KeyId) → Outside ≡ At x → ⊥

@@ -17,7 +17,7 @@ use Rattle.binary_model.specs.Places.{Place, outside, nameless, no_line, at_way}
 use Rattle.report_model.specs.Report.{Classes, Sampled, number_line, ranges_text, reasons, report_text, units_text, unmapped_line}
 use Rattle.output_model.specs.Program.{Program}
 use Rattle.output_model.specs.Sampled.{class_of_branch, class_of_places, classes_of, reason_of_places}
-use Rattle.profile_writer.specs.Shown.{ShowsName, ShowsPlace, ShowsProgram}
+use Rattle.profile_writer.specs.Told.{TellsName, TellsPlace, TellsProgram}
 
 -- a class in which all names are one
 abbrev simple : Class → Class
@@ -59,7 +59,7 @@ simplified_report classes sampled =
     (λ branch. simple_entry (classes.of_branch branch) i) (λ branch. simple_inside (classes.of_branch branch) i) (λ reason branch. simple_unmapped reason (classes.of_branch branch) i)
 
 -- a map's answers give the reason that the places give
-reason_alike : (names : List (List ℕ)) (keys : List Key) (p q : Place) (from to : Where) → ShowsPlace names keys p from → ShowsPlace names keys q to
+reason_alike : (names : List (List ℕ)) (keys : List Key) (p q : Place) (from to : Where) → TellsPlace names keys p from → TellsPlace names keys q to
     → reason_of_places p q ≡ reason_of from to
 reason_alike names keys outside q from to here there = sym (ap (λ w. reason_of w to) here)
 reason_alike names keys nameless q from to here there = sym (ap (λ w. reason_of w to) here)
@@ -73,7 +73,7 @@ simple_reason : (reason : Option Reason) → class_by_reason reason ≡ simple (
 simple_reason None = refl
 simple_reason (Some reason) = refl
 
-class_alike : (names : List (List ℕ)) (name : Option (List ℕ)) (answer : Option NameId) (p q : Place) (from to : Where) → ShowsName names name answer
+class_alike : (names : List (List ℕ)) (name : Option (List ℕ)) (answer : Option NameId) (p q : Place) (from to : Where) → TellsName names name answer
     → reason_of_places p q ≡ reason_of from to → class_of_places name p q ≡ simple (class_by answer from to)
 class_alike names None answer p q from to shown same =
     ap class_by_reason same ∙ simple_reason (reason_of from to) ∙ sym (ap (λ a. simple (class_by a from to)) shown)
@@ -87,7 +87,7 @@ classes_told place function entered = record {
 }
 
 module _ (program : Program) (names : List (List ℕ)) (keys : List Key) (segments : List Seg) (place : ℕ → Where) (function : ℕ → Option ℕ) (entered : ℕ → Option NameId)
-    (shown : ShowsProgram program names keys segments place function entered) where
+    (shown : TellsProgram program names keys segments place function entered) where
   branch_alike : (branch : ℕ × ℕ) → class_of_branch program branch ≡ simple (branch_class place entered branch.0 branch.1)
   branch_alike branch =
       class_alike names (program.entered branch.1) (entered branch.1) (program.place branch.0) (program.place branch.1) (place branch.0) (place branch.1) (shown.entrances branch.1)

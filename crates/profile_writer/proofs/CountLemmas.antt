@@ -47,7 +47,7 @@ use Rattle.output_model.specs.Sampled.{class_of_range, count_among, has_way, hit
 use Rattle.weight_model.specs.Edges.{passed}
 use Rattle.profile_writer.proofs.SumLemmas.{kept_among, kept_from, kept_sum, members}
 use Rattle.profile_writer.specs.Items.{ran_by, ran_in}
-use Rattle.profile_writer.specs.Shown.{ShowsPlace, ShowsProgram, key_of}
+use Rattle.profile_writer.specs.Told.{TellsPlace, TellsProgram, key_of}
 
 -- ---- the largest of some numbers
 
@@ -151,7 +151,7 @@ number_there : (m n : ℕ) → Some m ≡ Some n → m ≡ n
 number_there m n e = cc
 
 -- a place with a way has the number of a key of that way
-key_of_way : (all : List (List ℕ)) (keys : List Key) (place : Place) (answer : Where) → ShowsPlace all keys place answer → (way : Way) → way_of_place place ≡ Some way
+key_of_way : (all : List (List ℕ)) (keys : List Key) (place : Place) (answer : Where) → TellsPlace all keys place answer → (way : Way) → way_of_place place ≡ Some way
     → (id : KeyId) × (key_of answer ≡ Some id.0) × (id.0 < length keys) × (way_at all keys id.0 ≡ way)
 key_of_way all keys outside answer shown way e = absurd (no_way way e)
 key_of_way all keys nameless answer shown way e = absurd (no_way way e)
@@ -159,7 +159,7 @@ key_of_way all keys no_line answer shown way e = absurd (no_way way e)
 key_of_way all keys (at_way w) answer shown way e = (shown.0, ap key_of shown.1, shown.2.inside, shown.2.way_is ∙ way_there way w e)
 
 -- a place with the number of a key has the way of that key
-way_of_key : (all : List (List ℕ)) (keys : List Key) (place : Place) (answer : Where) → ShowsPlace all keys place answer → (n : ℕ) → key_of answer ≡ Some n
+way_of_key : (all : List (List ℕ)) (keys : List Key) (place : Place) (answer : Where) → TellsPlace all keys place answer → (n : ℕ) → key_of answer ≡ Some n
     → way_of_place place ≡ Some (way_at all keys n)
 way_of_key all keys outside answer shown n e = absurd (no_number n (sym (ap key_of shown) ∙ e))
 way_of_key all keys nameless answer shown n e = absurd (no_number n (sym (ap key_of shown) ∙ e))
@@ -180,7 +180,7 @@ is_there None n e = absurd (no_number n e)
 is_there (Some m) n e = refl
 
 module _ (program : Program) (sampled : Sampled) (all : List (List ℕ)) (keys : List Key) (segments : List Seg) (place : ℕ → Where) (function : ℕ → Option ℕ) (entered : ℕ → Option NameId)
-    (shown : ShowsProgram program all keys segments place function entered)
+    (shown : TellsProgram program all keys segments place function entered)
     (addresses : List ℕ) (inside : (address : ℕ) → nat_lt address (2 ^ 64) ≡ true → Among address addresses)
     (beyond : (address : ℕ) → nat_lt address (2 ^ 64) ≡ false → hits_of program sampled address ≡ 0)
     (counts : List ℕ) (calls : List Call) (heads : List Head) (given : Given all keys calls heads)

@@ -36,7 +36,7 @@ use Rattle.profile_writer.proofs.ClassLemmas.{classes_told, report_alike}
 use Rattle.profile_writer.proofs.CountLemmas.{counted_alike, counts_alike, hits_alike, passed_alike}
 use Rattle.profile_writer.specs.Items.{call_in, head_in, ran_in}
 use Rattle.profile_writer.specs.Profile.{IsProfileOf, Parts, lines_text}
-use Rattle.profile_writer.specs.Shown.{ShowsProgram, ShowsSampled}
+use Rattle.profile_writer.specs.Told.{TellsProgram, TellsSampled}
 
 -- every address is among all
 below : (address bound : ℕ) → nat_lt address bound ≡ true → address < bound
@@ -47,8 +47,8 @@ unfolding all_addresses
 address_inside address near = range_among 0 (2 ^ 64) address (omega arith) (below address (2 ^ 64) near)
 
 module _ (program : Program) (sampled : Sampled) (all : List (List ℕ)) (keys : List Key) (segments : List Seg) (place : ℕ → Where) (function : ℕ → Option ℕ) (entered : ℕ → Option NameId)
-    (shown : ShowsProgram program all keys segments place function entered)
-    (branch_rows range_rows : List Pair) (units : Units) (rows : ShowsSampled sampled branch_rows range_rows units) where
+    (shown : TellsProgram program all keys segments place function entered)
+    (branch_rows range_rows : List Pair) (units : Units) (rows : TellsSampled sampled branch_rows range_rows units) where
   abbrev branches : List (Classed Class)
   branches = map (classed_by (branch_class place entered)) branch_rows
 

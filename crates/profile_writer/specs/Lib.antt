@@ -1,3 +1,3 @@
 pub mod Items
 pub mod Profile
-pub mod Shown
+pub mod Told

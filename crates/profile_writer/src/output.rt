@@ -8,7 +8,7 @@ ghost use Rattle.report_model.specs.Report.{Sampled};
 ghost use Rattle.sample_model.specs.Limits.{max_branches};
 ghost use Rattle.output_model.specs.Output.{output_text};
 ghost use Rattle.output_model.specs.Program.{Program};
-ghost use Rattle.profile_writer.specs.Shown.{ShowsProgram, ShowsSampled};
+ghost use Rattle.profile_writer.specs.Told.{TellsProgram, TellsSampled};
 
 use crate::profile::Profile;
 use crate::samples::Samples;
@@ -35,12 +35,12 @@ pub fn write<P: Places>(
     requires key_names { All (HasNames (length names.now)) keys.now }
     requires few_branches { total_in samples.now.branches.now ≤ max_branches }
     requires few_ranges { total_in samples.now.ranges.now ≤ max_branches }
-    requires shown { (program : Program) × ShowsProgram program names.now keys.now segments.now
+    requires shown { (program : Program) × TellsProgram program names.now keys.now segments.now
         (P.place_of places.now) (P.function_of places.now) (P.entry_name_of places.now) }
     ensures { IfOk result (λ out. (program : Program) (sampled : Sampled)
-        → ShowsProgram program names.now keys.now segments.now
+        → TellsProgram program names.now keys.now segments.now
         (P.place_of places.now) (P.function_of places.now) (P.entry_name_of places.now)
-        → ShowsSampled sampled samples.now.branches.now samples.now.ranges.now samples.now.units
+        → TellsSampled sampled samples.now.branches.now samples.now.ranges.now samples.now.units
         → out.items ≡ output_text program sampled) }
 {
     let profile = Profile::make(alloc, samples, places, segments, keys, names)?;

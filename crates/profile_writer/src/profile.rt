@@ -12,7 +12,7 @@ ghost use Rattle.report_model.specs.Report.{Classes, Sampled, report_text};
 ghost use Rattle.sample_model.specs.Limits.{max_branches};
 ghost use Rattle.output_model.specs.Program.{Program};
 ghost use Rattle.profile_writer.specs.Profile.{IsProfileOf, lines_text, ran as ranges_run};
-ghost use Rattle.profile_writer.specs.Shown.{ShowsProgram, ShowsSampled};
+ghost use Rattle.profile_writer.specs.Told.{TellsProgram, TellsSampled};
 
 use crate::counted::ran_of;
 use crate::samples::Samples;
@@ -78,12 +78,12 @@ impl Profile {
         requires key_names { All (HasNames (length names.now)) keys.now }
         requires few_branches { total_in samples.now.branches.now ≤ max_branches }
         requires few_ranges { total_in samples.now.ranges.now ≤ max_branches }
-        requires shown { (program : Program) × ShowsProgram program names.now keys.now segments.now
+        requires shown { (program : Program) × TellsProgram program names.now keys.now segments.now
             (P.place_of places.now) (P.function_of places.now) (P.entry_name_of places.now) }
         ensures told { IfOk result (λ profile. (program : Program) (sampled : Sampled)
-            → ShowsProgram program names.now keys.now segments.now
+            → TellsProgram program names.now keys.now segments.now
             (P.place_of places.now) (P.function_of places.now) (P.entry_name_of places.now)
-            → ShowsSampled sampled samples.now.branches.now samples.now.ranges.now samples.now.units
+            → TellsSampled sampled samples.now.branches.now samples.now.ranges.now samples.now.units
             → IsProfileOf program sampled names.now segments.now profile) }
         ensures names { IfOk result (λ profile. All (IsOf names.now) profile.lines) }
     {

@@ -3,11 +3,11 @@ use Rattle.std.specs.List.{flat_map}
 use Rattle.std.proofs.lemmas.List.{take_all}
 use Rattle.std.proofs.lemmas.Result.{err_from_is_err_and}
 use Rattle.branch_stacks.proofs.PieceLemmas.{PiecesSoFar, PiecesSoFar-none, pieces_ended, pieces_stopped}
-use Rattle.branch_stacks.proofs.TextLemmas.{TellsOf-nothing}
+use Rattle.branch_stacks.proofs.TextLemmas.{Tells_none-nothing}
 use Rattle.branch_stacks.proofs.pieces.read_pieces.Goals as goal
 
 pub loop-piece-init : goal.loop-piece-init
-loop-piece-init c = record { read = PiecesSoFar-none _ _ c.requires.new (TellsOf-nothing _ c.keeps.ensures c.requires.nothing); ranged = refl }
+loop-piece-init c = record { read = PiecesSoFar-none _ _ c.requires.new (Tells_none-nothing _ c.keeps.ensures c.requires.nothing); ranged = refl }
 
 pub returns-in_err-feed-clause-judged : goal.returns-in_err-feed-clause-judged
 returns-in_err-feed-clause-judged c =

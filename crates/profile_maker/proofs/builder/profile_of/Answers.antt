@@ -7,7 +7,7 @@ use Rattle.context_map.specs.Maps.{entry_told, place_told}
 use Rattle.span_cover.specs.Stretches.{function_at}
 use Rattle.output_model.specs.Program.{program_of}
 use Rattle.profile_writer.specs.Profile.{IsProfileOf}
-use Rattle.profile_writer.specs.Shown.{ShowsProgram}
+use Rattle.profile_writer.specs.Told.{TellsProgram}
 use Rattle.profile_maker.proofs.NameLemmas.{keys_have_names}
 use Rattle.profile_maker.proofs.SegmentLemmas.{segments_fit}
 use Rattle.profile_maker.proofs.ShownLemmas.{programs_shown}
@@ -30,7 +30,7 @@ make-requires-clause-shown c =
     let is = c.requires.binary in
     let binary = c.args.binary.now in (
       program_of is.0 is.1,
-      subst (λ (segments : List Seg). ShowsProgram (program_of is.0 is.1) binary.names binary.keys segments (place_told binary.map) (λ address. function_at binary.map.stretches address) (entry_told binary.map))
+      subst (λ (segments : List Seg). TellsProgram (program_of is.0 is.1) binary.names binary.keys segments (place_told binary.map) (λ address. function_at binary.map.stretches address) (entry_told binary.map))
           (sym c.segments.ensures) (programs_shown is.0 is.1 binary is.2),
     )
 
@@ -40,6 +40,6 @@ returns-clause-told c =
     IfOk-weaker c.make.result _ _ (λ profile told file base sampled is shown.
     subst (λ (segments : List Seg). IsProfileOf (program_of file base) sampled binary.names segments profile) c.segments.ensures
     (told (program_of file base) sampled
-    (subst (λ (segments : List Seg). ShowsProgram (program_of file base) binary.names binary.keys segments (place_told binary.map) (λ address. function_at binary.map.stretches address) (entry_told binary.map))
+    (subst (λ (segments : List Seg). TellsProgram (program_of file base) binary.names binary.keys segments (place_told binary.map) (λ address. function_at binary.map.stretches address) (entry_told binary.map))
     (sym c.segments.ensures) (programs_shown file base binary is))
     shown)) c.make.ensures.told

@@ -12,7 +12,7 @@ use Rattle.profile_maker.proofs.NameLemmas.{keys_have_names}
 use Rattle.profile_maker.proofs.SegmentLemmas.{segments_fit}
 use Rattle.output_model.specs.Output.{sampled_by}
 use Rattle.output_model.specs.Program.{program_of}
-use Rattle.profile_writer.specs.Shown.{ShowsProgram}
+use Rattle.profile_writer.specs.Told.{TellsProgram}
 use Rattle.profile_maker.proofs.SampleLemmas.{branches_fit, samples_shown}
 use Rattle.profile_maker.proofs.ShownLemmas.{programs_shown}
 use Rattle.profile_maker.proofs.maker.make.Goals as goal
@@ -40,7 +40,7 @@ write-requires-clause-shown c =
     let is = c.requires in
     let binary = c.args.binary.now in (
       program_of is.0 is.1,
-      subst (λ (segments : List Seg). ShowsProgram (program_of is.0 is.1) binary.names binary.keys segments (place_told binary.map) (λ address. function_at binary.map.stretches address) (entry_told binary.map))
+      subst (λ (segments : List Seg). TellsProgram (program_of is.0 is.1) binary.names binary.keys segments (place_told binary.map) (λ address. function_at binary.map.stretches address) (entry_told binary.map))
           (sym c.segments.ensures) (programs_shown is.0 is.1 binary is.2),
     )
 
@@ -49,7 +49,7 @@ returns c =
     let binary = c.args.binary.now in
     IfOk-weaker c.write.result _ _ (λ out written file base loading lines is with_ranges tells.
     written (program_of file base) (sampled_by loading file lines)
-    (subst (λ (segments : List Seg). ShowsProgram (program_of file base) binary.names binary.keys segments (place_told binary.map) (λ address. function_at binary.map.stretches address) (entry_told binary.map))
+    (subst (λ (segments : List Seg). TellsProgram (program_of file base) binary.names binary.keys segments (place_told binary.map) (λ address. function_at binary.map.stretches address) (entry_told binary.map))
     (sym c.segments.ensures) (programs_shown file base binary is))
     (samples_shown loading file lines c.args.counts c.deref.result.now c.deref-2.result.now _ with_ranges tells
     (subst (IsPermutation c.args.counts.branches) (sym c.deref.ensures.value) c.in_ok-branches.ensures.same)

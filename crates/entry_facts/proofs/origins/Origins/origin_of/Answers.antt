@@ -4,7 +4,7 @@ use Rattle.dwarf_strings.specs.Meaning.{sections_of}
 use Rattle.unit_model.specs.Entries.{Entry}
 use Rattle.tree_model.specs.Way.{entry_beginning_at}
 use Rattle.tree_model.specs.Origin.{Origin}
-use Rattle.entry_facts.specs.Meaning.{TellsOrigin, info_of}
+use Rattle.entry_facts.specs.Meaning.{GivesOrigin, info_of}
 use Rattle.entry_facts.proofs.StepLemmas.{origin-others}
 use Rattle.entry_facts.proofs.MemoLemmas.{Remembers-more}
 use Rattle.entry_facts.proofs.origins.Origins.origin_of.Goals as goal
@@ -21,11 +21,11 @@ pub returns-in-Some-known_at-clause-told : goal.returns-in-Some-known_at-clause-
 returns-in-Some-known_at-clause-told c =
     let known = c.requires.known c.in-Some.at c.in-Some-known_at.origin (sym c.in-Some-known_at.ensures) in
     let is = origin-others (sections_of c.args.info.now.texts.now) (info_of c.args.info.now) c.args.entry.now known.entry c.args.entry.now.at c.in-Some.at refl c.in-Some.ensures known.begins in
-    subst (λ (told : Result Origin Place). TellsOrigin c.args.names.now (Ok c.in-Some-known_at.origin) told) (sym is) (known.told c.args.entry.now.at)
+    subst (λ (told : Result Origin Place). GivesOrigin c.args.names.now (Ok c.in-Some-known_at.origin) told) (sym is) (known.told c.args.entry.now.at)
 
 pub returns-in-Some-entry_beginning_at-clause-told : goal.returns-in-Some-entry_beginning_at-clause-told
 returns-in-Some-entry_beginning_at-clause-told c =
     let next = c.in-Some-entry_beginning_at.next in
     let begins = subst (λ (n : ℕ). entry_beginning_at c.args.info.now.units.now.entries n ≡ Some next) c.from.ensures (sym c.in-Some-entry_beginning_at.ensures) in
     let is = origin-others (sections_of c.args.info.now.texts.now) (info_of c.args.info.now) c.args.entry.now next c.entry.inside.at c.in-Some.at (ap (λ (e : Entry). e.at) c.entry.view_is) c.in-Some.ensures begins in
-    subst (λ (told : Result Origin Place). TellsOrigin c.worked_out.new.names c.worked_out.result told) (sym is) c.worked_out.ensures.told
+    subst (λ (told : Result Origin Place). GivesOrigin c.worked_out.new.names c.worked_out.result told) (sym is) c.worked_out.ensures.told

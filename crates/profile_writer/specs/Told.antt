@@ -1,4 +1,4 @@
--- How a map of places shows a program, and rows show what was sampled of it.
+-- How a map of places tells a program, and rows tell what was sampled of it.
 use Rattle.std.specs.Prelude.{◌≡◌, ℕ, ◌<◌, List, length, slice_get, Option, None, Some, IsSome}
 use Rattle.std.specs.List.Sorted.{IsSorted}
 use Rattle.profile_lists.specs.Laws.{factor_by, place_by}
@@ -13,7 +13,7 @@ use Rattle.branch_counts.specs.Pair.{pair_cmp}
 use Rattle.branch_counts.specs.Table.{Tallies}
 use Rattle.profile_model.specs.Ways.{Way}
 use Rattle.binary_model.specs.Places.{Place}
-use Rattle.binary_model.specs.Shown.{ShowsBy}
+use Rattle.binary_model.specs.Told.{TellsBy}
 use Rattle.profile_report.specs.declared.report.Units.{Units}
 use Rattle.profile_tree.specs.Said.{way_at}
 use Rattle.report_model.specs.Report.{Sampled}
@@ -31,27 +31,27 @@ pub record HasWay (names : List (List ℕ)) (keys : List Key) (way : Way) (id : 
   pub inside : id.0 < length keys
   pub way_is : way_at names keys id.0 ≡ way
 
--- An answer shows a place, a way by a key that has it.
-abbrev pub ShowsPlace : List (List ℕ) → List Key → Place → Where → Type 0
-ShowsPlace names keys place answer = ShowsBy (HasWay names keys) place answer
+-- An answer tells a place, a way by a key that has it.
+abbrev pub TellsPlace : List (List ℕ) → List Key → Place → Where → Type 0
+TellsPlace names keys place answer = TellsBy (HasWay names keys) place answer
 
--- An answer shows a name: it is the name's number.
-abbrev pub ShowsName : List (List ℕ) → Option (List ℕ) → Option NameId → Type 0
-ShowsName names None answer = answer ≡ None
-ShowsName names (Some name) answer = (id : NameId) × (answer ≡ Some id) × (slice_get names id.0 ≡ Some name)
+-- An answer tells a name: it is the name's number.
+abbrev pub TellsName : List (List ℕ) → Option (List ℕ) → Option NameId → Type 0
+TellsName names None answer = answer ≡ None
+TellsName names (Some name) answer = (id : NameId) × (answer ≡ Some id) × (slice_get names id.0 ≡ Some name)
 
--- A map's answers show a program's places, functions and entered names, and segments have its keys and factors.
-pub record ShowsProgram (program : Program) (names : List (List ℕ)) (keys : List Key) (segments : List Seg)
+-- A map's answers tell a program's places, functions and entered names, and segments have its keys and factors.
+pub record TellsProgram (program : Program) (names : List (List ℕ)) (keys : List Key) (segments : List Seg)
     (place : ℕ → Where) (function : ℕ → Option ℕ) (entered : ℕ → Option NameId) : Type 0 where
-  pub places : (address : ℕ) → ShowsPlace names keys (program.place address) (place address)
+  pub places : (address : ℕ) → TellsPlace names keys (program.place address) (place address)
   pub functions : (address : ℕ) → function address ≡ program.function address
-  pub entrances : (address : ℕ) → ShowsName names (program.entered address) (entered address)
+  pub entrances : (address : ℕ) → TellsName names (program.entered address) (entered address)
   pub keys_told : (address : ℕ) → place_by segments address ≡ key_of (place address)
   pub factors_told : (address : ℕ)
       → IsSome (place_by segments address) → factor_by segments address ≡ program.factor address
 
--- Rows and numbers of units show what was sampled: the branches' rows in order, the ranges' in any.
-pub record ShowsSampled (sampled : Sampled) (branches ranges : List Pair) (units : Units) : Type 0 where
+-- Rows and numbers of units tell what was sampled: the branches' rows in order, the ranges' in any.
+pub record TellsSampled (sampled : Sampled) (branches ranges : List Pair) (units : Units) : Type 0 where
   pub of_branches : Tallies sampled.branches branches
   pub of_ranges : Tallies sampled.ranges ranges
   pub in_order : IsSorted pair_cmp branches

@@ -1,2 +1,4 @@
+pub mod Reading
 pub mod Repair
 pub mod Said
+pub mod Told

@@ -12,7 +12,8 @@ use Rattle.flow_network.specs.declared.flow.Nodes.{Nodes}
 use Rattle.flow_network.specs.declared.flow.Prices.{Prices}
 use Rattle.flow_network.specs.declared.flow.Solved.{Solved}
 use Rattle.flow_network.specs.declared.flow.Solved.TheVariants as solved
-use Rattle.repair_model.specs.Repair.{Repair, flow, cut}
+use Rattle.repair_model.specs.Repair.{Repair, Solution, flow, cut}
+use Rattle.repair_text.specs.declared.repair.Repair as read
 
 -- The weights of edges, if they are told.
 abbrev pub weights_of : Option (Bor (List Weight)) → List Weight
@@ -55,3 +56,21 @@ repair_by net weights edge_weights (solved.Cut nodes) = cut_by net weights nodes
 abbrev pub IsOf : Network → Solved → Type 0
 IsOf net (solved.Flow counts prices) = AreCounts net (counts_of counts) × AreSides net prices.ins prices.outs
 IsOf net (solved.Cut nodes) = AreSides net nodes.ins nodes.outs × (most_out (holds nodes) (arcs_of net) ≢ None)
+
+-- What was solved, as it stands in a repair.
+abbrev pub solution_of : Solved → Solution
+solution_of (solved.Flow counts prices) = flow (counts_of counts) prices.ins prices.outs
+solution_of (solved.Cut nodes) = cut nodes.root nodes.ins nodes.outs
+
+-- A repair that was read, behind the number of its first line.
+abbrev pub repair_of : read.Repair → Repair
+repair_of repair = record {
+  weights = repair.weights;
+  edge_weights = repair.edge_weights;
+  solution = solution_of repair.solved;
+  first = repair.first;
+  second = repair.second;
+}
+
+abbrev pub numbered : read.Repair → ℕ × Repair
+numbered repair = (repair.line, repair_of repair)

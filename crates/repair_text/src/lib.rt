@@ -3,7 +3,12 @@
 #![tactic(auto)]
 
 mod line;
+mod open;
+mod reading;
+mod repair;
 mod said;
 mod writing;
 
+pub use reading::read;
+pub use repair::Repair;
 pub use writing::write;

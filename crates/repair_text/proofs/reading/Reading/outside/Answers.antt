@@ -1,0 +1,14 @@
+use Rattle.std.proofs.Common.{ap, sym, ◌∙◌, Some}
+use Rattle.repair_text.proofs.ReadingLemmas.{passes, bad_first, begins_here}
+use Rattle.repair_text.proofs.reading.Reading.outside.Goals as goal
+
+pub returns-then-not-starts_with : goal.returns-then-not-starts_with
+returns-then-not-starts_with c = passes c.args.line c.args.self c.requires (sym c.starts_with.ensures.value ∙ c.if-not-starts_with.true)
+
+pub returns-in_default : goal.returns-in_default
+returns-in_default c =
+    bad_first c.args.file c.args.line c.args.self c.requires (sym c.starts_with.ensures.value ∙ c.if-not-starts_with.false) c.in_default.ensures ∙ ap Some (sym c.place.ensures)
+
+pub returns : goal.returns
+returns c = begins_here c.args.file c.args.line c.args.self _ c.in-Some.told c.begin.result c.requires
+    (sym c.starts_with.ensures.value ∙ c.if-not-starts_with.false) c.in-Some.ensures c.begin.ensures

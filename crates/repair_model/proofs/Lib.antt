@@ -1,3 +1,4 @@
 mod Examples
+pub mod CheckLemmas
 pub mod LineLemmas
 pub mod ApartLemmas

@@ -1,15 +1,19 @@
 -- What follows from the definitions.
-use Rattle.std.specs.Prelude.{◌≡◌, ℕ, ◌<◌, ◌^◌, ⊤, Bool, true, false, List, [], length, map, Option, None, Some}
-use Rattle.std.specs.List.{AllByRecursion, list_any}
+use Rattle.std.specs.Prelude.{◌≡◌, ◌↔◌, ℕ, ◌<◌, ◌≤◌, ◌^◌, ⊤, Bool, true, false, List, [], length, map, Option, None, Some}
+use Rattle.std.specs.List.{AllByRecursion, AllZip, list_any}
 use Rattle.text_model.specs.Fields.{is_blank, is_filled}
 use Rattle.block_model.specs.declared.parts.Weight.{Weight}
 use Rattle.block_model.specs.declared.parts.Weight.TheVariants.{Unknown, Known}
 use Rattle.block_model.specs.Function.{Function}
 use Rattle.block_model.specs.Limits.{bound_bits}
+use Rattle.flow_model.specs.Sound.{AreWeights, IsSound}
+use Rattle.repair_model.specs.Checking.{failed_in, network_by, weights_of_edges}
+use Rattle.repair_model.specs.Made.{Repairs}
 use Rattle.repair_model.specs.Line.{Line, line_of, line_text, fits_price}
 use Rattle.repair_model.specs.Line.{begins_flow, begins_cut, tells_count, tells_sides, tells_edge, ends_flow, ends_cut}
 use Rattle.repair_model.specs.Repair.{Repair, Solution, flow, cut}
-use Rattle.repair_model.specs.Text.{lines_of_repair}
+use Rattle.repair_model.specs.Judging.{first_bad_of_repairs}
+use Rattle.repair_model.specs.Text.{lines_of_repair, repairs_of}
 
 -- A name can be a field: it has bytes, and no blank.
 pub record IsName (name : List ℕ) : Type 0 where
@@ -63,3 +67,28 @@ RepairsAreApart =
     → IsRepairOf weighed fun repair → IsRepairOf weighed fun other
     → map line_text (lines_of_repair weighed fun repair) ≡ map line_text (lines_of_repair weighed fun other)
     → repair ≡ other
+
+-- A repair tells all of a function: a small weight for each block and edge, and what stands in their place.
+pub record IsWhole (fun : Function) (repair : Repair) : Type 0 where
+  pub weighed : AreWeights (length fun.blocks) repair.weights
+  pub edges_weighed : AreWeights (length fun.edges) (weights_of_edges fun.edges repair.edge_weights repair.solution)
+  pub shape : HasShape (length fun.blocks) (length fun.edges) repair repair.solution
+
+-- All lines of a repair pass their tests exactly where it repairs its network: counts are least, with prices that fit
+-- them, and the cost is theirs; or the set is a cut, with its sums.
+abbrev pub PassingLinesRepair : Type 0
+PassingLinesRepair =
+    (fun : Function) (line : ℕ) (repair : Repair) → IsSound fun.blocks fun.edges → IsWhole fun repair
+    → failed_in fun line repair ≡ None
+    ↔ Repairs (network_by fun repair) repair.solution repair.first repair.second
+
+-- A repair of a function, behind the number of its first line.
+pub record IsToldOf (fun : Function) (numbered : ℕ × Repair) : Type 0 where
+  pub whole : IsWhole fun numbered.1
+  pub before : numbered.0 ≤ 2 ^ 63
+
+-- Where no line of a repair text is bad, it tells all of each function, in order.
+abbrev pub GoodRepairsAreWhole : Type 0
+GoodRepairsAreWhole =
+    (file : ℕ) (funs : List Function) (text : List ℕ) → length text ≤ 2 ^ 63
+    → first_bad_of_repairs file funs text ≡ None → AllZip IsToldOf funs (repairs_of funs text)

@@ -1,5 +1,6 @@
 //! What a repair text says: for each function of a block text counts that repair its weights, or a
-//! cut that shows that there are none; and which line of the text is its first bad one.
+//! cut that shows that there are none; which line of the text is its first bad one, and which is the
+//! first that does not keep what it promises.
 //!
 //! Definitions in `specs/`, with examples in `proofs/`. The same lines are said both ways: how a
 //! repair is written, and which repairs a text spells.
@@ -7,4 +8,4 @@
 
 mod laws;
 
-pub use laws::{repairs_are_apart, written_lines_are_read};
+pub use laws::{passing_lines_repair, repairs_are_apart, written_lines_are_read};

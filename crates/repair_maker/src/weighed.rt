@@ -1,5 +1,5 @@
 // The weights of the edges of a function, where they are asked for.
-ghost use Rattle.std.specs.Prelude.{◌≡◌, [], IfOk, None, length};
+ghost use Rattle.std.specs.Prelude.{◌≡◌, IfOk, length};
 ghost use Rattle.flow_model.specs.Sound.{AreWeights};
 ghost use Rattle.repair_model.specs.Made.{weighed_edges};
 ghost use Rattle.repair_maker.specs.Told.{edges_told};
@@ -7,6 +7,7 @@ ghost use Rattle.repair_maker.specs.Told.{edges_told};
 use block_weights::{EdgeSamples, Weight, edge_weights};
 use cfg_text::Fun;
 use refusal::NoMemory;
+use repair_text::unknown_weights;
 use std::alloc::Global;
 
 /// The weight of each edge of a function, by the weights of its blocks: unknown where no edge
@@ -23,19 +24,6 @@ pub(crate) fn weighed(
 {
     match edges {
         Some(samples) => edge_weights(alloc, fun, samples, weights),
-        None => unknown(alloc, fun),
+        None => unknown_weights(alloc, fun),
     }
-}
-
-/// As many unknown weights as a function has edges.
-fn unknown(alloc: Global, fun: &Fun<'_>) -> Result<Vec<Weight>, NoMemory>
-    ensures told { IfOk result (λ made. made.items
-        ≡ weighed_edges None fun.now.blocks fun.now.edges []) }
-    ensures small { IfOk result (λ made. AreWeights (length fun.now.edges) made.items) }
-{
-    let mut made = Vec::new(alloc);
-    for _edge in fun.edges.as_slice() {
-        made.push(Weight::Unknown)?;
-    }
-    Ok(made)
 }

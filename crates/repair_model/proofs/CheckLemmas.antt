@@ -172,7 +172,7 @@ left_from net counts price arc n is =
     (asked_from (is_exit net arc) (fits price (free_arc arc.head root 0) (n - went)) _
     (fits_from price (free_arc arc.head root 0) (n - went)) is.returned)
 
-block_true : (net : Network) (counts : Counts) (price : ℕ → ℤ) (arc : Arc) (n : ℕ)
+pub block_true : (net : Network) (counts : Counts) (price : ℕ → ℤ) (arc : Arc) (n : ℕ)
     → passes_block net counts price arc n ≡ true → PassesBlock net counts price arc n
 block_true net counts price arc n is =
     let both = and_parts (is_within arc n && fits price arc n) _ is in
@@ -185,7 +185,7 @@ block_true net counts price arc n is =
       left = left_true net counts price arc n two.1;
     }
 
-block_from : (net : Network) (counts : Counts) (price : ℕ → ℤ) (arc : Arc) (n : ℕ)
+pub block_from : (net : Network) (counts : Counts) (price : ℕ → ℤ) (arc : Arc) (n : ℕ)
     → PassesBlock net counts price arc n → passes_block net counts price arc n ≡ true
 block_from net counts price arc n is =
     and_from (is_within arc n && fits price arc n) (is_entered net counts price arc n && is_left net counts price arc n)
@@ -193,12 +193,12 @@ block_from net counts price arc n is =
     (and_from (is_entered net counts price arc n) (is_left net counts price arc n)
     (entered_from net counts price arc n is.entered) (left_from net counts price arc n is.left))
 
-edge_true : (price : ℕ → ℤ) (arc : Arc) (n : ℕ) → passes_edge price arc n ≡ true → PassesEdge price arc n
+pub edge_true : (price : ℕ → ℤ) (arc : Arc) (n : ℕ) → passes_edge price arc n ≡ true → PassesEdge price arc n
 edge_true price arc n is =
     let both = and_parts (is_within arc n) (fits price arc n) is in
     record { within = within_true arc n both.0; fits = fits_true price arc n both.1 }
 
-edge_from : (price : ℕ → ℤ) (arc : Arc) (n : ℕ) → PassesEdge price arc n → passes_edge price arc n ≡ true
+pub edge_from : (price : ℕ → ℤ) (arc : Arc) (n : ℕ) → PassesEdge price arc n → passes_edge price arc n ≡ true
 edge_from price arc n is = and_from (is_within arc n) (fits price arc n) (within_from arc n is.within) (fits_from price arc n is.fits)
 
 -- ---- the lines of a repair

@@ -1,5 +1,6 @@
 -- Whether repairs keep what they promise: each line of a repair behind its first has a test.
 use Rattle.std.specs.Prelude.{ℕ, ◌+◌, ◌-◌, ◌==◌, nat_le, nat_lt, Bool, true, false, not, ◌&&◌, ◌||◌, List, [], ◌∷◌, ◌++◌, map, Option, None, Some, ℤ, pos, ◌-ℤ◌, int_le, if◌then◌else◌}
+use Rattle.std.specs.Option.{option_or}
 use Rattle.block_model.specs.declared.parts.Edge.{Edge}
 use Rattle.block_model.specs.declared.parts.Weight.{Weight}
 use Rattle.block_model.specs.declared.parts.Weight.TheVariants.{Unknown}
@@ -110,9 +111,6 @@ failed_in fun line repair =
     first_failing (line + 1) (tests_of (network_by fun repair) repair.solution repair.first repair.second)
 
 -- The first line of these repairs of functions that fails its test.
-unfoldable pub failed_line : List Function → List (ℕ × Repair) → Option ℕ
-failed_line (fun ∷ funs) ((line, repair) ∷ repairs) = elim (failed_in fun line repair) [
-  | None ↦ failed_line funs repairs
-  | Some number ↦ Some number
-]
+abbrev pub failed_line : List Function → List (ℕ × Repair) → Option ℕ
+failed_line (fun ∷ funs) ((line, repair) ∷ repairs) = option_or (failed_in fun line repair) (failed_line funs repairs)
 failed_line _ _ = None

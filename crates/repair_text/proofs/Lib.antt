@@ -2,3 +2,4 @@ pub mod LoopLemmas
 pub mod NumberLemmas
 pub mod ReadingLemmas
 pub mod SaidLemmas
+pub mod UnknownLemmas

@@ -1,5 +1,5 @@
-use Rattle.repair_maker.proofs.RepairLemmas.{UnknownSoFar}
-use Rattle.repair_maker.proofs.weighed.unknown.Given as goal
+use Rattle.repair_text.proofs.UnknownLemmas.{UnknownSoFar}
+use Rattle.repair_text.proofs.unknown.unknown_weights.Given as goal
 
 abbrev pub invariant-loop-edge : goal.invariant-loop-edge
 invariant-loop-edge l = UnknownSoFar l.fun.edges l._edge-index l.made.items

@@ -1,7 +1,7 @@
 use Rattle.std.proofs.Common.{◌+◌, ◌<◌, ◌≤◌, List, length, sym, subst}
 use Rattle.block_model.specs.declared.parts.Edge.{Edge}
-use Rattle.repair_maker.proofs.RepairLemmas.{UnknownSoFar, UnknownSoFar-end, UnknownSoFar-more, unknown_small}
-use Rattle.repair_maker.proofs.weighed.unknown.Goals as goal
+use Rattle.repair_text.proofs.UnknownLemmas.{UnknownSoFar, UnknownSoFar-end, UnknownSoFar-more, unknown_small}
+use Rattle.repair_text.proofs.unknown.unknown_weights.Goals as goal
 
 pub loop-edge-preserved : goal.loop-edge-preserved
 loop-edge-preserved c =

@@ -2,3 +2,4 @@ mod Examples
 pub mod CheckLemmas
 pub mod LineLemmas
 pub mod ApartLemmas
+pub mod WholeLemmas

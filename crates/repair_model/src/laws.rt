@@ -1,5 +1,5 @@
-// What is written is read, and what passes its tests is a repair.
-ghost use Rattle.repair_model.specs.Laws.{PassingLinesRepair, RepairsAreApart, WrittenLinesAreRead};
+// What is written is read, what is read is whole, and what passes its tests is a repair.
+ghost use Rattle.repair_model.specs.Laws.{GoodRepairsAreWhole, PassingLinesRepair, RepairsAreApart, WrittenLinesAreRead};
 
 /// A line that is written is read as that line, if its numbers are within their bits. So no two of
 /// them are written alike.
@@ -16,4 +16,11 @@ pub fn repairs_are_apart()
 /// with prices that fit them and their cost, or by a cut with its sums.
 pub fn passing_lines_repair()
     ensures { PassingLinesRepair }
+{}
+
+/// Where no line of a repair text of at most 2^63 bytes is bad, it tells all of each function, in
+/// order: a weight below 2^44 for each block and edge, and in their place counts and prices, or a
+/// cut. The number of a repair's first line is at most 2^63.
+pub fn good_repairs_are_whole()
+    ensures { GoodRepairsAreWhole }
 {}

@@ -8,4 +8,6 @@
 
 mod laws;
 
-pub use laws::{passing_lines_repair, repairs_are_apart, written_lines_are_read};
+pub use laws::{
+    good_repairs_are_whole, passing_lines_repair, repairs_are_apart, written_lines_are_read,
+};

@@ -1,8 +1,11 @@
-//! What `counts` and `where` write: a branch text's counts and a binary's place as text.
+//! What `counts`, `where` and `check` write: a branch text's counts, a binary's place, and how many
+//! functions were checked.
 #![tactic(auto)]
 
+mod checked;
 mod counts;
 mod place;
 
+pub use checked::checked_text;
 pub use counts::counts_text;
 pub use place::place_line;

@@ -3,7 +3,7 @@ ghost use Rattle.std.specs.Prelude.{◌≡◌, ◌++◌, ◌<◌, length, codes,
 ghost use Rattle.std.specs.List.{All, flat_map};
 ghost use Rattle.profile_model.specs.Text.{location_text};
 ghost use Rattle.binary_model.specs.Places.{Place, name_of as name_told, way_of};
-ghost use Rattle.binary_places.specs.Binary.{IsGiven, Tells};
+ghost use Rattle.binary_places.specs.Binary.{IsGiven, TellsNamed};
 ghost use Rattle.command_model.specs.Where.{place_text, where_text, way_text};
 ghost use Rattle.answer_text.specs.Calls.{call_text};
 
@@ -20,9 +20,9 @@ pub fn place_line(
     keys: &Keys,
     place: Where,
 ) -> Result<Vec<u8>, NoMemory>
-    requires { (told : Place) × Tells names.now keys.now told place }
+    requires { (told : Place) × TellsNamed names.now keys.now told place }
     ensures { IfOk result (λ out. (told : Place) →
-        Tells names.now keys.now told place → out.items ≡ where_text told) }
+        TellsNamed names.now keys.now told place → out.items ≡ where_text told) }
 {
     let mut out = Vec::new(alloc);
     push_place(&mut out, names, keys, place)?;
@@ -37,8 +37,8 @@ fn push_place(
     keys: &Keys,
     place: Where,
 ) -> Result<(), NoMemory>
-    requires { (told : Place) × Tells names.now keys.now told place }
-    ensures { OnOk result ((told : Place) → Tells names.now keys.now told place →
+    requires { (told : Place) × TellsNamed names.now keys.now told place }
+    ensures { OnOk result ((told : Place) → TellsNamed names.now keys.now told place →
         out.new.items ≡ out.old.items ++ place_text told) }
 {
     match place {

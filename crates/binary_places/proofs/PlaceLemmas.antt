@@ -19,7 +19,7 @@ use Rattle.tree_model.specs.Members.{Told}
 use Rattle.inline_tree.specs.Told.{AreTold, IsTold}
 use Rattle.profile_model.specs.Ways.{Step, to_body, to_call, to_function}
 use Rattle.binary_model.specs.Places.{in_names, name_of, way_of}
-use Rattle.binary_places.specs.Binary.{IsGiven, Tells}
+use Rattle.binary_places.specs.Binary.{IsGiven, TellsNamed}
 
 module _ (ns ks : List (List ℕ)) where
   -- a number among the ones and a number among the others are of the same name
@@ -218,7 +218,7 @@ module _ (ns ks : List (List ℕ)) where
         (subst (λ c. AllZip AlikeNumbered (chain_from 0 address (enumerate_from 0 ms)) c) (sym (one_pass cs address))
         (chain-alike address 0 (enumerate_from 0 ms) (enumerate_from 0 cs) (numbered-alike 0 ms cs h)))))
 
-  shows : (p q : Place) → SamePlace p q → (keys : List Key) (answer : Where) → Tells keys p answer → Tells ns keys (in_names ks q) answer
+  shows : (p q : Place) → SamePlace p q → (keys : List Key) (answer : Where) → Tells keys p answer → TellsNamed ns keys (in_names ks q) answer
   shows outside outside h keys answer t = t
   shows nameless nameless h keys answer t = t
   shows no_line no_line h keys answer t = t
@@ -239,6 +239,6 @@ module _ (ns ks : List (List ℕ)) where
   -- What a map tells by the one numbering shows the place by the other.
   pub shown : (tolds : List Told) (ms cs : List Member) → AreTold ns tolds ms → AreTold ks tolds cs → (f g : ℕ → ℕ → Option LineAndDisc)
       → ((unit address : ℕ) → f unit address ≡ g unit address) → (base : Bool) (keys : List Key) (address : ℕ) (answer : Where)
-      → Tells keys (place_at f base ms address) answer → Tells ns keys (in_names ks (place_at g base cs address)) answer
+      → Tells keys (place_at f base ms address) answer → TellsNamed ns keys (in_names ks (place_at g base cs address)) answer
   shown tolds ms cs h k f g rows base keys address answer tells =
       shows (place_at f base ms address) (place_at g base cs address) (same-place f g rows base address ms cs (alike tolds ms cs h k)) keys answer tells

@@ -39,5 +39,5 @@ pub record IsWay (names : List (List ℕ)) (keys : List Key) (way : Way) (id : K
   pub way_is : way ≡ way_of names key
 
 -- An answer of a map tells a place, a way by a key whose names all have numbers.
-abbrev pub Tells : List (List ℕ) → List Key → Place → Where → Type 0
-Tells names keys place answer = TellsBy (IsWay names keys) place answer
+abbrev pub TellsNamed : List (List ℕ) → List Key → Place → Where → Type 0
+TellsNamed names keys place answer = TellsBy (IsWay names keys) place answer

@@ -15,6 +15,8 @@ pub data Command : Type 0 where
   profile : Options → List ℕ → List ℕ → Command
   -- The same, with a repair of each function of a block text between them.
   build : Options → List ℕ → List ℕ → List ℕ → Command
+  -- Whether the repairs of a repair text keep what they promise of the functions of a block text.
+  check : List ℕ → List ℕ → Command
 
 -- The digits of an address, which stand behind `0x` or alone.
 abbrev pub digits_of : List ℕ → List ℕ
@@ -50,13 +52,19 @@ build_of words (bin ∷ perf ∷ cfg ∷ []) =
     (options_of (record { map = true; base = true; edges = true }) words)
 build_of words _ = None
 
+-- `check CFG OUT`
+abbrev pub check_of : List (List ℕ) → List (List ℕ) → Option Command
+check_of [] (cfg ∷ out ∷ []) = Some (check cfg out)
+check_of _ _ = None
+
 -- The command of a name, by the words of its options and those behind them.
 abbrev pub command_by : List ℕ → List (List ℕ) → List (List ℕ) → Option Command
 command_by name options operands =
     if bytes_eq name (codes "counts") then counts_of options operands
     else (if bytes_eq name (codes "where") then where_of options operands
     else (if bytes_eq name (codes "profile") then profile_of options operands
-    else (if bytes_eq name (codes "build") then build_of options operands else None)))
+    else (if bytes_eq name (codes "build") then build_of options operands
+    else (if bytes_eq name (codes "check") then check_of options operands else None))))
 
 -- The command that the words spell, if they spell one.
 unfoldable pub command_of : List (List ℕ) → Option Command

@@ -1,4 +1,5 @@
 pub mod Answer
+pub mod Check
 pub mod Command
 pub mod Counts
 pub mod Files

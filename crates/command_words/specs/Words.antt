@@ -5,7 +5,7 @@ use Rattle.std.specs.Global.{Vec}
 use Rattle.command_model.specs.Command as model
 use Rattle.command_model.specs.Options as options
 use Rattle.command_words.specs.declared.command.Command.{Command}
-use Rattle.command_words.specs.declared.command.Command.TheVariants.{Counts, Where, Profile, Build}
+use Rattle.command_words.specs.declared.command.Command.TheVariants.{Counts, Where, Profile, Build, Check}
 use Rattle.command_words.specs.declared.options.Has.{Has}
 use Rattle.command_words.specs.declared.options.Options.{Options}
 
@@ -27,3 +27,4 @@ meaning_of (Counts perf) = model.counts perf.now
 meaning_of (Where said binary address) = model.where_ (told_options said) binary.now address
 meaning_of (Profile said binary perf) = model.profile (told_options said) binary.now perf.now
 meaning_of (Build said binary perf blocks) = model.build (told_options said) binary.now perf.now blocks.now
+meaning_of (Check blocks repairs) = model.check blocks.now repairs.now

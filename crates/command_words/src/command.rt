@@ -1,6 +1,6 @@
 ghost use Rattle.std.specs.Prelude.{◌≡◌, ◌≤◌, length};
 ghost use Rattle.std.specs.Option.{option_map};
-ghost use Rattle.command_model.specs.Command.{address_of as address_told, build_of, command_of, counts_of, digits_of as digits_told, profile_of, where_of};
+ghost use Rattle.command_model.specs.Command.{address_of as address_told, build_of, check_of, command_of, counts_of, digits_of as digits_told, profile_of, where_of};
 ghost use Rattle.command_model.specs.Options.{is_option as option_told, option_count as count_told};
 ghost use Rattle.command_words.specs.Words.{texts_of, meaning_of};
 
@@ -53,6 +53,12 @@ pub enum Command<'a> {
         perf: &'a [u8],
         blocks: &'a [u8],
     },
+    /// Whether the repairs of this repair text keep what they promise of the functions of this block
+    /// text.
+    Check {
+        blocks: &'a [u8],
+        repairs: &'a [u8],
+    },
 }
 
 /// The command that the words spell.
@@ -72,6 +78,8 @@ pub fn parse(words: &[Vec<u8>]) -> Option<Command<'_>>
         parse_profile(options, operands)
     } else if name.as_slice() == b"build".as_slice() {
         parse_build(options, operands)
+    } else if name.as_slice() == b"check".as_slice() {
+        parse_check(options, operands)
     } else {
         None
     }
@@ -152,6 +160,17 @@ fn parse_build<'a>(options: &'a [Vec<u8>], operands: &'a [Vec<u8>]) -> Option<Co
             perf,
             blocks,
         }),
+        _ => None,
+    }
+}
+
+/// `check CFG OUT`
+fn parse_check<'a>(options: &[Vec<u8>], operands: &'a [Vec<u8>]) -> Option<Command<'a>>
+    ensures { option_map meaning_of result
+        ≡ check_of (texts_of options.now) (texts_of operands.now) }
+{
+    match (options, operands) {
+        ([], [blocks, repairs]) => Some(Command::Check { blocks, repairs }),
         _ => None,
     }
 }

@@ -32,35 +32,35 @@ use Rattle.pgo_run.specs.Output.{EndsAt}
 use Rattle.pgo_run.specs.declared.halt.Halt.{Halt}
 use Rattle.pgo_run.proofs.ProfileLemmas.{same-loading}
 
-not_above : (n most : ℕ) → n ≤ most → nat_lt most n ≡ false
+pub not_above : (n most : ℕ) → n ≤ most → nat_lt most n ≡ false
 not_above n most within = grind (arith, nat_tests)
 
-alone : (item : Option Place) → first_bad (item ∷ []) ≡ item
+pub alone : (item : Option Place) → first_bad (item ∷ []) ≡ item
 alone None = refl
 alone (Some place) = refl
 
 -- A block text within its size is judged by its lines.
-pub judged_by_lines : (text : List ℕ) → length text ≤ max_block_bytes → first_bad_of_blocks 3 text ≡ first_bad_of_text 3 text
+pub judged_by_lines : (file : ℕ) (text : List ℕ) → length text ≤ max_block_bytes → first_bad_of_blocks file text ≡ first_bad_of_text file text
 unfolding first_bad_of_blocks
-judged_by_lines text within =
-    ap (λ b. first_bad ((if b then Some (record { file = 3; at = max_block_bytes; kind = FileTooLarge }) else None) ∷ first_bad_of_text 3 text ∷ [])) (not_above (length text) max_block_bytes within)
-    ∙ alone (first_bad_of_text 3 text)
+judged_by_lines file text within =
+    ap (λ b. first_bad ((if b then Some (record { file = file; at = max_block_bytes; kind = FileTooLarge }) else None) ∷ first_bad_of_text file text ∷ [])) (not_above (length text) max_block_bytes within)
+    ∙ alone (first_bad_of_text file text)
 
-pub blocks_judged : {T : Type 0} (text : List ℕ) (r : Result T Stop) (P : T → Type 0) → length text ≤ max_block_bytes
-    → JudgesUnlessNoMemory (first_bad_of_text 3 text) r P → JudgesUnlessNoMemory (first_bad_of_blocks 3 text) r P
-blocks_judged text r P within judges = subst (λ bad. JudgesUnlessNoMemory bad r P) (sym (judged_by_lines text within)) judges
+pub blocks_judged : {T : Type 0} (file : ℕ) (text : List ℕ) (r : Result T Stop) (P : T → Type 0) → length text ≤ max_block_bytes
+    → JudgesUnlessNoMemory (first_bad_of_text file text) r P → JudgesUnlessNoMemory (first_bad_of_blocks file text) r P
+blocks_judged file text r P within judges = subst (λ bad. JudgesUnlessNoMemory bad r P) (sym (judged_by_lines file text within)) judges
 
 -- What holds of each function of a good text holds of each that was read.
-all_unmapped : {X Y : Type 0} (P : Y → Type 0) (f : X → Y) (xs : List X) → All P (map f xs) → All (λ x. P (f x)) xs
+pub all_unmapped : {X Y : Type 0} (P : Y → Type 0) (f : X → Y) (xs : List X) → All P (map f xs) → All (λ x. P (f x)) xs
 all_unmapped P f [] all = All-nil (λ x. P (f x))
 all_unmapped P f (x ∷ xs) all =
     All-cons (λ y. P (f y)) x xs (All-head P (f x) (map f xs) all) (all_unmapped P f xs (All-tail P (f x) (map f xs) all))
 
-pub read_soundly : (text : List ℕ) (funs : List Fun) → first_bad_of_text 3 text ≡ None → map function_of funs ≡ functions_of text
+pub read_soundly : (file : ℕ) (text : List ℕ) (funs : List Fun) → first_bad_of_text file text ≡ None → map function_of funs ≡ functions_of text
     → All (λ fun. IsSound fun.blocks fun.edges) funs
-read_soundly text funs good are =
+read_soundly file text funs good are =
     all_unmapped (λ fun. IsSound fun.blocks fun.edges) function_of funs
-    (subst (λ fs. All (λ (fun : Function). IsSound fun.blocks fun.edges) fs) (sym are) (good_texts_are_sound 3 text good))
+    (subst (λ fs. All (λ (fun : Function). IsSound fun.blocks fun.edges) fs) (sym are) (good_texts_are_sound file text good))
 
 -- The output of a binary, of what was counted of a branch text, and of a block text.
 pub built : (bytes : List ℕ) (base : Bool) (binary : Binary) (map_to : Option (Bor (List ℕ))) (loads : List LoadSegment) (counts : Tally) (text blocks out : List ℕ) (edges : Bool) (funs : List Fun)

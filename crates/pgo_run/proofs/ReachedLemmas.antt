@@ -10,7 +10,7 @@ use Rattle.refusal.specs.declared.place.Stop.{Stop}
 use Rattle.refusal.specs.declared.place.Stop.TheVariants as stop
 use Rattle.io_edge.specs.Faults.{HasCauseWhere, raised}
 use Rattle.io_edge.specs.Inputs.{Store}
-use Rattle.command_model.specs.Answer.{Answer, answer_behind, answer_of_command, answer_of_good, in_file, no_such_file, unless_bad, with_file}
+use Rattle.command_model.specs.Answer.{Answer, answer_behind, answer_of_command, answer_of_good, in_file, no_such_file, unless_bad, unless_failed, with_file}
 use Rattle.command_model.specs.Command.{Command}
 use Rattle.command_model.specs.Files.{Asked, IsOutput, failed_line, files_of, named}
 use Rattle.command_model.specs.Good.{AreGood, AreGoodBefore}
@@ -19,7 +19,7 @@ use Rattle.pgo_run.specs.Halt.{IfAnswers, answer_in, judged_in}
 use Rattle.pgo_run.specs.Opens.{HasOpened, Reaches, is_named, opens_behind, opens_of}
 use Rattle.pgo_run.specs.Output.{Carries, EndsAt, EndsJudged, HasFileCause, IfReadFault, IsOfFile, Makes, ReadsFile, tells_read_fault}
 use Rattle.pgo_run.specs.declared.halt.Halt.{Halt}
-use Rattle.pgo_run.specs.declared.halt.Halt.TheVariants.{NoSuchFile, Refused, ReadFault, NoMemory}
+use Rattle.pgo_run.specs.declared.halt.Halt.TheVariants.{CheckFailed, NoSuchFile, Refused, ReadFault, NoMemory}
 
 -- The command's files up to some place are there and good, with these bytes, and these are still asked for.
 pub record Reached (command : Command) (store : Option Store) (before : List (List ℕ)) (rest : List Asked) (opens opens_now : ℕ) : Type 0 where
@@ -130,6 +130,7 @@ opened-by : (command : Command) (store : Option Store) (before : List (List ℕ)
     → IsOfFile {A = Vec ℕ} (length before + 1) (Err h) → HasOpened {A = Vec ℕ} command (Err h) opens opens_after
 opened-by command store before name judge rest opens opens_now opens_after (NoSuchFile j) so_far rose is = reaches command store before name judge rest opens opens_now opens_after j so_far rose is
 opened-by command store before name judge rest opens opens_now opens_after (Refused place) so_far rose is = reaches command store before name judge rest opens opens_now opens_after place.file so_far rose is
+opened-by command store before name judge rest opens opens_now opens_after (CheckFailed line) so_far rose is = absurd is
 opened-by command store before name judge rest opens opens_now opens_after (ReadFault j) so_far rose is = reaches command store before name judge rest opens opens_now opens_after j so_far rose is
 opened-by command store before name judge rest opens opens_now opens_after NoMemory so_far rose is =
     (length before + 1, let long = so_far.long in omega (arith, long), opens-with command store before name judge rest opens opens_now opens_after so_far rose)
@@ -152,6 +153,7 @@ good-at : (command : Command) (files : Store) (before : List (List ℕ)) (rest :
 good-at command files before rest (NoSuchFile j) so_far is = tt
 good-at command files before rest (Refused place) so_far is = tt
 good-at command files before rest NoMemory so_far is = tt
+good-at command files before rest (CheckFailed line) so_far is = tt
 good-at command files before rest (ReadFault j) so_far is =
     let same : length before + 0 ≡ j - 1 = omega (arith, is) in
     subst (λ n. AreGood files [] (take n (files_of command))) same (so_far 0 tt)
@@ -167,12 +169,14 @@ same-cause : (A B : Type 0) (h : Halt) (faults faults_after : ℕ) → HasCauseW
 same-cause A B (NoSuchFile j) faults faults_after is = is
 same-cause A B (Refused place) faults faults_after is = is
 same-cause A B (ReadFault j) faults faults_after is = is
+same-cause A B (CheckFailed line) faults faults_after is = is
 same-cause A B NoMemory faults faults_after is = is
 
 same-file : (A B : Type 0) (h : Halt) (k : ℕ) → IsOfFile {A = A} k (Err h) → IsOfFile {A = B} k (Err h)
 same-file A B (NoSuchFile j) k is = is
 same-file A B (Refused place) k is = is
 same-file A B (ReadFault j) k is = is
+same-file A B (CheckFailed line) k is = is
 same-file A B NoMemory k is = is
 
 carried : (command : Command) (store : Option Store) (h : Halt) (r : Result (Vec ℕ) Halt) (opens opens_after faults faults_after : ℕ)
@@ -248,6 +252,25 @@ Reached-all command store before text opens opens_now faults faults_after so_far
     unread None = tt
     unread (Some files) = tt
 
+-- All files are good, and this line is the first that fails the check.
+pub Reached-failed : (command : Command) (store : Option Store) (before : List (List ℕ)) (line opens opens_now faults faults_after : ℕ)
+    → Reached command store before [] opens opens_now → failed_line command before ≡ Some line → faults_after ≡ faults
+    → Carries command store (Err (CheckFailed line)) opens opens_now faults faults_after
+Reached-failed command store before line opens opens_now faults faults_after so_far fails same = record {
+  makes = all-failed store so_far.answer;
+  good_before = unread store;
+  opened = let all = so_far.all_opens in let count : so_far.opened ≡ opens_of (files_of command) = omega (arith, all) in so_far.opens_are ∙ ap (opens_behind opens) count;
+  cause = same;
+}
+  where
+    all-failed : (store : Option Store) → IfSome store (λ files. answer_of_command files command ≡ answer_behind files (answer_of_good command) before []) → IfSome store (λ files. Makes files command (Err (CheckFailed line)))
+    all-failed None answer = tt
+    all-failed (Some files) answer = answer ∙ ap (λ failed. unless_failed failed (Answer.writes command before)) fails
+
+    unread : (store : Option Store) → IfSome store (λ files. IfReadFault {A = Vec ℕ} (Err (CheckFailed line)) (AreGoodBefore files command))
+    unread None = tt
+    unread (Some files) = tt
+
 -- ---- what readers say of their file, as what ends the command
 
 -- what holds of a halt holds of what hands it on
@@ -264,6 +287,7 @@ pub judged-at : (k : ℕ) (file : Option (List ℕ)) (bytes : List ℕ) (judge :
 judged-at k file bytes judge (NoSuchFile j) there ends = λ next. ap (λ f. with_file k f judge next) there ∙ ends (next bytes)
 judged-at k file bytes judge (Refused place) there ends = λ next. ap (λ f. with_file k f judge next) there ∙ ends (next bytes)
 judged-at k file bytes judge (ReadFault j) there ends = tt
+judged-at k file bytes judge (CheckFailed line) there ends = λ next. ap (λ f. with_file k f judge next) there ∙ ends (next bytes)
 judged-at k file bytes judge NoMemory there ends = tt
 
 -- a judge of the k-th file that found it good,

@@ -5,8 +5,10 @@ use Rattle.refusal.specs.declared.place.Place.{Place}
 use Rattle.refusal.specs.Place.{first_bad, size_item}
 use Rattle.io_edge.specs.Inputs.{Store}
 use Rattle.binary_model.specs.Binary.{first_bad_of_binary, items_behind_size, max_binary_bytes}
+use Rattle.block_model.specs.Function.{Function}
 use Rattle.block_model.specs.Judging.{first_bad_of_text}
-use Rattle.command_model.specs.Files.{first_bad_of_blocks, max_block_bytes}
+use Rattle.repair_model.specs.Judging.{first_bad_of_repairs}
+use Rattle.command_model.specs.Files.{first_bad_of_blocks, first_bad_of_repair_text, max_block_bytes, max_repair_bytes}
 use Rattle.command_model.specs.Answer.{Answer, fails_check, unless_bad, usage}
 use Rattle.pgo_run.specs.Halt.{IfAnswers, answer_in}
 use Rattle.pgo_run.specs.Output.{EndsAt}
@@ -39,11 +41,20 @@ pub unread-binary : (store : Option Store) (name : List ℕ) (h : Halt)
 unread-binary None name h ends = tt
 unread-binary (Some files) name h ends = answers-wider (answer_in h) 1 (files name) (size_item 1 max_binary_bytes) first_bad_of_binary too-large ends
 
-too-large-blocks : (bytes : List ℕ) (place : Place) → size_item 3 max_block_bytes bytes ≡ Some place → first_bad_of_blocks 3 bytes ≡ Some place
+too-large-blocks : (file : ℕ) (bytes : List ℕ) (place : Place) → size_item file max_block_bytes bytes ≡ Some place → first_bad_of_blocks file bytes ≡ Some place
 unfolding first_bad_of_blocks
-too-large-blocks bytes place is = ap (λ item. first_bad (item ∷ first_bad_of_text 3 bytes ∷ [])) is
+too-large-blocks file bytes place is = ap (λ item. first_bad (item ∷ first_bad_of_text file bytes ∷ [])) is
 
-pub unread-blocks : (store : Option Store) (name : List ℕ) (h : Halt)
-    → IfSome store (λ files. IfAnswers h (EndsAt 3 (files name) (size_item 3 max_block_bytes))) → IfSome store (λ files. IfAnswers h (EndsAt 3 (files name) (first_bad_of_blocks 3)))
-unread-blocks None name h ends = tt
-unread-blocks (Some files) name h ends = answers-wider (answer_in h) 3 (files name) (size_item 3 max_block_bytes) (first_bad_of_blocks 3) too-large-blocks ends
+pub unread-blocks : (file : ℕ) (store : Option Store) (name : List ℕ) (h : Halt)
+    → IfSome store (λ files. IfAnswers h (EndsAt file (files name) (size_item file max_block_bytes))) → IfSome store (λ files. IfAnswers h (EndsAt file (files name) (first_bad_of_blocks file)))
+unread-blocks file None name h ends = tt
+unread-blocks file (Some files) name h ends = answers-wider (answer_in h) file (files name) (size_item file max_block_bytes) (first_bad_of_blocks file) (too-large-blocks file) ends
+
+too-large-repairs : (file : ℕ) (funs : List Function) (bytes : List ℕ) (place : Place) → size_item file max_repair_bytes bytes ≡ Some place → first_bad_of_repair_text file funs bytes ≡ Some place
+unfolding first_bad_of_repair_text
+too-large-repairs file funs bytes place is = ap (λ item. first_bad (item ∷ first_bad_of_repairs file funs bytes ∷ [])) is
+
+pub unread-repairs : (file : ℕ) (funs : List Function) (store : Option Store) (name : List ℕ) (h : Halt)
+    → IfSome store (λ files. IfAnswers h (EndsAt file (files name) (size_item file max_repair_bytes))) → IfSome store (λ files. IfAnswers h (EndsAt file (files name) (first_bad_of_repair_text file funs)))
+unread-repairs file funs None name h ends = tt
+unread-repairs file funs (Some files) name h ends = answers-wider (answer_in h) file (files name) (size_item file max_repair_bytes) (first_bad_of_repair_text file funs) (too-large-repairs file funs) ends

@@ -2,11 +2,11 @@
 use Rattle.std.specs.Prelude.{ℕ, Option, None, Some, IfSome, Result, Ok, Err}
 use Rattle.refusal.specs.declared.place.Stop.{Stop}
 use Rattle.refusal.specs.declared.place.Stop.TheVariants as stop
-use Rattle.command_model.specs.Answer.{Answer, in_file, no_such_file, refused}
+use Rattle.command_model.specs.Answer.{Answer, fails_check, in_file, no_such_file, refused}
 use Rattle.pgo_run.specs.declared.halt.Halt.{Halt}
 use Rattle.pgo_run.specs.declared.halt.Halt.TheVariants as halt
 use Rattle.pgo_run.specs.declared.status.Status.{Status}
-use Rattle.pgo_run.specs.declared.status.Status.TheVariants.{NoSuchFile, Refused, ReadFault, NoMemory}
+use Rattle.pgo_run.specs.declared.status.Status.TheVariants.{CheckFailed, NoSuchFile, Refused, ReadFault, NoMemory}
 
 -- What stopped the judge of the k-th file.
 abbrev pub halt_of_stop : ℕ → Stop → Halt
@@ -17,6 +17,7 @@ halt_of_stop k stop.NoMemory = halt.NoMemory
 abbrev pub status_of : Halt → Status
 status_of (halt.NoSuchFile k) = NoSuchFile k
 status_of (halt.Refused place) = Refused place
+status_of (halt.CheckFailed line) = CheckFailed line
 status_of (halt.ReadFault k) = ReadFault k
 status_of halt.NoMemory = NoMemory
 
@@ -24,6 +25,7 @@ status_of halt.NoMemory = NoMemory
 abbrev pub answer_in : Halt → Option Answer
 answer_in (halt.NoSuchFile k) = Some (no_such_file k)
 answer_in (halt.Refused place) = Some (refused place)
+answer_in (halt.CheckFailed line) = Some (fails_check line)
 answer_in (halt.ReadFault k) = None
 answer_in halt.NoMemory = None
 

@@ -12,7 +12,7 @@ use Rattle.command_model.specs.Good.{AreGoodBefore}
 use Rattle.pgo_run.specs.Halt.{IfAnswers}
 use Rattle.pgo_run.specs.Opens.{HasOpened}
 use Rattle.pgo_run.specs.declared.halt.Halt.{Halt}
-use Rattle.pgo_run.specs.declared.halt.Halt.TheVariants.{NoSuchFile, Refused, ReadFault}
+use Rattle.pgo_run.specs.declared.halt.Halt.TheVariants.{CheckFailed, NoSuchFile, Refused, ReadFault}
 
 -- Whatever comes behind the k-th file, of which this place is the first bad one, if there is one: the answer is this.
 abbrev pub EndsJudged : ℕ → Option Place → Answer → Type 0
@@ -45,11 +45,12 @@ abbrev pub tells_read_fault : {A : Type 0} → Result A Halt → Bool
 tells_read_fault (Err (ReadFault j)) = true
 tells_read_fault answer = false
 
--- A missing file, a bad place and a file that could not be read are of the k-th one.
+-- A missing file, a bad place and a file that could not be read are of the k-th one; a failed check is of all.
 abbrev pub IsOfFile : {A : Type 0} → ℕ → Result A Halt → Type 0
 IsOfFile k (Err (NoSuchFile j)) = j ≡ k
 IsOfFile k (Err (Refused place)) = place.file ≡ k
 IsOfFile k (Err (ReadFault j)) = j ≡ k
+IsOfFile k (Err (CheckFailed line)) = ⊥
 IsOfFile k answer = ⊤
 
 -- Where the k-th file could not be read, the inputs' count of faults rose. It is as it was under each other answer.

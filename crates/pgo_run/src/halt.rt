@@ -12,6 +12,8 @@ pub(crate) enum Halt {
     NoSuchFile(u8),
     /// The first bad place of the files.
     Refused(Place),
+    /// The first line, from 1, that fails a check.
+    CheckFailed(u64),
     /// The file word, from 1, whose file could not be read.
     ReadFault(u8),
     /// Memory was refused.
@@ -33,6 +35,7 @@ impl From<Halt> for Status {
         match halt {
             Halt::NoSuchFile(file) => Status::NoSuchFile(file),
             Halt::Refused(place) => Status::Refused(place),
+            Halt::CheckFailed(line) => Status::CheckFailed(line),
             Halt::ReadFault(file) => Status::ReadFault(file),
             Halt::NoMemory => Status::NoMemory,
         }

@@ -7,6 +7,7 @@
 
 mod branch_text;
 mod build;
+mod check;
 mod counts;
 mod halt;
 mod order;

@@ -14,6 +14,9 @@ pub(crate) const MAX_BINARY: u64 = 1 << 30;
 /// The most bytes of a block text.
 pub(crate) const MAX_BLOCKS: u64 = 1 << 28;
 
+/// The most bytes of a repair text.
+pub(crate) const MAX_REPAIRS: u64 = 1 << 28;
+
 /// Opens the file of the k-th file word.
 ///
 /// # Errors

@@ -22,7 +22,7 @@ use Rattle.address_spans.specs.Spans.{owner_at}
 use Rattle.context_map.specs.Maps.{place_by, place_told}
 use Rattle.profile_tree.specs.Known.{HasNames}
 use Rattle.binary_model.specs.Places.{Place, at_way, nameless, no_line, outside, place_of_address}
-use Rattle.binary_places.specs.Binary.{IsGiven, Tells}
+use Rattle.binary_places.specs.Binary.{IsGiven, TellsNamed}
 use Rattle.binary_places.proofs.ShownLemmas.{places_shown}
 use Rattle.profile_maker.specs.MapLaws.{EntriesAreGiven, KeysHaveNames, PlacesAreGiven}
 use Rattle.profile_maker.proofs.SegmentLemmas.{address_of_key}
@@ -38,7 +38,7 @@ pub record IsKnown (names : List (List ℕ)) (keys : List Key) (id : KeyId) : Ty
 same_id : (i j : KeyId) → At i ≡ At j → i ≡ j
 same_id i j is = cc
 
-known : (names : List (List ℕ)) (keys : List Key) (place : Place) (answer : Where) (id : KeyId) → Tells names keys place answer → answer ≡ At id → IsKnown names keys id
+known : (names : List (List ℕ)) (keys : List Key) (place : Place) (answer : Where) (id : KeyId) → TellsNamed names keys place answer → answer ≡ At id → IsKnown names keys id
 known names keys outside answer id shows is = absurd (let e : Outside ≡ At id = sym shows ∙ is in cc)
 known names keys nameless answer id shows is = absurd (let e : Nameless ≡ At id = sym shows ∙ is in cc)
 known names keys no_line answer id shows is = absurd (let e : NoLine ≡ At id = sym shows ∙ is in cc)

@@ -34,7 +34,7 @@ use Rattle.profile_tree.specs.Steps.{frame_step, named, at_line, steps_of, steps
 use Rattle.binary_model.specs.Addresses.{entered_at, factor_of_address, function_of_address}
 use Rattle.binary_model.specs.Binary.{members_in, tables_in}
 use Rattle.binary_model.specs.Places.{Place, outside, nameless, no_line, at_way, name_of, names_of, numbered_from, row_in, way_of}
-use Rattle.binary_places.specs.Binary.{IsWay, Tells}
+use Rattle.binary_places.specs.Binary.{IsWay, TellsNamed}
 use Rattle.binary_places.proofs.NumberLemmas.{are-told}
 use Rattle.binary_places.proofs.ShownLemmas.{places_shown}
 use Rattle.profile_writer.specs.Told.{TellsName, TellsPlace, key_of}
@@ -50,7 +50,7 @@ calls_alike names (call ∷ calls) offset disc = ap (λ steps. to_call call.offs
 key_alike : (names : List (List ℕ)) (key : Key) → map (named names) (steps_of key) ≡ way_of names key
 key_alike names key = ap (λ steps. to_function (name_of names key.root) ∷ steps) (calls_alike names key.calls key.offset key.disc)
 
-place_shown : (names : List (List ℕ)) (keys : List Key) (place : Place) (answer : Where) → Tells names keys place answer → TellsPlace names keys place answer
+place_shown : (names : List (List ℕ)) (keys : List Key) (place : Place) (answer : Where) → TellsNamed names keys place answer → TellsPlace names keys place answer
 place_shown names keys outside answer shown = shown
 place_shown names keys nameless answer shown = shown
 place_shown names keys no_line answer shown = shown

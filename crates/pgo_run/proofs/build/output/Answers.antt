@@ -53,7 +53,7 @@ returns-in_err-block_text-clause-carried g c =
     c.read_file.ensures.store c.in_ok-counts.ensures.file c.in_ok-counts.ensures.opens in
     Reached-stop (Vec ℕ) command _ (c.deref.result.now ∷ samples.0 ∷ []) c.args.blocks.now (λ before. first_bad_of_blocks 3) [] 3 c.in_err-block_text.field-0.0 _ _ _ _ _ _
     samples.1 refl c.in_err-block_text.ensures.opens
-    (ends-behind _ _ c.args.blocks.now c.in_err-block_text.field-0.0 (c.in_ok-counts.ensures.store ∙ c.read_file.ensures.store) (unread-blocks _ c.args.blocks.now c.in_err-block_text.field-0.0 c.in_err-block_text.ensures.file))
+    (ends-behind _ _ c.args.blocks.now c.in_err-block_text.field-0.0 (c.in_ok-counts.ensures.store ∙ c.read_file.ensures.store) (unread-blocks 3 _ c.args.blocks.now c.in_err-block_text.field-0.0 c.in_err-block_text.ensures.file))
     (subst (λ n. HasFileCause {A = Vec ℕ} 3 n (g.I.Inputs.faults c.read_file-2.new.inputs) (Err c.in_err-block_text.field-0.0)) (c.in_ok-counts.ensures.cause.0 ∙ c.in_ok-file.ensures.cause.0) c.in_err-block_text.ensures.cause)
     c.from_residual-in_err-block_text.ensures.1
 
@@ -66,7 +66,7 @@ returns-in_err-funs-clause-carried g c =
     c.read_file.ensures.store c.in_ok-counts.ensures.file c.in_ok-counts.ensures.opens in
     Reached-judged command _ (c.deref.result.now ∷ samples.0 ∷ []) c.args.blocks.now (λ before. first_bad_of_blocks 3) [] 3 c.deref-3.result.now c.read-2.result _ c.in_err-funs.field-0.0 _ _ _ _ _ _
     samples.1 refl c.in_ok-block_text.ensures.opens (there-behind _ _ c.args.blocks.now c.deref-3.result.now (c.in_ok-counts.ensures.store ∙ c.read_file.ensures.store) (is-there _ c.args.blocks.now 3 max_block_bytes c.in_ok-block_text.block_text c.deref-3.result.now c.in_ok-block_text.ensures.file c.deref-3.ensures.value))
-    (blocks_judged c.deref-3.result.now c.read-2.result _ (subst (λ t. length t ≤ max_block_bytes) (sym c.deref-3.ensures.value) c.in_ok-block_text.ensures.within) c.read-2.ensures) (sym c.in_file-2.ensures ∙ c.in_err-funs.was) (c.in_ok-block_text.ensures.cause.0 ∙ c.in_ok-counts.ensures.cause.0 ∙ c.in_ok-file.ensures.cause.0) c.from_residual-in_err-funs.ensures.1
+    (blocks_judged 3 c.deref-3.result.now c.read-2.result _ (subst (λ t. length t ≤ max_block_bytes) (sym c.deref-3.ensures.value) c.in_ok-block_text.ensures.within) c.read-2.ensures) (sym c.in_file-2.ensures ∙ c.in_err-funs.was) (c.in_ok-block_text.ensures.cause.0 ∙ c.in_ok-counts.ensures.cause.0 ∙ c.in_ok-file.ensures.cause.0) c.from_residual-in_err-funs.ensures.1
 
 pub build-requires-clause-binary : goal.build-requires-clause-binary
 build-requires-clause-binary g c =
@@ -76,7 +76,7 @@ build-requires-clause-binary g c =
 pub build-requires-clause-sound : goal.build-requires-clause-sound
 build-requires-clause-sound g c =
     let read = judged-good 3 (block_model.first_bad_of_text 3 c.deref-3.result.now) c.read-2.result _ c.in_ok-funs.funs c.read-2.ensures (sym c.in_file-2.ensures ∙ c.in_ok-funs.was) in
-    subst (λ fs. All (λ fun. IsSound fun.blocks fun.edges) fs) (sym c.deref-4.ensures.value) (read_soundly c.deref-3.result.now c.in_ok-funs.funs.items read.0 read.1)
+    subst (λ fs. All (λ fun. IsSound fun.blocks fun.edges) fs) (sym c.deref-4.ensures.value) (read_soundly 3 c.deref-3.result.now c.in_ok-funs.funs.items read.0 read.1)
 
 pub returns-in_err-text-clause-carried : goal.returns-in_err-text-clause-carried
 returns-in_err-text-clause-carried g c =
@@ -87,7 +87,7 @@ returns-in_err-text-clause-carried g c =
     let samples = behind-samples command _ _ c.args.perf.now c.deref.result.now (option_map (λ name. record { name = name.now; segments = c.deref-2.result.now }) c.args.options.map) c.in_ok-counts.counts (asked_blocks c.args.blocks.now ∷ []) _ _ _ first
     c.read_file.ensures.store c.in_ok-counts.ensures.file c.in_ok-counts.ensures.opens in
     let third = Reached-more command _ (c.deref.result.now ∷ samples.0 ∷ []) c.args.blocks.now (λ before. first_bad_of_blocks 3) [] c.deref-3.result.now _ _ _ samples.1
-    (is-good _ c.args.blocks.now (first_bad_of_blocks 3) c.deref-3.result.now (there-behind _ _ c.args.blocks.now c.deref-3.result.now (c.in_ok-counts.ensures.store ∙ c.read_file.ensures.store) (is-there _ c.args.blocks.now 3 max_block_bytes c.in_ok-block_text.block_text c.deref-3.result.now c.in_ok-block_text.ensures.file c.deref-3.ensures.value)) (judged_by_lines c.deref-3.result.now (subst (λ t. length t ≤ max_block_bytes) (sym c.deref-3.ensures.value) c.in_ok-block_text.ensures.within) ∙ read.0)) c.in_ok-block_text.ensures.opens in
+    (is-good _ c.args.blocks.now (first_bad_of_blocks 3) c.deref-3.result.now (there-behind _ _ c.args.blocks.now c.deref-3.result.now (c.in_ok-counts.ensures.store ∙ c.read_file.ensures.store) (is-there _ c.args.blocks.now 3 max_block_bytes c.in_ok-block_text.block_text c.deref-3.result.now c.in_ok-block_text.ensures.file c.deref-3.ensures.value)) (judged_by_lines 3 c.deref-3.result.now (subst (λ t. length t ≤ max_block_bytes) (sym c.deref-3.ensures.value) c.in_ok-block_text.ensures.within) ∙ read.0)) c.in_ok-block_text.ensures.opens in
     Reached-no-memory command _ (c.deref.result.now ∷ samples.0 ∷ c.deref-3.result.now ∷ []) [] _ _ _ _ _ third (c.in_ok-block_text.ensures.cause.0 ∙ c.in_ok-counts.ensures.cause.0 ∙ c.in_ok-file.ensures.cause.0) c.from_residual-in_err-text.ensures.1
 
 pub returns-clause-carried : goal.returns-clause-carried
@@ -100,7 +100,7 @@ returns-clause-carried g c =
     let samples = behind-samples command _ _ c.args.perf.now c.deref.result.now (option_map (λ name. record { name = name.now; segments = c.deref-2.result.now }) c.args.options.map) c.in_ok-counts.counts (asked_blocks c.args.blocks.now ∷ []) _ _ _ first
     c.read_file.ensures.store c.in_ok-counts.ensures.file c.in_ok-counts.ensures.opens in
     let third = Reached-more command _ (c.deref.result.now ∷ samples.0 ∷ []) c.args.blocks.now (λ before. first_bad_of_blocks 3) [] c.deref-3.result.now _ _ _ samples.1
-    (is-good _ c.args.blocks.now (first_bad_of_blocks 3) c.deref-3.result.now (there-behind _ _ c.args.blocks.now c.deref-3.result.now (c.in_ok-counts.ensures.store ∙ c.read_file.ensures.store) (is-there _ c.args.blocks.now 3 max_block_bytes c.in_ok-block_text.block_text c.deref-3.result.now c.in_ok-block_text.ensures.file c.deref-3.ensures.value)) (judged_by_lines c.deref-3.result.now (subst (λ t. length t ≤ max_block_bytes) (sym c.deref-3.ensures.value) c.in_ok-block_text.ensures.within) ∙ read.0)) c.in_ok-block_text.ensures.opens in
+    (is-good _ c.args.blocks.now (first_bad_of_blocks 3) c.deref-3.result.now (there-behind _ _ c.args.blocks.now c.deref-3.result.now (c.in_ok-counts.ensures.store ∙ c.read_file.ensures.store) (is-there _ c.args.blocks.now 3 max_block_bytes c.in_ok-block_text.block_text c.deref-3.result.now c.in_ok-block_text.ensures.file c.deref-3.ensures.value)) (judged_by_lines 3 c.deref-3.result.now (subst (λ t. length t ≤ max_block_bytes) (sym c.deref-3.ensures.value) c.in_ok-block_text.ensures.within) ∙ read.0)) c.in_ok-block_text.ensures.opens in
     Reached-all command _ (c.deref.result.now ∷ samples.0 ∷ c.deref-3.result.now ∷ []) c.in_ok-text.text _ _ _ _ third refl
     (where-told _ samples.2 (λ files tells. built c.deref.result.now c.args.options.base c.in_ok-binary.binary c.args.options.map c.deref-2.result.now c.in_ok-counts.counts samples.0 c.deref-3.result.now c.in_ok-text.text.items
     c.args.options.edges c.deref-4.result.now good.1 c.deref-2.ensures.value c.in_ok-text.ensures tells.0 tells.1 (ap (map function_of) c.deref-4.ensures.value ∙ read.1)))

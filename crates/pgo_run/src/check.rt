@@ -1,0 +1,36 @@
+// `check`: whether the repairs of a repair text keep what they promise.
+ghost use Rattle.std.specs.Prelude.{◌≡◌};
+ghost use Rattle.command_model.specs.Command.{check as check_command};
+ghost use Rattle.pgo_run.specs.Output.{Carries};
+
+use crate::halt::{Halt, in_file};
+use crate::order::{MAX_BLOCKS, MAX_REPAIRS, read_file};
+use answer_text::checked_text;
+use io_edge::Inputs;
+use repair_check::failed_line;
+use std::alloc::Global;
+
+/// What `check` writes for the block text and the repair text in these files.
+///
+/// # Errors
+/// Those of reading file 1, the first bad place of the block text, those of reading file 2, the
+/// first bad place of the repair text, and the first line that fails its test.
+pub(crate) fn output<I: Inputs>(
+    alloc: Global,
+    blocks: &[u8],
+    repairs: &[u8],
+    inputs: &mut I,
+) -> Result<Vec<u8>, Halt>
+    ensures carried { Carries (check_command blocks.now repairs.now) (I.store inputs.old) result
+        (I.opens inputs.old) (I.opens inputs.new) (I.faults inputs.old) (I.faults inputs.new) }
+    ensures store { I.store inputs.new ≡ I.store inputs.old }
+{
+    let block_text = read_file(alloc, inputs, 1, blocks, MAX_BLOCKS)?;
+    let funs = in_file(1, cfg_text::read(alloc, &block_text, 1))?;
+    let repair_text = read_file(alloc, inputs, 2, repairs, MAX_REPAIRS)?;
+    let repairs = in_file(2, repair_text::read(alloc, &repair_text, 2, &funs))?;
+    if let Some(line) = failed_line(alloc, &funs, &repairs)? {
+        return Err(Halt::CheckFailed(line));
+    }
+    Ok(checked_text(alloc, funs.len())?)
+}

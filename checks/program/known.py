@@ -15,7 +15,7 @@ sys.path.insert(0, os.path.join(os.path.dirname(os.path.abspath(__file__)), ".."
 import make
 
 USAGE = b"usage: pgo counts, where, profile, build, check or make\n"
-DONE, BAD_WORDS, MISSING, REFUSED = 0, 2, 3, 4
+DONE, FAILED, BAD_WORDS, MISSING, REFUSED = 0, 1, 2, 3, 4
 
 # The generated binaries of one function and of two: `f0000` with a call of `g` inlined into it, and `f0001` behind it.
 ONE = make.small(1)
@@ -89,15 +89,20 @@ HEADERS = [int.from_bytes(ALL_SECTIONS[40:48], "little") + 64 * (9 - k) for k in
 passed = failed = 0
 
 
-def judge(title, wanted, words, told=lambda out: out, **files):
-    """Runs the program on these words and files; wanted is its status, what is told of its output, and what it says on the
-    error output."""
-    global passed, failed
+def run(words, files):
+    """Runs the program on these words, in a folder of these files."""
     with tempfile.TemporaryDirectory() as folder:
         for name, data in files.items():
             with open(f"{folder}/{name}", "wb") as file:
                 file.write(data)
-        ran = subprocess.run([PROGRAM, *words], cwd=folder, stdin=subprocess.DEVNULL, capture_output=True)
+        return subprocess.run([PROGRAM, *words], cwd=folder, stdin=subprocess.DEVNULL, capture_output=True)
+
+
+def judge(title, wanted, words, told=lambda out: out, **files):
+    """Runs the program on these words and files; wanted is its status, what is told of its output, and what it says on the
+    error output."""
+    global passed, failed
+    ran = run(words, files)
     if (ran.returncode, told(ran.stdout), ran.stderr) == wanted:
         passed += 1
     else:
@@ -513,6 +518,120 @@ def builds():
         )
 
 
+# Counts that repair the weights 100, 60, 0 and 100 of that function, with prices that fit them; and a cut of the loop.
+COUNTS = (
+    b"# function f0000 flow\n# block 0 weight 100 count 100 in 0 out 0\n# block 1 weight 60 count 100 in 0 out 10\n"
+    b"# block 2 weight 0 count 0 in 0 out 10\n# block 3 weight 100 count 100 in 10 out 0\n"
+    b"# edge 0 1 count 100\n# edge 0 2 count 0\n# edge 1 3 count 100\n# edge 2 3 count 0\n# end 400\n"
+)
+CUT = b"# function loop cut 0\n# block 0 weight 5 in 1 out 1\n# block 1 weight 0 in 1 out 1\n# end 1 0\n"
+# The weights 1, 1, 1 and 2, with the weights of edges.
+WEIGHED = (
+    b"# function f0000 flow\n# block 0 weight 1 count 2 in 0 out 40\n# block 1 weight 1 count 1 in 40 out 20\n"
+    b"# block 2 weight 1 count 1 in 40 out 20\n# block 3 weight 2 count 2 in 20 out 0\n# edge 0 1 weight 1 count 1\n"
+    b"# edge 0 2 weight 1 count 1\n# edge 1 3 weight 1 count 1\n# edge 2 3 weight 1 count 1\n# end 40\n"
+)
+BOUNDED = BLOCKS.replace(b"exit\n", b"exit hi=1\n").replace(b"0x401008\nblock 1", b"0x401008 lo=2\nblock 1")
+BOUNDED_CUT = (
+    b"# function f0000 cut 0\n# block 0 weight 1 in 0 out 1\n# block 1 weight 1 in 1 out 1\n"
+    b"# block 2 weight 1 in 1 out 1\n# block 3 weight 2 in 1 out 0\n# end 2 1\n"
+)
+
+
+def with_line(text, number, line):
+    """A text with another line in the place of this one, or without it."""
+    lines = text.splitlines(keepends=True)
+    lines[number - 1 : number] = [] if line is None else [line + b"\n"]
+    return b"".join(lines)
+
+
+def checks():
+    def check(title, blocks, text, wanted):
+        judge(title, wanted, ["check", "cfg", "out"], cfg=blocks, out=text)
+
+    def passes(title, blocks, text, functions=1):
+        check("checked: " + title, blocks, text, (DONE, b"checked %d\n" % functions, b""))
+
+    def fails(line, text, blocks=BLOCKS):
+        check("fails at line %d" % line, blocks, text, (FAILED, b"", b"check failed at line %d\n" % line))
+
+    def bad(said, text, blocks=BLOCKS):
+        check(said.decode(), blocks, text, (REFUSED, b"", b"refused: " + said + b"\n"))
+
+    passes("counts", BLOCKS, COUNTS)
+    passes("a cut", LOOP, CUT)
+    passes("weights of edges", BLOCKS, WEIGHED)
+    passes("a cut by bounds", BOUNDED, BOUNDED_CUT)
+    passes("no function", b"", b"", 0)
+    passes("two functions, other lines outside of them", BLOCKS + LOOP, b"a\n" + COUNTS + b"# end 7\n\n#function x\n" + CUT + b"b", 2)
+    passes("spaces and leading zeros", BLOCKS, COUNTS.replace(b" count 1", b"  \tcount 001").replace(b" in 0", b" in -0"))
+    passes("the last line not ended", BLOCKS, COUNTS[:-1])
+
+    # The first line that breaks its test, and not the first test that some line breaks.
+    fails(4, with_line(COUNTS, 4, b"# block 2 weight 0 count 1 in 0 out 10"))
+    fails(10, with_line(COUNTS, 10, b"# end 401"))
+    fails(3, with_line(COUNTS, 3, b"# block 1 weight 60 count 100 in 0 out 9"))
+    fails(4, with_line(with_line(COUNTS, 4, b"# block 2 weight 0 count 1 in 0 out 10"), 10, b"# end 401"))
+    fails(2, with_line(COUNTS, 2, b"# block 0 weight 100 count 100 in 1 out 0"))
+    fails(5, with_line(COUNTS, 5, b"# block 3 weight 100 count 100 in 10 out 1"))
+    # A price that fits the block and not the edge that leads on.
+    fails(6, with_line(COUNTS, 2, b"# block 0 weight 100 count 100 in 0 out 10"))
+    fails(4, with_line(CUT, 4, b"# end 2 0"), LOOP)
+    fails(4, with_line(CUT, 2, b"# block 0 weight 5 in 0 out 1"), LOOP)
+    fails(6, with_line(BOUNDED_CUT, 6, b"# end 1 1"), BOUNDED)
+    fails(2, WEIGHED, BOUNDED.replace(b" lo=2", b" hi=1"))
+    fails(2, with_line(WEIGHED, 7, b"# edge 0 2 weight 1 count 2"))
+    fails(6, WEIGHED, BLOCKS.replace(b"edge 0 1\n", b"edge 0 1 never\n"))
+
+    # Each cause of each line, the first of two where both hold.
+    bad(b"file 2 at 4: WrongBlock", with_line(COUNTS, 4, None))
+    bad(b"file 2 at 10: Missing", with_line(COUNTS, 10, None))
+    bad(b"file 2 at 1: Missing", b"")
+    bad(b"file 2 at 2: Missing", b"# functions\n")
+    bad(b"file 2 at 5: Missing", b"".join(COUNTS.splitlines(keepends=True)[:4]))
+    for k, line in [
+        (1, b"# function f0000 cut"), (1, b"# function f0000 cut 2"), (1, b"# function f0000 flow 0"), (1, b"# function g cut 2"),
+        (2, b""), (2, b"# function f0000 flow"), (2, b"# block 1 weight 100 count 100 in 0 out"), (2, b"# block 0 weight 100 in 0 out 0"),
+        (2, b"# block 0 weight 17592186044416 count 100 in 0 out 0"), (2, b"# block 0 weight 100 count 18446744073709551616 in 0 out 0"),
+        (2, b"# block 0 weight 100 count 100 in 9223372036854775808 out 0"), (2, b"# block 0 weight 100 count 100 in 0 out -9223372036854775809"),
+        (2, b"# block 0 weight 100 count 100 in 0 out 0\r"), (2, b"block 0 weight 100 count 100 in 0 out 0"), (2, b"# end 1 0"),
+        (6, b"# edge 0 1 count 18446744073709551616"), (6, b"# edge 0 1 weight 17592186044416 count 1"), (6, b"# edge 0 count 1"),
+        (10, b"# end 340282366920938463463374607431768211456"), (10, b"# end 1 0"), (10, b"# end -1"),
+    ]:
+        bad(b"file 2 at %d: BadLine" % k, with_line(COUNTS, k, line))
+    for k, line in [
+        (2, b"# block 0 weight 17592186044415 count 18446744073709551615 in 9223372036854775807 out -9223372036854775808"),
+        (6, b"# edge 0 1 weight 17592186044415 count 18446744073709551615"), (10, b"# end 340282366920938463463374607431768211455"),
+    ]:
+        fails(2 if k != 10 else 10, with_line(COUNTS, k, line))
+    bad(b"file 2 at 1: WrongFunction", with_line(COUNTS, 1, b"# function f0001 flow"))
+    bad(b"file 2 at 11: Extra", COUNTS + b"# function f0001 flow\n")
+    bad(b"file 2 at 6: Extra", with_line(COUNTS, 6, b"# block 7 weight 1 count 1 in 0 out 0"))
+    bad(b"file 2 at 10: Extra", with_line(COUNTS, 10, b"# edge 2 3 count 0"))
+    bad(b"file 2 at 4: Extra", with_line(CUT, 4, b"# edge 5 5 count 0"), LOOP)
+    bad(b"file 2 at 2: WrongBlock", with_line(COUNTS, 2, b"# block 1 weight 100 count 100 in 0 out 0"))
+    bad(b"file 2 at 2: Missing", with_line(COUNTS, 2, b"# edge 0 2 count 0"))
+    bad(b"file 2 at 6: WrongEdge", with_line(COUNTS, 6, b"# edge 1 0 count 100"))
+    bad(b"file 2 at 5: Missing", with_line(COUNTS, 5, b"# end 400"))
+    bad(b"file 2 at 9: Missing", with_line(COUNTS, 9, b"# end 400"))
+    bad(b"file 1 at 2: BlockOrder", b"zz\n", b"func a\nblock 1 0x1 0x2\n")
+    for k, words in enumerate((["x", "out"], ["cfg", "x"]), 1):
+        judge(
+            "checked: file %d missing" % k, (MISSING, b"", b"no such file: %d\n" % k), ["check", *words],
+            cfg=BLOCKS, out=COUNTS,
+        )
+    for words in (["check", "cfg"], ["check", "cfg", "out", "out"], ["check", "--base", "cfg", "out"]):
+        judge("checked: " + " ".join(words), (BAD_WORDS, b"", USAGE), words, cfg=BLOCKS, out=COUNTS)
+
+    # What `build` wrote, as it is, with the weights of edges and without.
+    for title, blocks, perf, options in [
+        ("a profile in front", BLOCKS, TWO_SAMPLES, []), ("edges", BLOCKS + LOOP, TWO_SAMPLES, ["--edges"]),
+        ("cuts", LOOP + BOUNDED, TWO_SAMPLES, []), ("nothing sampled", BLOCKS + LOOP, b"", ["--edges"]),
+    ]:
+        built = run(["build", *options, "bin", "perf", "cfg"], {"bin": ONE, "perf": perf, "cfg": blocks})
+        passes("what build wrote, " + title, blocks, built.stdout, blocks.count(b"func "))
+
+
 def large():
     # More functions than 16 bits number, with two lines each. Function k calls the next three from its line 11 + 2 k,
     # and itself begins in line 5. The three branches of a sample have two ranges between them, which go back to that
@@ -537,7 +656,7 @@ def large():
 
 
 PROGRAM = os.path.abspath(sys.argv[1])
-for part in [places, range_lists, other_places, refusals, words, profiles, reports, bases_and_loads, builds, large]:
+for part in [places, range_lists, other_places, refusals, words, profiles, reports, bases_and_loads, builds, checks, large]:
     part()
 print(f"{passed} passed, {failed} failed")
 sys.exit(failed > 0)

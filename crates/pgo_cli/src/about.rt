@@ -1,5 +1,8 @@
 // What the program says of itself.
 
+use crate::remedies::REMEDIES;
+use crate::topics::{TOPICS, Topic};
+
 /// What each command does, and how the program ends.
 const HELP: &[u8] = b"\
 pgo builds sample profiles for compilers.
@@ -15,7 +18,9 @@ usage:
   pgo build [--map=NAME] [--base] [--edges] BIN PERF CFG
                               the same, with the block counts of each function
                               of a block text repaired between them
-  pgo --help                  this text
+  pgo --help, pgo -h          this text
+  pgo --help COMMAND          what a command reads and writes, and an example
+  pgo --help KIND             what helps where a file is refused for this kind
   pgo --version               the version
 
 PERF is what `perf script -F ip,brstack` prints, in a file. BIN is a 64-bit ELF
@@ -28,6 +33,18 @@ text, as `contrib/blocks BIN` prints it.
             the binary has this name: position-independent programs and shared
             objects need it, and `perf script --show-mmap-events`
 --edges     edges are weighed by the branches along them, and their weights told
+
+if you see:
+  only lines with #      the profile is empty: `pgo-profile` tells why
+  0x0 0x0 in all lines   no load line has the name of --map, whole: /srv/app/lua
+  BadLine at 1           the text is packed, or the recording itself: unpack it,
+                         or print it by `perf script -F ip,brstack`
+  BadLine                print ip,brstack and no further fields; more by
+                         `pgo --help BadLine`
+  Compressed             `objcopy --decompress-debug-sections BIN PLAIN`
+  NotElf                 the program comes first, then the text
+  usage                  options come in front, each once; NAME stands behind
+                         `--map=` without a space; HEX is never decimal
 
 Messages count file words and lines from 1, and places in a binary from 0.
 
@@ -45,11 +62,25 @@ exit status:
 /// What `--version` prints.
 const VERSION: &[u8] = b"pgo 0.1.0\n";
 
-/// The answer to a word that asks for it, where it is the only one.
+/// The answer to words that ask for one, where they are the only ones.
 pub(crate) fn answer_to(words: &[Vec<u8>]) -> Option<&'static [u8]> {
     match words {
         [word] if word.as_slice() == b"--help".as_slice() => Some(HELP),
+        [word] if word.as_slice() == b"-h".as_slice() => Some(HELP),
         [word] if word.as_slice() == b"--version".as_slice() => Some(VERSION),
+        [first, word] if first.as_slice() == b"--help".as_slice() => {
+            text_on(&TOPICS, word).or(text_on(&REMEDIES, word))
+        }
         _ => None,
     }
+}
+
+/// What one of the topics says, if the word is its name.
+fn text_on(topics: &[Topic], word: &[u8]) -> Option<&'static [u8]> {
+    for topic in topics {
+        if topic.word == word {
+            return Some(topic.text);
+        }
+    }
+    None
 }

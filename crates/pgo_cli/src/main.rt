@@ -1,10 +1,13 @@
 //! The program `pgo`: hands its words, the system's files and the standard output to the top call,
 //! prints the status on the error output, and ends with the status's code.
 //!
-//! `--help` and `--version`, as the only word, are answered here.
+//! `--help` (or `-h`) and `--version`, as the only word, and `--help` with the name of a command or
+//! of a kind of refusal are answered here.
 #![tactic(auto)]
 
 mod about;
+mod remedies;
+mod topics;
 mod words;
 
 use io_edge::{FileInputs, StdSink, write_all};

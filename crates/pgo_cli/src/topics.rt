@@ -1,0 +1,85 @@
+// What the program says of each command.
+
+/// What `--help` says of a word.
+pub(crate) struct Topic {
+    pub(crate) word: &'static [u8],
+    pub(crate) text: &'static [u8],
+}
+
+/// The commands.
+pub(crate) const TOPICS: [Topic; 4] = [
+    Topic {
+        word: b"counts",
+        text: b"\
+pgo counts PERF
+
+Reads a branch text, as `perf script -F ip,brstack` prints it, from a file or a
+pipe (/dev/stdin). Writes each distinct branch with its count, by source and
+then by target, and last the number of all branches.
+
+example:
+  pgo counts demo/words.txt
+",
+    },
+    Topic {
+        word: b"where",
+        text: b"\
+pgo where [--base] BIN HEX
+
+Reads a program with its debugging information. Writes the place of an address,
+as a profile names it: the function, the calls inlined there, and the line,
+counted from where the function starts. `outside` says that no function holds
+the address, `nameless` that a profile cannot hold the name of the function or
+of an inlined call, `noline` that it stands for no line.
+
+HEX is an address of the file, as nm and objdump print it: hexadecimal digits
+with 0x or without, never decimal.
+
+--base  for programs of clang and rustc: places as profiles have them
+
+example:
+  pgo where --base demo/words 401330
+",
+    },
+    Topic {
+        word: b"profile",
+        text: b"\
+pgo profile [--map=NAME] [--base] BIN PERF
+
+Reads a program with its debugging information, and a branch text, which may be
+a pipe (/dev/stdin). Writes the sample profile of the program, which clang takes
+by -fprofile-sample-use=, and then a report: lines that begin with #, which
+compilers pass over. Where all lines do, the profile is empty, with status 0;
+`pgo-profile` makes a profile and tells why it is empty.
+
+--base      for all programs of clang and rustc, and not for those of gcc
+--map=NAME  for position-independent programs and shared objects (`readelf -h`
+            says DYN): NAME is what stands behind r-xp in the load line of the
+            program, with all its folders; `perf script --show-mmap-events`
+            prints load lines
+
+example:
+  pgo profile --base demo/words demo/words.txt
+",
+    },
+    Topic {
+        word: b"build",
+        text: b"\
+pgo build [--map=NAME] [--base] [--edges] BIN PERF CFG
+
+Reads what `pgo profile` reads, and a block text: the functions of the program
+as blocks and edges, which `blocks BIN` prints. Writes the profile; then for
+each function of the block text counts that conserve and are least away from the
+samples, with prices that show it, or a cut that shows that there are none; and
+then the report. `draw` makes a picture of a function.
+
+--base      as for `pgo profile`
+--map=NAME  as for `pgo profile`
+--edges     edges are weighed, too, by the branches along them and the ranges
+            through them, and their weights are told
+
+example:
+  pgo build --base --edges demo/words demo/words.txt demo/words.blocks
+",
+    },
+];

@@ -53,8 +53,8 @@ pub enum Command<'a> {
         perf: &'a [u8],
         blocks: &'a [u8],
     },
-    /// Whether the repairs of this repair text keep what they promise of the functions of this block
-    /// text.
+    /// Whether the repairs of this repair text keep what they promise of the functions of this
+    /// block text.
     Check {
         blocks: &'a [u8],
         repairs: &'a [u8],

@@ -21,7 +21,8 @@ pub(crate) fn spelled(
     of: &InUnit<'_>,
     entry: &Entry<'_, '_>,
 ) -> Result<Vec<(u64, u64)>, Stop>
-    ensures { GivesUnlessNoMemory (λ ranges. ranges.items) result (spelled_ranges (in_unit of.now) entry.now) }
+    ensures { GivesUnlessNoMemory (λ ranges. ranges.items) result
+        (spelled_ranges (in_unit of.now) entry.now) }
 {
     if let Some(list) = attribute(entry.found, DW_AT_RANGES) {
         return listed(alloc, of, &list);
@@ -34,7 +35,8 @@ pub(crate) fn spelled(
 
 /// The ranges of the list that `DW_AT_ranges` leads to.
 fn listed(alloc: Global, of: &InUnit<'_>, found: &Found<'_>) -> Result<Vec<(u64, u64)>, Stop>
-    ensures { GivesUnlessNoMemory (λ ranges. ranges.items) result (listed_told (in_unit of.now) found.now) }
+    ensures { GivesUnlessNoMemory (λ ranges. ranges.items) result
+        (listed_told (in_unit of.now) found.now) }
 {
     let InUnit {
         parts,

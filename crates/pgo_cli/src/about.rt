@@ -18,6 +18,8 @@ usage:
   pgo build [--map=NAME] [--base] [--edges] BIN PERF CFG
                               the same, with the block counts of each function
                               of a block text repaired between them
+  pgo check CFG OUT           whether repairs, by `pgo build` or by anyone else,
+                              keep what they promise
   pgo --help, pgo -h          this text
   pgo --help COMMAND          what a command reads and writes, and an example
   pgo --help KIND             what helps where a file is refused for this kind
@@ -25,7 +27,7 @@ usage:
 
 PERF is what `perf script -F ip,brstack` prints, in a file. BIN is a 64-bit ELF
 file with DWARF 4 or 5, HEX an address in hexadecimal digits. CFG is a block
-text, as `contrib/blocks BIN` prints it.
+text, as `contrib/blocks BIN` prints it, OUT what `pgo build` printed.
 
 --base      discriminators are taken apart as clang packs them: give it for
             binaries of clang and rustc, and not for those of gcc
@@ -50,7 +52,7 @@ Messages count file words and lines from 1, and places in a binary from 0.
 
 exit status:
   0  done, the whole output was written
-  1  a check failed (no command checks yet)
+  1  a check failed; the first line that fails is named
   2  the words spell no command
   3  there is no such file
   4  a file is refused; its first bad place is named

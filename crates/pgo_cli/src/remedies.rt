@@ -276,7 +276,7 @@ What helps: build with less debugging information (`-gline-tables-only`).
         word: b"FileTooLarge",
         text: b"\
 FileTooLarge: a binary above 2^30 bytes, a branch text above 2^40, a block text
-above 2^28; the place is the limit.
+or a repair text above 2^28; the place is the limit.
 What helps: of a binary take away what is not read (docs/USING.md, \"Time and
 memory\"); split a branch text, and merge the profiles; `contrib/blocks` with
 names, or `--fit`.

@@ -7,7 +7,7 @@ pub(crate) struct Topic {
 }
 
 /// The commands.
-pub(crate) const TOPICS: [Topic; 4] = [
+pub(crate) const TOPICS: [Topic; 5] = [
     Topic {
         word: b"counts",
         text: b"\
@@ -80,6 +80,26 @@ then the report. `draw` makes a picture of a function.
 
 example:
   pgo build --base --edges demo/words demo/words.txt demo/words.blocks
+",
+    },
+    Topic {
+        word: b"check",
+        text: b"\
+pgo check CFG OUT
+
+Reads a block text, and a text with a repair of each of its functions in order:
+what `pgo build` printed, as it is, or repairs that someone else made. Writes
+`checked N`, where each of the N functions has counts that conserve within
+bounds and cost least, or a cut that shows that there are none, for the weights
+that stand in the text. Else it names the first line that does not keep what it
+promises. Nothing is believed of who made the text.
+
+Where weights come from is not judged. A text of another block text is refused
+(WrongFunction, WrongBlock, WrongEdge, Missing, Extra).
+
+example:
+  pgo build --base demo/words demo/words.txt demo/words.blocks >words.built
+  pgo check demo/words.blocks words.built
 ",
     },
 ];

@@ -88,7 +88,8 @@ tests_of net (flow counts ins outs) first second =
     ++ (each_test (passes_edge price) net.edges counts.edges ++ (first == cost_of net counts) ∷ [])
 tests_of net (cut at_root ins outs) first second =
     let set = told_at at_root ins outs in
-    map (λ arc. true) net.blocks ++ is_cut_of (most_out set (arcs_of net)) (least_in set (arcs_of net)) first second ∷ []
+    map (λ arc. true) net.blocks
+    ++ is_cut_of (most_out set (arcs_of net)) (least_in set (arcs_of net)) first second ∷ []
 
 -- The weights of a function's edges in a repair; those of a cut do not matter.
 abbrev pub weights_of_edges : List Edge → List Weight → Solution → List Weight

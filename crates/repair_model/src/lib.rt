@@ -1,5 +1,5 @@
 //! What a repair text says: for each function of a block text counts that repair its weights, or a
-//! cut that shows that there are none; which line of the text is its first bad one, and which is the
+//! cut that shows that there are none; which line of the text is its first bad one, and which the
 //! first that does not keep what it promises.
 //!
 //! Definitions in `specs/`, with examples in `proofs/`. The same lines are said both ways: how a

@@ -80,7 +80,8 @@ course_inside reading opened = record (course_of reading) { opened = Some (open_
 -- A line that begins a function has this name and tells this much.
 pub record HasFirst (line name : List ℕ) (told : Repair) : Type 0 where
   pub cause : (left : List Function) → cause_of_begin left (line_of line) ≡ cause_of_name left name
-  pub course : (number : ℕ) (left : List Function) → begun_by number left (line_of line) ≡ opened_at number left told.solution
+  pub course : (number : ℕ) (left : List Function)
+      → begun_by number left (line_of line) ≡ opened_at number left told.solution
   pub fresh : told ≡ begun told.solution
 
 -- The name in a line that begins a function, and what it tells; or it has not the form of one.

@@ -12,7 +12,8 @@ abbrev pub counts_told : Counts → Repair
 counts_told counts = record {
   weights = counts.weights.items;
   edge_weights = counts.edge_weights.items;
-  solution = flow (record { blocks = counts.blocks.items; edges = counts.edges.items }) counts.ins.items counts.outs.items;
+  solution = flow (record { blocks = counts.blocks.items; edges = counts.edges.items })
+      counts.ins.items counts.outs.items;
   first = 0;
   second = 0;
 }

@@ -1,5 +1,5 @@
-//! Repair texts, written and read: for each function of a block text counts that repair its weights,
-//! with prices, or a cut that shows that there are none.
+//! Repair texts, written and read: for each function of a block text counts that repair its
+//! weights, with prices, or a cut that shows that there are none.
 #![tactic(auto)]
 
 mod line;

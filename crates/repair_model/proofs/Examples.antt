@@ -16,6 +16,7 @@ use Rattle.block_model.specs.declared.parts.Weight.TheVariants.{Unknown, Known}
 use Rattle.block_model.specs.Function.{Function}
 use Rattle.block_model.specs.Line.{place_of, count_of}
 use Rattle.repair_model.specs.Judging.{cause_of_block, cause_of_edge, cause_of_end, cause_inside, cause_of_begin, cause_of_line, items_from, first_bad_of_repairs}
+use Rattle.repair_model.specs.Laws.{numbered_repairs, text_of_repairs}
 use Rattle.repair_model.specs.Line.{line_text, weight_of, price_of, sum_of, bit_of, function_line_of, counted_of, sided_of, weighed_of, block_line_of, taken_of, joined_of, edge_line_of, end_line_of, line_by_fields, line_of}
 use Rattle.repair_model.specs.Line.{tells_count}
 use Rattle.repair_model.specs.Repair.{Repair, flow, cut}
@@ -154,3 +155,17 @@ a_bad_first_line = (refl, refl, refl, refl, refl, refl, refl)
 edges_of_a_cut : bad (codes "# function loop cut 0\n# block 0 weight 5 in 1 out 1\n# block 1 weight 0 in 1 out 1\n# edge 0 1 count 0\n") ≡ at 4 Extra
 unfolding bad at items_from cause_of_line cause_inside cause_of_begin cause_of_block cause_of_edge cause_of_end course_behind line_of line_by_fields block_line_of edge_line_of end_line_of function_line_of weighed_of counted_of sided_of joined_of taken_of weight_of price_of sum_of bit_of place_of count_of fields_of number_of signed_of lines_of
 edges_of_a_cut = refl
+
+-- ---- what is written, and read again
+
+they_are_numbered : numbered_repairs false 3 (two_ways ∷ loop ∷ []) (repaired ∷ no_way_out ∷ []) ≡ (3, repaired) ∷ (13, no_way_out) ∷ []
+unfolding lines_of_repair
+they_are_numbered = refl
+
+-- a name that breaks its line
+abbrev broken : Function
+broken = record loop { name = codes "lo\nop" }
+
+a_broken_name : first_bad_of_repairs 2 (broken ∷ []) (text_of_repairs false (broken ∷ []) (no_way_out ∷ [])) ≡ at 1 BadLine
+unfolding at lines_of_repair digits items_from cause_of_line cause_of_begin course_behind line_of line_by_fields function_line_of fields_of lines_of
+a_broken_name = refl

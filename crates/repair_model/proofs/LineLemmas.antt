@@ -41,7 +41,7 @@ spaced_read (field ∷ next ∷ fields) names =
 
 -- ---- numbers are names
 
-digit_is_no : (d b : ℕ) → digit_value d < 10 → nat_lt (digit_value b) 10 ≡ false → nat_eq d b ≡ false
+pub digit_is_no : (d b : ℕ) → digit_value d < 10 → nat_lt (digit_value b) 10 ≡ false → nat_eq d b ≡ false
 digit_is_no d b small large =
     elim (cases_eq d b) [
       | inl is ↦ let fits = subst (λ (c : ℕ). digit_value c < 10) is small in let t = lt-ltb (digit_value b) 10 fits in absurd (cc)

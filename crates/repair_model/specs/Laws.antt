@@ -1,7 +1,8 @@
 -- What follows from the definitions.
-use Rattle.std.specs.Prelude.{◌≡◌, ◌↔◌, ℕ, ◌<◌, ◌≤◌, ◌^◌, ⊤, Bool, true, false, List, [], length, map, Option, None, Some}
-use Rattle.std.specs.List.{AllByRecursion, AllZip, list_any}
+use Rattle.std.specs.Prelude.{◌≡◌, ◌↔◌, ℕ, ◌+◌, ◌<◌, ◌≤◌, ◌^◌, ⊤, Bool, true, false, List, [], ◌∷◌, ◌++◌, length, map, Option, None, Some}
+use Rattle.std.specs.List.{AllByRecursion, AllZip, flat_map, list_any}
 use Rattle.text_model.specs.Fields.{is_blank, is_filled}
+use Rattle.text_model.specs.Laws.{ended, HasNoLineFeed}
 use Rattle.block_model.specs.declared.parts.Weight.{Weight}
 use Rattle.block_model.specs.declared.parts.Weight.TheVariants.{Unknown, Known}
 use Rattle.block_model.specs.Function.{Function}
@@ -9,11 +10,11 @@ use Rattle.block_model.specs.Limits.{bound_bits}
 use Rattle.flow_model.specs.Sound.{AreWeights, IsSound}
 use Rattle.repair_model.specs.Checking.{failed_in, network_by, weights_of_edges}
 use Rattle.repair_model.specs.Made.{Repairs}
-use Rattle.repair_model.specs.Line.{Line, line_of, line_text, fits_price}
+use Rattle.repair_model.specs.Line.{Line, line_of, line_text, begins_function, fits_price}
 use Rattle.repair_model.specs.Line.{begins_flow, begins_cut, tells_count, tells_sides, tells_edge, ends_flow, ends_cut}
 use Rattle.repair_model.specs.Repair.{Repair, Solution, flow, cut}
 use Rattle.repair_model.specs.Judging.{first_bad_of_repairs}
-use Rattle.repair_model.specs.Text.{lines_of_repair, repairs_of}
+use Rattle.repair_model.specs.Text.{lines_of_repair, repair_text, repairs_of}
 
 -- A name can be a field: it has bytes, and no blank.
 pub record IsName (name : List ℕ) : Type 0 where
@@ -92,3 +93,32 @@ abbrev pub GoodRepairsAreWhole : Type 0
 GoodRepairsAreWhole =
     (file : ℕ) (funs : List Function) (text : List ℕ) → length text ≤ 2 ^ 63
     → first_bad_of_repairs file funs text ≡ None → AllZip IsToldOf funs (repairs_of funs text)
+
+-- Repairs of functions as they are written, one behind the other.
+abbrev pub text_of_repairs : Bool → List Function → List Repair → List ℕ
+text_of_repairs weighed (fun ∷ funs) (repair ∷ repairs) =
+    repair_text weighed fun repair ++ text_of_repairs weighed funs repairs
+text_of_repairs weighed _ _ = []
+
+-- The same repairs, each behind the number of its first line; the first of them begins at this line.
+abbrev pub numbered_repairs : Bool → ℕ → List Function → List Repair → List (ℕ × Repair)
+numbered_repairs weighed line (fun ∷ funs) (repair ∷ repairs) =
+    (line, repair) ∷ numbered_repairs weighed (line + length (lines_of_repair weighed fun repair)) funs repairs
+numbered_repairs weighed line _ _ = []
+
+-- A line that a repair text passes over outside of functions.
+pub record IsPassedOver (line : List ℕ) : Type 0 where
+  pub other : begins_function line ≡ false
+  pub clean : HasNoLineFeed line
+
+-- Repairs that are written are read as these repairs, and no line is bad, also between other lines. A name with a line
+-- feed in it would break its line.
+abbrev pub WrittenRepairsAreRead : Type 0
+WrittenRepairsAreRead =
+    (file : ℕ) (weighed : Bool) (funs : List Function) (repairs : List Repair) (before behind : List (List ℕ))
+    (text : List ℕ)
+    → AllByRecursion (λ fun. HasNoLineFeed fun.name) funs → AllZip (IsRepairOf weighed) funs repairs
+    → AllByRecursion IsPassedOver before → AllByRecursion IsPassedOver behind
+    → text ≡ flat_map ended before ++ (text_of_repairs weighed funs repairs ++ flat_map ended behind)
+    → (first_bad_of_repairs file funs text ≡ None)
+    × (repairs_of funs text ≡ numbered_repairs weighed (length before + 1) funs repairs)

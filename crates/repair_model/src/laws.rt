@@ -1,5 +1,5 @@
 // What is written is read, what is read is whole, and what passes its tests is a repair.
-ghost use Rattle.repair_model.specs.Laws.{GoodRepairsAreWhole, PassingLinesRepair, RepairsAreApart, WrittenLinesAreRead};
+ghost use Rattle.repair_model.specs.Laws.{GoodRepairsAreWhole, PassingLinesRepair, RepairsAreApart, WrittenLinesAreRead, WrittenRepairsAreRead};
 
 /// A line that is written is read as that line, if its numbers are within their bits. So no two of
 /// them are written alike.
@@ -23,4 +23,11 @@ pub fn passing_lines_repair()
 /// cut. The number of a repair's first line is at most 2^63.
 pub fn good_repairs_are_whole()
     ensures { GoodRepairsAreWhole }
+{}
+
+/// Repairs that are written, one behind the other, are read as these repairs, each with the number
+/// of its first line, and no line is bad. Other lines may stand before and behind them, and no name
+/// may hold a line feed.
+pub fn written_repairs_are_read()
+    ensures { WrittenRepairsAreRead }
 {}

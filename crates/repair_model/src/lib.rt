@@ -10,4 +10,5 @@ mod laws;
 
 pub use laws::{
     good_repairs_are_whole, passing_lines_repair, repairs_are_apart, written_lines_are_read,
+    written_repairs_are_read,
 };

@@ -1,5 +1,6 @@
 pub mod BranchTextLemmas
 pub mod BuildLemmas
+pub mod CheckLemmas
 pub mod Examples
 pub mod ProfileLemmas
 pub mod ReachedLemmas

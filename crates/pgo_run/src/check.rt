@@ -29,8 +29,10 @@ pub(crate) fn output<I: Inputs>(
     let funs = in_file(1, cfg_text::read(alloc, &block_text, 1))?;
     let repair_text = read_file(alloc, inputs, 2, repairs, MAX_REPAIRS)?;
     let repairs = in_file(2, repair_text::read(alloc, &repair_text, 2, &funs))?;
-    if let Some(line) = failed_line(alloc, &funs, &repairs)? {
+    let failed = failed_line(alloc, &funs, &repairs)?;
+    if let Some(line) = failed {
         return Err(Halt::CheckFailed(line));
     }
-    Ok(checked_text(alloc, funs.len())?)
+    let text = checked_text(alloc, funs.len())?;
+    Ok(text)
 }

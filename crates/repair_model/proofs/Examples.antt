@@ -1,6 +1,6 @@
 -- The definitions on worked values.
-use Rattle.std.proofs.Common.{◌≡◌, List, [], ◌∷◌, ◌++◌, refl, Some, None, true, false, codes, ℕ, Option}
-use Rattle.std.specs.Prelude.{pos, negsuc}
+use Rattle.std.proofs.Common.{◌≡◌, List, [], ◌∷◌, ◌++◌, refl, Some, None, Bool, true, false, codes, ℕ, Option}
+use Rattle.std.specs.Prelude.{ℤ, pos, negsuc}
 use Rattle.std.specs.Fmt.{digits}
 use Rattle.refusal.specs.declared.kind.Kind.{Kind}
 use Rattle.refusal.specs.declared.kind.Kind.TheVariants.{BadLine, Extra, Missing, WrongFunction, WrongBlock, WrongEdge}
@@ -15,6 +15,7 @@ use Rattle.block_model.specs.declared.parts.Weight.{Weight}
 use Rattle.block_model.specs.declared.parts.Weight.TheVariants.{Unknown, Known}
 use Rattle.block_model.specs.Function.{Function}
 use Rattle.block_model.specs.Line.{place_of, count_of}
+use Rattle.repair_model.specs.Checking.{failed_in, failed_line}
 use Rattle.repair_model.specs.Judging.{cause_of_block, cause_of_edge, cause_of_end, cause_inside, cause_of_begin, cause_of_line, items_from, first_bad_of_repairs}
 use Rattle.repair_model.specs.Laws.{numbered_repairs, text_of_repairs}
 use Rattle.repair_model.specs.Line.{line_text, weight_of, price_of, sum_of, bit_of, function_line_of, counted_of, sided_of, weighed_of, block_line_of, taken_of, joined_of, edge_line_of, end_line_of, line_by_fields, line_of}
@@ -169,3 +170,38 @@ broken = record loop { name = codes "lo\nop" }
 a_broken_name : first_bad_of_repairs 2 (broken ∷ []) (text_of_repairs false (broken ∷ []) (no_way_out ∷ [])) ≡ at 1 BadLine
 unfolding at lines_of_repair digits items_from cause_of_line cause_of_begin course_behind line_of line_by_fields function_line_of fields_of lines_of
 a_broken_name = refl
+
+-- ---- tests of lines
+
+abbrev way_out : Block
+way_out = record { lo = 1; hi = 2; exit = true; bound = none }
+
+abbrev with_exit : Function
+with_exit = record two_ways { blocks = block ∷ block ∷ block ∷ way_out ∷ [] }
+
+abbrev told_by : List ℕ → List ℤ → List ℤ → ℕ → Repair
+told_by blocks ins outs cost = record repaired {
+  solution = flow (record { blocks = blocks; edges = 100 ∷ 0 ∷ 100 ∷ 0 ∷ [] }) ins outs;
+  first = cost;
+}
+
+-- the counts pass; a count, a cost and a price that fail, each at its line
+counts_are_tested : (failed_in with_exit 1 repaired ≡ None)
+    × (failed_in with_exit 1 (told_by (100 ∷ 100 ∷ 1 ∷ 100 ∷ []) (pos 0 ∷ pos 0 ∷ pos 0 ∷ pos 10 ∷ []) (pos 0 ∷ pos 10 ∷ pos 10 ∷ pos 0 ∷ []) 400) ≡ Some 4)
+    × (failed_in with_exit 1 (told_by (100 ∷ 100 ∷ 0 ∷ 100 ∷ []) (pos 0 ∷ pos 0 ∷ pos 0 ∷ pos 10 ∷ []) (pos 0 ∷ pos 10 ∷ pos 10 ∷ pos 0 ∷ []) 401) ≡ Some 10)
+    × (failed_in with_exit 1 (told_by (100 ∷ 100 ∷ 0 ∷ 100 ∷ []) (pos 0 ∷ pos 0 ∷ pos 0 ∷ pos 10 ∷ []) (pos 0 ∷ pos 9 ∷ pos 10 ∷ pos 0 ∷ []) 400) ≡ Some 3)
+    × (failed_in with_exit 1 (told_by (100 ∷ 100 ∷ 0 ∷ 100 ∷ []) (pos 0 ∷ pos 0 ∷ pos 0 ∷ pos 10 ∷ []) (pos 10 ∷ pos 10 ∷ pos 10 ∷ pos 0 ∷ []) 400) ≡ Some 6)
+counts_are_tested = (refl, refl, refl, refl, refl)
+
+abbrev cut_by : List Bool → ℕ → ℕ → Repair
+cut_by ins first second =
+    record { weights = Known 5 ∷ Known 0 ∷ []; edge_weights = []; solution = cut false ins (true ∷ true ∷ []); first = first; second = second }
+
+-- a loop that was entered and never left; an arc without a bound that leaves the set, and sums that are not its own;
+-- of two functions the second fails, at block 1, where one unit less would save 10 and all prices are 0
+cuts_are_tested : (failed_in loop 1 (cut_by (true ∷ true ∷ []) 1 0) ≡ None)
+    × (failed_in loop 1 (cut_by (false ∷ true ∷ []) 1 0) ≡ Some 4)
+    × (failed_in loop 1 (cut_by (true ∷ true ∷ []) 2 0) ≡ Some 4)
+    × (failed_in loop 1 (cut_by (true ∷ true ∷ []) 1 1) ≡ Some 4)
+    × (failed_line (loop ∷ with_exit ∷ []) ((1, cut_by (true ∷ true ∷ []) 1 0) ∷ (9, told_by (100 ∷ 100 ∷ 1 ∷ 100 ∷ []) [] [] 0) ∷ []) ≡ Some 11)
+cuts_are_tested = (refl, refl, refl, refl, refl)

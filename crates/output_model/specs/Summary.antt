@@ -64,7 +64,8 @@ pub record IsRepairCost {K : Type 0} (key : ℕ → Option K) (count : K → ℕ
     : Type 0 where
   pub weights : List Weight
   pub weighed : AllZip (IsWeightOf key count) fun.blocks weights
-  pub least : IsLeastCost (network_of fun.blocks fun.edges weights (weighed_edges None fun.blocks fun.edges weights)) cost
+  pub least : IsLeastCost
+      (network_of fun.blocks fun.edges weights (weighed_edges None fun.blocks fun.edges weights)) cost
 
 -- What all costs come to, where there are some; and how many there are not.
 abbrev pub costs_in : List (Option ℕ) → ℕ

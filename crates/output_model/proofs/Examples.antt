@@ -4,13 +4,14 @@ use Rattle.std.specs.Prelude.{codes, map, if◌then◌else◌}
 use Rattle.std.specs.Fmt.{digits}
 use Rattle.std.specs.List.{range_with_len}
 use Rattle.text_model.specs.Numbers.{hex_text}
-use Rattle.profile_model.specs.Profile.{lines_of}
+use Rattle.profile_model.specs.Profile.{body_line, call_line, function_line, lines_of}
 use Rattle.profile_model.specs.Text.{profile_text, text_of_lines}
 use Rattle.profile_model.specs.Ways.{to_body, to_call, to_function}
 use Rattle.report_model.specs.Report.{Sampled, report_text}
 use Rattle.binary_model.specs.Places.{Place, outside, no_line, at_way}
 use Rattle.output_model.specs.Program.{Program}
 use Rattle.output_model.specs.Sampled.{classes_of, hits_of, profile_among}
+use Rattle.output_model.specs.Summary.{costs_in, cuts_in, summary_text, totals_in}
 
 -- a function `f` from 16 up to 32, entered at 16, with a call of `g` from 20 up to 24, whose code was copied three times
 f_place : ℕ → Place
@@ -48,3 +49,10 @@ report : report_text (classes_of program) sampled
     ≡ codes "# branches 7\n# entries 3\n# inside 1\n# unmapped FromOutside 0x9 0x9 1\n# unmapped FromNoLine 0x1e 0x12 1\n# unmapped ToOutside 0x12 0x28 1\n# ranges ran 4\n# ranges reversed 1\n# ranges outside 2\n# ranges crossing 0\n# units read 1 passed 0\n"
 unfolding report_text digits hex_text program f_place sampled
 report = refl
+
+-- what a summary says, of two functions and a call in the first; of two repairs by counts and a cut
+line_of_summary : (summary_text (record { functions = 1; branches = 5; total = 7; cost = 40; cuts = 0 }) ≡ codes "functions 1 branches 5 total 7 cost 40 cuts 0\n")
+    × (totals_in (function_line (codes "f") 7 1 ∷ body_line 1 0 0 4 [] ∷ call_line 1 2 1 (codes "g") 3 ∷ body_line 2 1 0 3 [] ∷ function_line (codes "h") 5 0 ∷ []) ≡ 12)
+    × (costs_in (Some 40 ∷ None ∷ Some 2 ∷ []) ≡ 42) × (cuts_in (Some 40 ∷ None ∷ Some 2 ∷ []) ≡ 1)
+unfolding summary_text digits
+line_of_summary = (refl, refl, refl, refl)

@@ -1,4 +1,6 @@
 pub mod Built
+pub mod Laws
 pub mod Output
 pub mod Program
 pub mod Sampled
+pub mod Summary

@@ -25,6 +25,7 @@ use Rattle.repair_model.specs.Text.{repair_text}
 use Rattle.repair_text.specs.Repair.{IsOf, repair_by}
 use Rattle.weight_model.specs.Blocks.{IsWeightOf}
 use Rattle.repair_model.specs.Made.{AreRepairsOf, EdgeTold, IsRepairOf, Repairs, weighed_edges}
+use Rattle.repair_maker.specs.Repaired.{IsRepaired}
 
 -- What holds of a good answer, by what the answer says.
 pub on_ok : {T E P Q : Type 0} (r : Result T E) → OnOk r P → (P → Q) → OnOk r Q
@@ -34,15 +35,23 @@ on_ok (Err e) p leads = tt
 -- ---- one function
 
 -- A network has an arc for each block and each edge.
-pub block_arcs_are : (blocks : List Block) (edges : List Edge) (weights edge_weights : List Weight) (net : Network)
+block_arcs_are : (blocks : List Block) (edges : List Edge) (weights edge_weights : List Weight) (net : Network)
     → net ≡ network_of blocks edges weights edge_weights → AreWeights (length blocks) weights → length blocks ≡ length net.blocks
 block_arcs_are blocks edges weights edge_weights net is weighed =
     subst (λ (n : Network). length blocks ≡ length n.blocks) (sym is) (sym (length-block_arcs 0 blocks weights weighed.each))
 
-pub edge_arcs_are : (blocks : List Block) (edges : List Edge) (weights edge_weights : List Weight) (net : Network)
+edge_arcs_are : (blocks : List Block) (edges : List Edge) (weights edge_weights : List Weight) (net : Network)
     → net ≡ network_of blocks edges weights edge_weights → AreWeights (length edges) edge_weights → length edges ≡ length net.edges
 edge_arcs_are blocks edges weights edge_weights net is weighed =
     subst (λ (n : Network). length edges ≡ length n.edges) (sym is) (sym (length-edge_arcs edges edge_weights weighed.each))
+
+pub repaired_blocks : {K : Type 0} (key : ℕ → Option K) (count : K → ℕ) (edges : Option EdgeTold) (fun : Function) (weights edge_weights : List Weight) (net : Network) (solved : Solved)
+    → IsRepaired key count edges fun weights edge_weights net solved → length fun.blocks ≡ length net.blocks
+repaired_blocks key count edges fun weights edge_weights net solved is = block_arcs_are fun.blocks fun.edges weights edge_weights net is.net_is is.small
+
+pub repaired_edges : {K : Type 0} (key : ℕ → Option K) (count : K → ℕ) (edges : Option EdgeTold) (fun : Function) (weights edge_weights : List Weight) (net : Network) (solved : Solved)
+    → IsRepaired key count edges fun weights edge_weights net solved → length fun.edges ≡ length net.edges
+repaired_edges key count edges fun weights edge_weights net solved is = edge_arcs_are fun.blocks fun.edges weights edge_weights net is.net_is is.edges_small
 
 -- What was solved is of the network.
 pub solved_of : (net : Network) (solved : Solved) → Solves net solved → IsOf net solved

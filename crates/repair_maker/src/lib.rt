@@ -1,11 +1,14 @@
-//! The repair of each function of a block text, written: by what samples say of its blocks and
-//! edges.
+//! The repair of each function of a block text: by what samples say of its blocks and edges.
 //!
-//! `write` weighs the blocks and edges of a function, makes its network, solves it and writes the
-//! repair, one function behind the other. Nothing of a function is kept for the next.
+//! Each function is weighed, its network made and solved, one behind the other: `write` appends the
+//! repairs as text, and `costs_of` adds up what they cost. Nothing of a function is kept for the
+//! next.
 #![tactic(auto)]
 
+mod costs;
 mod maker;
+mod repaired;
 mod weighed;
 
+pub use costs::{Costs, costs_of};
 pub use maker::write;

@@ -9,11 +9,9 @@ ghost use Rattle.key_types.specs.Segments.{AreSegments, key_told};
 ghost use Rattle.repair_model.specs.Made.{AreRepairsOf, IsRepairOf};
 ghost use Rattle.repair_maker.specs.Told.{edges_told};
 
-use crate::weighed::weighed;
-use block_weights::{EdgeSamples, weights};
+use crate::repaired::repair;
+use block_weights::EdgeSamples;
 use cfg_text::Fun;
-use flow_network::net_of;
-use flow_solver::solve;
 use key_types::Seg;
 use refusal::NoMemory;
 use std::alloc::Global;
@@ -66,12 +64,16 @@ fn write_one(
         × IsRepairOf (key_told segments.now) (count_in counts.now) (edges_told edges.entry)
         (function_of fun.now) text) }
 {
-    let weights = weights(alloc, fun, segments, counts)?;
-    let edge_weights = weighed(alloc, fun, edges, &weights)?;
-    let net = net_of(alloc, fun, &weights, &edge_weights)?;
-    let solved = solve(alloc, &net)?;
+    let made = repair(alloc, fun, segments, counts, edges)?;
     match edges {
-        Some(_) => repair_text::write(fun, &net, &weights, Some(&edge_weights), &solved, out),
-        None => repair_text::write(fun, &net, &weights, None, &solved, out),
+        Some(_) => repair_text::write(
+            fun,
+            &made.net,
+            &made.weights,
+            Some(&made.edge_weights),
+            &made.solved,
+            out,
+        ),
+        None => repair_text::write(fun, &made.net, &made.weights, None, &made.solved, out),
     }
 }

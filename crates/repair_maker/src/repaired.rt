@@ -1,0 +1,56 @@
+// The repair of a function, before anything is told of it.
+ghost use Rattle.std.specs.Prelude.{◌<◌, ◌^◌, IfOk};
+ghost use Rattle.std.specs.List.{All};
+ghost use Rattle.block_model.specs.Limits.{bound_bits};
+ghost use Rattle.flow_model.specs.Sound.{IsSound};
+ghost use Rattle.block_weights.specs.Counts.{count_in};
+ghost use Rattle.cfg_text.specs.Fun.{function_of};
+ghost use Rattle.key_types.specs.Segments.{AreSegments, key_told};
+ghost use Rattle.repair_maker.specs.Repaired.{IsRepaired};
+ghost use Rattle.repair_maker.specs.Told.{edges_told};
+
+use crate::weighed::weighed;
+use block_weights::{EdgeSamples, Weight, weights};
+use cfg_text::Fun;
+use flow_network::{Net, Solved, net_of};
+use flow_solver::solve;
+use key_types::Seg;
+use refusal::NoMemory;
+use std::alloc::Global;
+
+/// The weights of a function's blocks and edges, its network by these, and what repairs it.
+#[derive(Debug, Drop)]
+pub(crate) struct Repaired {
+    pub(crate) weights: Vec<Weight>,
+    pub(crate) edge_weights: Vec<Weight>,
+    pub(crate) net: Net,
+    pub(crate) solved: Solved,
+}
+
+/// Weighs a function and solves its network: counts of least cost with prices that fit them, or a
+/// cut.
+pub(crate) fn repair(
+    alloc: Global,
+    fun: &Fun<'_>,
+    segments: &[Seg],
+    counts: &[u64],
+    edges: Option<&EdgeSamples>,
+) -> Result<Repaired, NoMemory>
+    requires segments { AreSegments segments.now }
+    requires small { All (λ count. count < 2 ^ bound_bits) counts.now }
+    requires sound { IsSound fun.now.blocks fun.now.edges }
+    ensures { IfOk result (λ made. IsRepaired
+        (key_told segments.now) (count_in counts.now) (edges_told edges.entry)
+        (function_of fun.now) made.weights.items made.edge_weights.items made.net made.solved) }
+{
+    let weights = weights(alloc, fun, segments, counts)?;
+    let edge_weights = weighed(alloc, fun, edges, &weights)?;
+    let net = net_of(alloc, fun, &weights, &edge_weights)?;
+    let solved = solve(alloc, &net)?;
+    Ok(Repaired {
+        weights,
+        edge_weights,
+        net,
+        solved,
+    })
+}

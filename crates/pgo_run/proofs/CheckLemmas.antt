@@ -22,12 +22,12 @@ use Rattle.command_model.specs.Check.{checked_text}
 use Rattle.command_model.specs.Files.{Asked, first_bad_of_repair_text, functions_in, max_repair_bytes, named}
 use Rattle.pgo_run.proofs.BuildLemmas.{alone, not_above}
 
-pub asked_repairs : List ℕ → Asked
+abbrev pub asked_repairs : List ℕ → Asked
 asked_repairs name = record { source = named name; judge = λ before. first_bad_of_repair_text 2 (functions_in before) }
 
 -- What is said of the store at one time holds of it at another.
-pub said-behind : {P : Store → Type 0} (store was : Option Store) → was ≡ store → IfSome was P → IfSome store P
-said-behind {P} store was same is = subst (λ s. IfSome s P) same is
+pub said-behind : (P : Store → Type 0) (store was : Option Store) → was ≡ store → IfSome was P → IfSome store P
+said-behind P store was same is = subst (λ s. IfSome s P) same is
 
 -- A repair text within its size is judged by its lines.
 pub repairs_by_lines : (file : ℕ) (funs told : List Function) (text : List ℕ) → length text ≤ max_repair_bytes → told ≡ funs

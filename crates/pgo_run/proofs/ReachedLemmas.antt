@@ -246,7 +246,7 @@ Reached-all command store before text opens opens_now faults faults_after so_far
   where
     all-made : (store : Option Store) → IfSome store (λ files. answer_of_command files command ≡ answer_behind files (answer_of_good command) before []) → IfSome store (λ files. IsOutput command before text.items) → IfSome store (λ files. Makes files command (Ok text))
     all-made None answer is = tt
-    all-made (Some files) answer is = (before, answer, is)
+    all-made (Some files) answer is = (before, answer ∙ ap (λ failed. unless_failed failed (Answer.writes command before)) passes, is)
 
     unread : (store : Option Store) → IfSome store (λ files. IfReadFault {A = Vec ℕ} (Ok text) (AreGoodBefore files command))
     unread None = tt

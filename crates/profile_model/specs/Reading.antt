@@ -2,7 +2,7 @@
 -- other blanks than the spaces that stand here.
 use Rattle.std.specs.Prelude.{ℕ, ◌^◌, ◌==◌, nat_lt, nat_eq, Bool, ◌||◌, List, [], ◌∷◌, drop, codes, Option, None, Some, if◌then◌else◌}
 use Rattle.std.specs.List.{prefix_len, slice_split, starts_with}
-use Rattle.std.specs.Option.{option_map, option_or}
+use Rattle.std.specs.Option.{option_map}
 use Rattle.text_model.specs.LineTests.{is_blank_line}
 use Rattle.text_model.specs.Numbers.{decimal_of}
 use Rattle.profile_model.specs.Names.{is_name}
@@ -67,25 +67,26 @@ targets_of (word ∷ words) = do
   targets ← targets_of words
   Some (target ∷ targets)
 
--- A body line behind its location: COUNT, and targets.
-unfoldable pub body_of : ℕ → ℕ × ℕ → List ℕ → List (List ℕ) → Option Line
-body_of depth location word words = do
-  count ← number_within 64 word
-  targets ← targets_of words
-  Some (body_line depth location.0 location.1 count targets)
+-- A body line behind its count: targets.
+abbrev pub body_by : ℕ → ℕ × ℕ → ℕ → List (List ℕ) → Option Line
+body_by depth location count words = option_map (body_line depth location.0 location.1 count) (targets_of words)
 
 -- A call behind its location: CALLEE:TOTAL
 unfoldable pub call_of : ℕ → ℕ × ℕ → List ℕ → List (List ℕ) → Option Line
-call_of depth location word [] = do
-  callee ← named_of word
-  Some (call_line depth location.0 location.1 callee.0 callee.1)
+call_of depth location word [] =
+    option_map (λ callee. call_line depth location.0 location.1 callee.0 callee.1) (named_of word)
 call_of depth location word _ = None
+
+-- What stands behind a location: where the first word is a number, a body line's COUNT with targets; else a call.
+abbrev pub behind_location : ℕ → ℕ × ℕ → Option ℕ → List ℕ → List (List ℕ) → Option Line
+behind_location depth location None word words = call_of depth location word words
+behind_location depth location (Some count) word words = body_by depth location count words
 
 -- A line at a depth below 0: its location, and what stands behind it.
 unfoldable pub line_below : ℕ → List (List ℕ) → Option Line
 line_below depth (word ∷ next ∷ words) = do
   location ← location_of word
-  option_or (body_of depth location next words) (call_of depth location next words)
+  behind_location depth location (number_within 64 next) next words
 line_below depth _ = None
 
 -- NAME:TOTAL:HEAD

@@ -4,3 +4,4 @@ pub mod OrderedLemmas
 pub mod StepLemmas
 mod HitExamples
 pub mod HitLemmas
+mod ReadingExamples

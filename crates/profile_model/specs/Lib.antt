@@ -7,3 +7,10 @@ pub mod Ways
 pub mod Hits
 pub mod HitLaws
 pub mod Steps
+pub mod Names
+pub mod Reading
+pub mod Standing
+pub mod Judging
+pub mod Spelled
+pub mod Merge
+pub mod Summary

@@ -1,5 +1,6 @@
 //! What a sample profile says: how often addresses ran, the count of each place, which lines a
-//! profile has, in which order they stand, their totals, and how they are written.
+//! profile has, in which order they stand, their totals, and how they are written and read; sums of
+//! profiles, and how hot their lines are.
 //!
 //! A line stands at the end of a way: the function, the inlined calls that lead to it, and a line
 //! of the innermost. All rules are said of lists of counted things; no tree is there. The types of

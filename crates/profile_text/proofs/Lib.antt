@@ -1,1 +1,5 @@
 pub mod JoinLemmas
+pub mod NameLemmas
+pub mod PartLemmas
+pub mod SaidLemmas
+pub mod TargetLemmas

@@ -2,6 +2,8 @@
 #![tactic(auto)]
 
 mod line;
+mod parts;
+mod said;
 mod text;
 
 pub use text::write;

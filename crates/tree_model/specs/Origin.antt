@@ -1,7 +1,5 @@
 -- The name and the start line of an entry, which the attributes on its way say.
-use Rattle.std.specs.Prelude.{ℕ, Bool, false, not, ◌==◌, ◌&&◌, ◌||◌, nat_le, if◌then◌else◌, List, [], ◌∷◌, map, flat_map, find, Option, None, Some, Result, Ok, Err}
-use Rattle.std.specs.Char.{is_ascii_digit}
-use Rattle.std.specs.List.{list_any}
+use Rattle.std.specs.Prelude.{ℕ, ◌==◌, if◌then◌else◌, List, [], ◌∷◌, map, flat_map, find, Option, None, Some, Result, Ok, Err}
 use Rattle.std.specs.Option.{option_map_or, option_or}
 use Rattle.refusal.specs.declared.place.Place.{Place}
 use Rattle.value_model.specs.Value.{Value, const}
@@ -10,6 +8,7 @@ use Rattle.unit_model.specs.Constants.{DW_AT_MIPS_linkage_name, DW_AT_decl_line,
 use Rattle.unit_model.specs.Values.{Found}
 use Rattle.unit_model.specs.Entries.{Entry}
 use Rattle.unit_model.specs.Units.{Units}
+pub use Rattle.profile_model.specs.Names.{begins_no_name, is_name, parts_names}
 use Rattle.tree_model.specs.Bases.{at_value, bases_of_unit}
 use Rattle.tree_model.specs.Way.{Info, way}
 
@@ -34,19 +33,6 @@ abbrev pub naming : List Entry → Option Held
 naming way =
     option_or (first_on DW_AT_linkage_name way)
     (option_or (first_on DW_AT_MIPS_linkage_name way) (first_on DW_AT_name way))
-
--- A byte that no name has: white space and other control bytes, DEL, and the colon that parts names in a profile.
-abbrev pub parts_names : ℕ → Bool
-parts_names byte = nat_le byte 0x20 || byte == 0x7f || byte == 0x3a
-
--- A byte that no name begins with: `#` and `!`, which begin other lines of a profile, and digits.
-abbrev pub begins_no_name : ℕ → Bool
-begins_no_name byte = byte == 0x23 || byte == 0x21 || is_ascii_digit byte
-
--- A text that a profile can have as a name.
-abbrev pub is_name : List ℕ → Bool
-is_name [] = false
-is_name (byte ∷ bytes) = not (begins_no_name byte) && not (list_any parts_names (byte ∷ bytes))
 
 -- A text, where it is a name.
 abbrev pub as_name : Result (List ℕ) Place → Result (Option (List ℕ)) Place

@@ -1,9 +1,9 @@
 -- The lines of a repair pass their tests exactly where it repairs its network.
-use Rattle.std.proofs.Common.{◌≡◌, ℕ, suc, ◌+◌, ◌-◌, ◌<◌, ◌≤◌, ◌==◌, Bool, true, false, List, [], ◌∷◌, ◌++◌, length, map, refl, arith, ap, sym, ◌∙◌, subst, Option, Some, None, inl, inr, ◌⊎◌}
+use Rattle.std.proofs.Common.{◌≡◌, ℕ, ◌+◌, ◌-◌, ◌<◌, ◌==◌, Bool, true, false, List, [], ◌∷◌, ◌++◌, length, map, refl, arith, ap, sym, ◌∙◌, Option, Some, None, inl, inr, ◌⊎◌}
 use Rattle.std.specs.Prelude.{◌↔◌, ◌&&◌, ◌||◌, not, nat_le, nat_lt, ℤ, pos, ◌-ℤ◌, ◌≤ℤ◌, int_le}
 use Rattle.std.specs.Bool.{OnTrue}
 use Rattle.std.specs.List.{AllByRecursion}
-use Rattle.std.proofs.lemmas.Bool.{and_parts, and_from, or_cases, or_left, or_right, both_ways, not-true, leb-true, le-leb, ltb-true, lt-ltb, eqb-true, eq-eqb, cases_lt, cases_Bool, ltb-false, le-ltb}
+use Rattle.std.proofs.lemmas.Bool.{and_parts, and_from, or_cases, or_left, or_right, not-true, leb-true, le-leb, ltb-true, lt-ltb, eqb-true, eq-eqb, cases_lt, cases_Bool, ltb-false, le-ltb}
 use Rattle.std.proofs.lemmas.Int.{ints}
 use Rattle.block_model.specs.Judging.{exceeds}
 use Rattle.flow_model.specs.declared.arc.Arc.{Arc}
@@ -20,7 +20,7 @@ use Rattle.flow_model.proofs.NetLemmas.{length-block_arcs, length-edge_arcs}
 use Rattle.flow_model.proofs.PassLemmas.{tests_are_exact, tests_show_least}
 use Rattle.repair_model.specs.Laws.{HasShape, PassingLinesRepair}
 use Rattle.repair_model.specs.Made.{Repairs}
-use Rattle.repair_model.specs.Repair.{Repair, Solution, flow, cut}
+use Rattle.repair_model.specs.Repair.{Solution, flow, cut}
 use Rattle.repair_model.specs.Sides.{told_at}
 use Rattle.flow_model.specs.Network.{Network, Counts, arcs_of, free_arc, network_of}
 use Rattle.flow_model.specs.Passing.{AllTestsPass, AreCalls, IsEntered, IsLeft, PassesBlock, PassesEdge, came_by_edges, went_by_edges, is_entry, is_exit}

@@ -450,7 +450,7 @@ length-filled : (rest : List ℕ) → length (filter is_filled (rest ∷ [])) �
 length-filled [] = omega arith
 length-filled (b ∷ rest) = rw (lt-ltb 0 (length (b ∷ rest)) (omega arith)) (omega arith)
 
-lines_fewer : (text : List ℕ) → length (lines_of text) ≤ length text
+pub lines_fewer : (text : List ℕ) → length (lines_of text) ≤ length text
 lines_fewer text =
     let (rest, made) = lines_join text in
     omega (

@@ -1,13 +1,6 @@
 -- Lines with their numbers, first to last.
-use Rattle.std.proofs.Common.{◌≡◌, ℕ, suc, ◌≤◌, ◌+◌, List, [], ◌∷◌, ◌++◌, length, refl, arith, sym, ◌∙◌, ap}
-use Rattle.std.specs.List.{enumerate_from, flat_map}
-use Rattle.std.specs.Prelude.{filter}
-use Rattle.std.proofs.lemmas.Bool.{lt-ltb}
-use Rattle.std.proofs.lemmas.List.{length-append}
-use Rattle.text_model.specs.Fields.{is_filled}
-use Rattle.text_model.specs.Laws.{ended}
-use Rattle.text_model.specs.Lines.{lines_of, ended_lines_of}
-use Rattle.text_model.proofs.LawLemmas.{lines_join}
+use Rattle.std.proofs.Common.{◌≡◌, ℕ, suc, ◌+◌, List, [], ◌∷◌, length, refl, arith, sym, ◌∙◌, ap}
+use Rattle.std.specs.List.{enumerate_from}
 use Rattle.text_scan.specs.declared.lines.Line.{Line}
 use Rattle.text_scan.specs.Lines.{as_numbered}
 
@@ -48,26 +41,3 @@ no_rest n (line ∷ rest) none = absurd (cc)
 pub length-enumerated : (n : ℕ) (lines : List (List ℕ)) → length (enumerate_from n lines) ≡ length lines
 length-enumerated n [] = refl
 length-enumerated n (line ∷ lines) = ap suc (length-enumerated (n + 1) lines)
-
-length-ended : (lines : List (List ℕ)) → length lines ≤ length (flat_map ended lines)
-length-ended [] = omega arith
-length-ended (line ∷ lines) =
-    let more = length-ended lines in
-    omega (arith, more, length-append (ended line) (flat_map ended lines), length-append line (10 ∷ []))
-
-length-filled : (rest : List ℕ) → length (filter is_filled (rest ∷ [])) ≤ length rest
-length-filled [] = omega arith
-length-filled (b ∷ rest) = rw (lt-ltb 0 (length (b ∷ rest)) (omega arith)) (omega arith)
-
-pub lines_fewer : (text : List ℕ) → length (lines_of text) ≤ length text
-lines_fewer text =
-    let (rest, made) = lines_join text in
-    omega (
-      arith,
-      ap length made.joined,
-      ap length made.all,
-      length-append (flat_map ended (ended_lines_of text)) rest,
-      length-append (ended_lines_of text) (filter is_filled (rest ∷ [])),
-      length-ended (ended_lines_of text),
-      length-filled rest,
-    )

@@ -1,10 +1,8 @@
 -- What reading a line of a repair text leaves to read.
-use Rattle.std.proofs.Common.{◌≡◌, ℕ, suc, ◌<◌, ◌≤◌, ◌+◌, ◌^◌, Bool, true, false, List, [], ◌∷◌, ◌++◌, length, map, Option, Some, None, refl, arith, sym, ◌∙◌, ap, subst, append_assoc, Result, Ok, Err}
-use Rattle.std.specs.List.{enumerate_from}
+use Rattle.std.proofs.Common.{◌≡◌, ℕ, ◌<◌, ◌+◌, ◌^◌, Bool, true, false, List, [], ◌∷◌, ◌++◌, length, map, Option, Some, None, refl, arith, sym, ◌∙◌, ap, subst, append_assoc, Result, Ok, Err}
 use Rattle.std.specs.Option.{option_map}
-use Rattle.std.specs.Prelude.{◌||◌, is_some, nat_lt, not}
 use Rattle.std.specs.Str.{bytes_eq}
-use Rattle.std.proofs.lemmas.List.{append-nil, map-append}
+use Rattle.std.proofs.lemmas.List.{append-nil}
 use Rattle.refusal.specs.declared.kind.Kind.{Kind}
 use Rattle.refusal.specs.declared.kind.Kind.TheVariants.{BadLine, Missing}
 use Rattle.refusal.specs.declared.place.Place.{Place}
@@ -18,8 +16,9 @@ use Rattle.text_scan.specs.Lines.{as_numbered, numbered_lines}
 use Rattle.block_model.specs.Function.{Function}
 use Rattle.block_model.specs.Judging.{item}
 use Rattle.cfg_text.specs.Fun.{function_of}
-use Rattle.repair_text.proofs.NumberLemmas.{first_of, no_rest, length-enumerated, lines_fewer}
-use Rattle.repair_model.specs.Judging.{cause_inside, cause_of_begin, cause_of_line, cause_of_name, cause_outside, first_bad_of_repairs, is_unfinished, items_from}
+use Rattle.repair_model.proofs.WholeLemmas.{lines_fewer}
+use Rattle.repair_text.proofs.NumberLemmas.{first_of, no_rest, length-enumerated}
+use Rattle.repair_model.specs.Judging.{cause_inside, cause_of_begin, cause_of_line, cause_of_name, first_bad_of_repairs, is_unfinished, items_from}
 use Rattle.repair_model.specs.Line as model
 use Rattle.repair_model.specs.Line.{begins_function, line_of}
 use Rattle.repair_model.specs.Repair.{Repair, Solution, flow, cut}

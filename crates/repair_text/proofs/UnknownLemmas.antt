@@ -1,6 +1,5 @@
 -- As many unknown weights as a function has edges.
 use Rattle.std.proofs.Common.{◌≡◌, ◌<◌, ◌≤◌, ◌+◌, ◌^◌, ℕ, List, [], ◌∷◌, ◌++◌, length, map, take, refl, sym, ap, subst, ◌∙◌, arith, get_or}
-use Rattle.std.specs.Prelude.{None}
 use Rattle.std.proofs.lemmas.List.{length-map, map_push, take_all, take_more}
 use Rattle.std.proofs.lemmas.List.Elements.{All-from_get_or, All-map}
 use Rattle.block_model.specs.declared.parts.Edge.{Edge}

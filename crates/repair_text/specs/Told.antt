@@ -1,6 +1,5 @@
 -- What the code was told of a function so far.
-use Rattle.std.specs.Prelude.{ℕ, List, []}
-use Rattle.flow_model.specs.Network.{Counts as model_counts}
+use Rattle.std.specs.Prelude.{ℕ, []}
 use Rattle.repair_model.specs.Repair.{Repair, flow, cut}
 use Rattle.repair_text.specs.declared.open.Counts.{Counts}
 use Rattle.repair_text.specs.declared.open.Sides.{Sides}

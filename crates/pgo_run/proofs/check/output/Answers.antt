@@ -1,4 +1,4 @@
-use Rattle.std.proofs.Common.{[], ◌∷◌, ◌≡◌, ◌≤◌, ℕ, Err, Ok, ap, length, map, refl, subst, sym, ◌∙◌}
+use Rattle.std.proofs.Common.{[], ◌∷◌, ◌≡◌, ◌≤◌, ℕ, Err, Ok, arith, ap, length, map, refl, subst, sym, ◌∙◌}
 use Rattle.std.specs.List.{All, AllZip}
 use Rattle.std.specs.Global.{Vec}
 use Rattle.cfg_text.specs.Fun.{function_of}
@@ -133,9 +133,10 @@ returns-clause-carried g c =
     let third = Reached-more command _ (c.deref.result.now ∷ []) c.args.repairs.now (λ before. first_bad_of_repair_text 2 (functions_in before)) [] c.deref-2.result.now _ _ _ first
     (is-good _ c.args.repairs.now (first_bad_of_repair_text 2 (functions_in (c.deref.result.now ∷ []))) c.deref-2.result.now (said-behind _ _ _ c.read_file.ensures.store (is-there _ c.args.repairs.now 2 max_repair_bytes c.in_ok-repair_text.repair_text c.deref-2.result.now c.in_ok-repair_text.ensures.file c.deref-2.ensures.value))
     (repairs_by_lines 2 (functions_in (c.deref.result.now ∷ [])) (map function_of c.deref-3.result.now) c.deref-2.result.now within_2 same ∙ second.0)) c.in_ok-repair_text.ensures.opens in
+    let counted : c.len.result ≡ length c.in_ok-funs.funs.items = omega (arith, c.len.ensures, c.deref-4.ensures.len, ap length c.deref-4.ensures.value) in
     Reached-all command _ (c.deref.result.now ∷ c.deref-2.result.now ∷ []) c.in_ok-text.text _ _ _ _ third
     (failed_is c.deref.result.now c.deref-2.result.now (map function_of c.deref-4.result.now) (map numbered c.deref-5.result.now) c.in_ok-failed.failed c.in_ok-failed.ensures
     (ap (map function_of) c.deref-4.ensures.value ∙ read.1)
     (rw (c.deref-4.ensures.value, ← c.deref-3.ensures.value, c.deref-5.ensures.value) second.1) ∙ c.in_default.is)
-    (any-store _ (checked_is c.deref.result.now c.in_ok-text.text.items c.in_ok-funs.funs.items c.len.result read.1 c.len.ensures c.in_ok-text.ensures))
+    (any-store _ (checked_is c.deref.result.now c.in_ok-text.text.items c.in_ok-funs.funs.items c.len.result read.1 counted c.in_ok-text.ensures))
     (c.in_ok-repair_text.ensures.cause.0 ∙ c.in_ok-block_text.ensures.cause.0)

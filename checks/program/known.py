@@ -500,6 +500,15 @@ def builds():
         told=lambda out: b"%d %d " % (out.count(b"# block "), out.count(b"# edge ")) + b"".join(re.findall(rb"# end .*\n", out)),
         bin=ONE, perf=b"0x401000/0x9 0x9/0x401000\n", cfg=b"\n".join(widest),
     )
+    # Eight functions of as many blocks: a chain from the one that was sampled to the exit, through all others.
+    chain = [b"func chain", b"block 0 0x401000 0x401001"]
+    chain += [b"block %d 0x%x 0x%x%s" % (n, 0x500000 + n, 0x500001 + n, b" exit" if n == 1 else b"") for n in range(1, 65536)]
+    chain += [b"edge 0 65535"] + [b"edge %d %d" % (n, n - 1) for n in range(2, 65536)] + [b"end\n"]
+    chains = 8 * b"\n".join(chain)
+    judge(
+        "eight chains", (DONE, 8 * b"# end 65535\n", b""), ["build", "bin", "perf", "cfg"],
+        told=lambda out: b"".join(re.findall(rb"# end .*\n", out)), bin=ONE, perf=b"0x401000/0x9 0x9/0x401000\n", cfg=chains,
+    )
     for said, text, blocks, perf in [
         (b"file 3 at 2: BlockOrder", ONE, b"func a\nblock 1 0x1 0x2\n", b""),
         (b"file 3 at 2: BadBound", ONE, b"func a\nblock 0 0x1 0x2 lo=3 hi=2\n", b""),

@@ -1,5 +1,15 @@
+pub mod BodyLemmas
+pub mod CallLemmas
+pub mod CauseLemmas
+pub mod FunctionLemmas
 pub mod JoinLemmas
 pub mod NameLemmas
+pub mod OpenLemmas
 pub mod PartLemmas
+pub mod PathLemmas
+pub mod PutLemmas
 pub mod SaidLemmas
+pub mod SeenLemmas
+pub mod StampLemmas
 pub mod TargetLemmas
+pub mod ToldLemmas

@@ -1,5 +1,5 @@
 -- A body line, taken in.
-use Rattle.std.proofs.Common.{◌≡◌, ℕ, ◌≤◌, ◌++◌, true, false, List, [], ◌∷◌, Some, None, Ok, Err, map, length, refl, sym, ap, subst, arith, ◌∙◌, take, append-nil, append_assoc}
+use Rattle.std.proofs.Common.{◌≡◌, ℕ, ◌+◌, ◌≤◌, ◌++◌, true, false, List, [], ◌∷◌, Some, None, Ok, Err, map, length, refl, sym, ap, subst, arith, ◌∙◌, take, append-nil, append_assoc}
 use Rattle.std.specs.Prelude.{◌==◌, slice_get, slice_index, Option, Result}
 use Rattle.std.proofs.lemmas.Bool.{eqb-true, eqb-false}
 use Rattle.std.proofs.lemmas.List.{length_push, map-append}
@@ -20,7 +20,7 @@ use Rattle.profile_text.proofs.CauseLemmas.{Stands, cause_none, cause_way, cause
 use Rattle.profile_text.proofs.OpenLemmas.{path_more, kept_on, kept_grows, steps_grow, take_given, both_given}
 use Rattle.profile_text.proofs.SeenLemmas.{ways_more, seen_again, seen_first, seen_keys, seen_body}
 use Rattle.profile_text.proofs.ToldLemmas.{told_more}
-use Rattle.profile_text.specs.Draft.{Kept, AreGiven, AreSeen, IsPath, IsRead, TellNumbers, AreOld, AreTargetsPut, PutsTargets, JudgesLine, names_of, target_number}
+use Rattle.profile_text.specs.Draft.{Kept, AreGiven, AreGrown, AreSeen, IsPath, IsRead, TellNumbers, AreOld, AreTargetsPut, PutsTargets, JudgesLine, names_of, room_of, target_number}
 use Rattle.profile_text.specs.Path.{IsKeyAt}
 use Rattle.profile_text.specs.Stamps.{IsStamped}
 use Rattle.profile_text.specs.declared.draft.Draft.{Draft}
@@ -80,40 +80,50 @@ old_stamps names keys draft before numbers mid item is mid_is = record {
 pub body_read : (names more : List (List ℕ)) (keys more_keys : List Key) (draft after : Draft) (before : List Line) (numbers : List Number)
     (depth : ℕ) (location : Location) (key : Key) (id : KeyId) (at n : ℕ) (targets : List (List ℕ × ℕ)) (mid : List Item)
     → IsRead names keys draft before numbers → Stands (length draft.path) depth → IsKeyAt (take depth draft.path) location key → IsNumbered names
-    → Kept keys more_keys → IsNumbered more_keys → slice_get more_keys id.0 ≡ Some key → false ≡ (slice_index draft.places id.0 == 1)
+    → Kept keys more_keys → length more_keys ≤ length keys + 1 → IsNumbered more_keys → slice_get more_keys id.0 ≡ Some key → false ≡ (slice_index draft.places id.0 == 1)
     → IsStamped draft.places id.0 1 after.places → mid ≡ draft.items.items ++ record { line = at; what = Count id; times = n } ∷ []
     → after.path ≡ take depth draft.path → after.opened ≡ draft.opened
     → has_twice (names_of targets) ≡ false → AreTargetsPut names mid at id targets more after.called after.items.items
     → (cause_of before (body_line depth location.offset location.disc n targets) ≡ None)
-    × IsRead more more_keys after (body_line depth location.offset location.disc n targets ∷ before)
+    × (IsRead more more_keys after (body_line depth location.offset location.disc n targets ∷ before)
     (numbers ++ numbers_on at (way_of before (body_line depth location.offset location.disc n targets)) (body_line depth location.offset location.disc n targets))
-body_read names more keys more_keys draft after before numbers depth location key id at n targets mid is free at_key apart kept keys_apart there stood stamped mid_is path opened once put = (
+    × AreGrown (room_of (body_line depth location.offset location.disc n targets)) names keys draft.opened more more_keys after.opened)
+body_read names more keys more_keys draft after before numbers depth location key id at n targets mid is free at_key apart kept one_more keys_apart there stood stamped mid_is path opened once put = (
   cause_none before (body_line depth location.offset location.disc n targets) (length draft.path) (is.path.stands depth) free
       (seen_first names names is.ways before (steps_of key) (way_of before (body_line depth location.offset location.disc n targets)) apart is.are_ways (λ n x known. known) (omega arith)
       (body_given (length names) draft.path depth location key at_key is.path.given)
       (body_way names names draft.path before depth location key n targets is.path free.below at_key (λ n x known. known))
       (λ one. eqb-false (slice_index draft.places id.0) 1 (sym stood) ((seen.are_placed id.0 key there).1 one)))
       once,
-  record {
-    ways = steps_of key ∷ is.ways;
-    path = subst (λ (p : List NumberedStep). IsPath more p (body_line depth location.offset location.disc n targets ∷ before)) (append-nil (take depth draft.path) ∙ sym path)
-        (path_more names more draft.path before (body_line depth location.offset location.disc n targets) (at_line location.offset location.disc) is.path put.kept (kept_grows names more put.kept) free.below tt (λ last behind. refl));
-    are_ways = ways_more names more is.ways before (body_line depth location.offset location.disc n targets) (steps_of key) is.are_ways put.kept (kept_grows names more put.kept)
-        (steps_grow (length names) (length more) (kept_grows names more put.kept) (steps_of key) (body_given (length names) draft.path depth location key at_key is.path.given))
-        (λ last behind. body_way names last draft.path before depth location key n targets is.path free.below at_key (kept_on names more last put.kept behind));
-    seen = rw opened (seen_body more_keys is.ways draft.opened draft.places after.places id.0 key seen keys_apart there stamped);
-    stamps = put.low;
-    called = put.few;
-    told = record {
-      given = put.given (length more_keys) (slice_get_within more_keys id.0 key there) told.given;
-      tell = λ last last_keys behind keys_behind.
-          put.tell last last_keys behind
-          ∙ ap (λ ns. ns ++ map (target_number at (way_at last last_keys id.0)) targets) (told.tell last last_keys (kept_on names more last put.kept behind) keys_behind)
-          ∙ ap (λ way. (numbers ++ record { line = at; what = count (way_of before (body_line depth location.offset location.disc n targets)); times = n } ∷ []) ++ map (target_number at way) targets)
-          (key_way last last_keys (kept_on names more last put.kept behind) keys_behind)
-          ∙ append_assoc numbers (record { line = at; what = count (way_of before (body_line depth location.offset location.disc n targets)); times = n } ∷ []) (map (target_number at (way_of before (body_line depth location.offset location.disc n targets))) targets);
-    };
-  },
+  (
+    record {
+      ways = steps_of key ∷ is.ways;
+      path = subst (λ (p : List NumberedStep). IsPath more p (body_line depth location.offset location.disc n targets ∷ before)) (append-nil (take depth draft.path) ∙ sym path)
+          (path_more names more draft.path before (body_line depth location.offset location.disc n targets) (at_line location.offset location.disc) is.path put.kept (kept_grows names more put.kept) free.below tt (λ last behind. refl));
+      are_ways = ways_more names more is.ways before (body_line depth location.offset location.disc n targets) (steps_of key) is.are_ways put.kept (kept_grows names more put.kept)
+          (steps_grow (length names) (length more) (kept_grows names more put.kept) (steps_of key) (body_given (length names) draft.path depth location key at_key is.path.given))
+          (λ last behind. body_way names last draft.path before depth location key n targets is.path free.below at_key (kept_on names more last put.kept behind));
+      seen = rw opened (seen_body more_keys is.ways draft.opened draft.places after.places id.0 key seen keys_apart there stamped);
+      stamps = put.low;
+      called = put.few;
+      told = record {
+        given = put.given (length more_keys) (slice_get_within more_keys id.0 key there) told.given;
+        tell = λ last last_keys behind keys_behind.
+            put.tell last last_keys behind
+            ∙ ap (λ ns. ns ++ map (target_number at (way_at last last_keys id.0)) targets) (told.tell last last_keys (kept_on names more last put.kept behind) keys_behind)
+            ∙ ap (λ way. (numbers ++ record { line = at; what = count (way_of before (body_line depth location.offset location.disc n targets)); times = n } ∷ []) ++ map (target_number at way) targets)
+            (key_way last last_keys (kept_on names more last put.kept behind) keys_behind)
+            ∙ append_assoc numbers (record { line = at; what = count (way_of before (body_line depth location.offset location.disc n targets)); times = n } ∷ []) (map (target_number at (way_of before (body_line depth location.offset location.disc n targets))) targets);
+      };
+    },
+    record {
+      names_kept = put.kept;
+      keys_kept = kept;
+      few_names = omega (arith, put.one_each);
+      few_keys = omega (arith, one_more);
+      few_opened = rw opened (omega arith);
+    },
+  ),
 )
   where
     seen : AreSeen more_keys is.ways draft.opened draft.places

@@ -1,5 +1,5 @@
 -- A function's line, taken in.
-use Rattle.std.proofs.Common.{◌≡◌, ℕ, ◌≤◌, ◌++◌, true, false, List, [], ◌∷◌, Some, None, map, length, refl, sym, ap, arith, ◌∙◌}
+use Rattle.std.proofs.Common.{◌≡◌, ℕ, ◌+◌, ◌≤◌, ◌++◌, true, false, List, [], ◌∷◌, Some, None, map, length, refl, sym, ap, arith, ◌∙◌}
 use Rattle.std.specs.Prelude.{slice_get, nat_le}
 use Rattle.std.proofs.lemmas.Option.{slice_get_within}
 use Rattle.std.proofs.lemmas.List.{length_push}
@@ -17,7 +17,7 @@ use Rattle.profile_text.proofs.CauseLemmas.{Stands, cause_none, cause_way}
 use Rattle.profile_text.proofs.OpenLemmas.{name_kept, path_more}
 use Rattle.profile_text.proofs.SeenLemmas.{ways_more, seen_again, seen_first, seen_opened, opened_fresh, opened_before}
 use Rattle.profile_text.proofs.ToldLemmas.{told_more}
-use Rattle.profile_text.specs.Draft.{Kept, IsOneOf, AreSeen, IsRead, IsOpened}
+use Rattle.profile_text.specs.Draft.{Kept, IsOneOf, AreSeen, AreGrown, IsRead, IsOpened, room_of}
 use Rattle.profile_text.specs.Path.{opening}
 use Rattle.profile_text.specs.declared.draft.Draft.{Draft}
 use Rattle.profile_text.specs.declared.item.What.TheVariants.{Head}
@@ -65,36 +65,46 @@ function_again names more keys draft before numbers id name total n opened is ke
     (one_of_before keys is.ways draft.opened opened draft.places (at_function id.0 ∷ []) is.seen old))
 
 pub function_read : (names more : List (List ℕ)) (keys : List Key) (draft after : Draft) (before : List Line) (numbers : List Number) (id : NameId) (name : List ℕ) (at total n : ℕ)
-    → IsRead names keys draft before numbers → Kept names more → length names ≤ length more → IsNumbered more → slice_get more id.0 ≡ Some name
+    → IsRead names keys draft before numbers → Kept names more → length names ≤ length more → length more ≤ length names + 1 → IsNumbered more → slice_get more id.0 ≡ Some name
     → IsOpened (at_function id.0 ∷ []) draft.opened true after.opened
     → after.path ≡ at_function id.0 ∷ [] → after.places ≡ draft.places → after.called ≡ draft.called
     → after.items.items ≡ draft.items.items ++ record { line = at; what = Head id; times = n } ∷ []
     → (cause_of before (function_line name total n) ≡ None)
-    × IsRead more keys after (function_line name total n ∷ before) (numbers ++ numbers_on at (way_of before (function_line name total n)) (function_line name total n))
+    × (IsRead more keys after (function_line name total n ∷ before) (numbers ++ numbers_on at (way_of before (function_line name total n)) (function_line name total n))
+    × AreGrown (room_of (function_line name total n)) names keys draft.opened more keys after.opened)
 unfolding again_among
-function_read names more keys draft after before numbers id name at total n is kept grown apart there fresh path places called items = (
+function_read names more keys draft after before numbers id name at total n is kept grown one_more apart there fresh path places called items = (
   cause_none before (function_line name total n) (length draft.path) (can_begin names keys draft before numbers is) (free (length draft.path))
       (seen_first names more is.ways before (at_function id.0 ∷ []) (way_of before (function_line name total n)) apart is.are_ways kept grown
       (slice_get_within more id.0 name there, tt)
       (function_way names more more keys draft before numbers id.0 name total n is kept there (λ n x known. known))
       (none_before keys is.ways draft.opened after.opened draft.places (at_function id.0 ∷ []) is.seen fresh))
       refl,
-  record {
-    ways = (at_function id.0 ∷ []) ∷ is.ways;
-    path = rw path
-        (path_more names more draft.path before (function_line name total n) (at_function id.0) is.path kept grown (omega arith)
-        (slice_get_within more id.0 name there)
-        (λ last behind. ap to_function (name_kept more last id.0 name behind there)));
-    are_ways = ways_more names more is.ways before (function_line name total n) (at_function id.0 ∷ []) is.are_ways kept grown
-        (slice_get_within more id.0 name there, tt)
-        (λ last behind. function_way names more last keys draft before numbers id.0 name total n is kept there behind);
-    seen = rw places (seen_opened keys is.ways draft.opened after.opened draft.places (at_function id.0 ∷ []) is.seen fresh);
-    stamps = λ m. rw (called, items) (omega (arith, is.stamps m, length_push draft.items.items (record { line = at; what = Head id; times = n })));
-    called = rw called (omega (arith, is.called, grown));
-    told = rw items
-        (told_more names more keys keys draft.items.items numbers (record { line = at; what = Head id; times = n })
-        (record { line = at; what = head name; times = n }) is.told kept grown (λ n x known. known) (omega arith)
-        (slice_get_within more id.0 name there)
-        (λ last last_keys behind keys_behind. ap (λ m. record { line = at; what = head m; times = n }) (name_kept more last id.0 name behind there)));
-  },
+  (
+    record {
+      ways = (at_function id.0 ∷ []) ∷ is.ways;
+      path = rw path
+          (path_more names more draft.path before (function_line name total n) (at_function id.0) is.path kept grown (omega arith)
+          (slice_get_within more id.0 name there)
+          (λ last behind. ap to_function (name_kept more last id.0 name behind there)));
+      are_ways = ways_more names more is.ways before (function_line name total n) (at_function id.0 ∷ []) is.are_ways kept grown
+          (slice_get_within more id.0 name there, tt)
+          (λ last behind. function_way names more last keys draft before numbers id.0 name total n is kept there behind);
+      seen = rw places (seen_opened keys is.ways draft.opened after.opened draft.places (at_function id.0 ∷ []) is.seen fresh);
+      stamps = λ m. rw (called, items) (omega (arith, is.stamps m, length_push draft.items.items (record { line = at; what = Head id; times = n })));
+      called = rw called (omega (arith, is.called, grown));
+      told = rw items
+          (told_more names more keys keys draft.items.items numbers (record { line = at; what = Head id; times = n })
+          (record { line = at; what = head name; times = n }) is.told kept grown (λ n x known. known) (omega arith)
+          (slice_get_within more id.0 name there)
+          (λ last last_keys behind keys_behind. ap (λ m. record { line = at; what = head m; times = n }) (name_kept more last id.0 name behind there)));
+    },
+    record {
+      names_kept = kept;
+      keys_kept = λ n x known. known;
+      few_names = one_more;
+      few_keys = omega arith;
+      few_opened = fresh.one_more;
+    },
+  ),
 )

@@ -3,13 +3,16 @@ pub mod CallLemmas
 pub mod CauseLemmas
 pub mod FunctionLemmas
 pub mod JoinLemmas
+pub mod LineLemmas
 pub mod NameLemmas
 pub mod OpenLemmas
 pub mod PartLemmas
 pub mod PathLemmas
 pub mod PutLemmas
+pub mod RoomLemmas
 pub mod SaidLemmas
 pub mod SeenLemmas
 pub mod StampLemmas
 pub mod TargetLemmas
+pub mod TextLemmas
 pub mod ToldLemmas

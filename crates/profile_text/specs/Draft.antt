@@ -7,11 +7,13 @@ use Rattle.refusal.specs.Place.{first_cause}
 use Rattle.key_types.specs.Numbers.{Adds, IsNumbered}
 use Rattle.key_types.specs.declared.ids.KeyId.{KeyId}
 use Rattle.key_types.specs.declared.key.Key.{Key}
-use Rattle.profile_model.specs.Judging.{max_depth, cause_of}
+use Rattle.profile_model.specs.Judging.{max_depth, cause_of, cause_of_line, with_line}
 use Rattle.profile_model.specs.Profile.{Line}
-use Rattle.profile_model.specs.Spelled.{Number, head, count, target, numbers_on}
+use Rattle.profile_model.specs.Reading.{line_of}
+use Rattle.text_scan.specs.declared.lines.Line.{Line as TextLine}
+use Rattle.profile_model.specs.Spelled.{Number, head, count, target, numbers_on, numbers_of_line}
 use Rattle.profile_model.specs.Spelled as told
-use Rattle.profile_model.specs.Standing.{can_stand, way_above, way_of, ways_of, again_among, has_twice}
+use Rattle.profile_model.specs.Standing.{can_stand, way_above, way_of, ways_of, targets_on, again_among, has_twice}
 use Rattle.profile_model.specs.Ways.{Way}
 use Rattle.profile_tree.specs.Said.{way_at}
 use Rattle.profile_tree.specs.Steps.{NumberedStep, at_function, at_line, at_call, name_at, named, steps_of}
@@ -112,7 +114,9 @@ pub record TargetsSoFar
   pub rest : again_among [] (names_of (targets ++ left)) ≡ again_among done (names_of left)
 
 -- Targets are put where no name stands twice.
-abbrev pub PutsTargets : List (List ℕ) → List Item → ℕ → KeyId → List (List ℕ × ℕ) → Result (Unit {0}) DraftStop → List (List ℕ) → List ℕ → List Item → Type 0
+abbrev pub PutsTargets :
+    List (List ℕ) → List Item → ℕ → KeyId → List (List ℕ × ℕ) → Result (Unit {0}) DraftStop
+    → List (List ℕ) → List ℕ → List Item → Type 0
 PutsTargets names items at key targets (Ok done) more stamps after =
     (has_twice (names_of targets) ≡ false) × AreTargetsPut names items at key targets more stamps after
 PutsTargets names items at key targets (Err (Refused kind)) more stamps after =
@@ -159,6 +163,14 @@ pub record IsRead
   pub called : length draft.called ≤ length names
   pub told : TellNumbers names keys draft.items.items numbers
 
+-- Nothing was read.
+pub record IsNew (draft : Draft) : Type 0 where
+  pub path : draft.path ≡ []
+  pub opened : draft.opened ≡ []
+  pub places : draft.places ≡ []
+  pub called : draft.called ≡ []
+  pub items : draft.items.items ≡ []
+
 -- ---- one line more
 
 -- Why a line of this depth is refused where so many lines are open.
@@ -171,12 +183,28 @@ JudgesLine cause (Ok done) P = (cause ≡ None) × P
 JudgesLine cause (Err (Refused kind)) P = cause ≡ Some kind
 JudgesLine cause (Err NoMemory) P = ⊤
 
+-- Names, keys and opened lines grew, each by no more than so many, and kept their numbers.
+pub record AreGrown
+    (room : ℕ) (names : List (List ℕ)) (keys opened : List Key) (more : List (List ℕ)) (more_keys more_opened : List Key)
+    : Type 0 where
+  pub names_kept : Kept names more
+  pub keys_kept : Kept keys more_keys
+  pub few_names : length more ≤ length names + room
+  pub few_keys : length more_keys ≤ length keys + room
+  pub few_opened : length more_opened ≤ length opened + room
+
+-- How many names a line can have.
+abbrev pub room_of : Line → ℕ
+room_of line = 1 + length (targets_on line)
+
 -- A line is taken in behind those that were read.
-abbrev pub TakesIn : List (List ℕ) → List Key → Draft → ℕ → Line → Result (Unit {0}) DraftStop → List (List ℕ) → List Key → Draft → Type 0
+abbrev pub TakesIn :
+    List (List ℕ) → List Key → Draft → ℕ → Line → Result (Unit {0}) DraftStop → List (List ℕ) → List Key → Draft → Type 0
 TakesIn names keys draft at line result more more_keys after =
     (before : List Line) (numbers : List Number) → IsRead names keys draft before numbers
     → JudgesLine (cause_of before line) result
-    (IsRead more more_keys after (line ∷ before) (numbers ++ numbers_on at (way_of before line) line))
+    (IsRead more more_keys after (line ∷ before) (numbers ++ numbers_on at (way_of before line) line)
+    × AreGrown (room_of line) names keys draft.opened more more_keys after.opened)
 
 -- The key of a path was added to those of lines that were opened; whether it is the first one.
 pub record IsOpened (path : List NumberedStep) (opened : List Key) (fresh : Bool) (more : List Key) : Type 0 where
@@ -190,3 +218,13 @@ pub record IsOpened (path : List NumberedStep) (opened : List Key) (fresh : Bool
   pub there : slice_get more at ≡ Some key
   pub is_fresh : fresh ≡ nat_lt (length opened) (length more)
   pub one_more : length more ≤ length opened + 1
+
+-- The same for a line in bytes, which can have the form of none.
+abbrev pub TakesLine :
+    List (List ℕ) → List Key → Draft → TextLine → Result (Unit {0}) DraftStop → List (List ℕ) → List Key → Draft → Type 0
+TakesLine names keys draft line result more more_keys after =
+    (before : List Line) (numbers : List Number) → IsRead names keys draft before numbers
+    → JudgesLine (cause_of_line before (line_of line.bytes.now)) result
+    (IsRead more more_keys after (with_line before (line_of line.bytes.now))
+    (numbers ++ numbers_of_line line.number before (line_of line.bytes.now))
+    × AreGrown (length line.bytes.now) names keys draft.opened more more_keys after.opened)

@@ -3,3 +3,4 @@ pub mod Said
 pub mod Stamps
 pub mod Path
 pub mod Draft
+pub mod Text

@@ -6,11 +6,11 @@ ghost use Rattle.profile_text.specs.Draft as spec;
 ghost use Rattle.profile_text.specs.Said.{pair_of};
 ghost use Rattle.profile_text.specs.declared.draft.DraftStop.TheVariants.{NoMemory as no_memory};
 
-use crate::item::{Item, What};
+use crate::item::{Item, Profile, What};
 use crate::path::Path;
 use crate::said::{Location, Named};
 use crate::stamps::Stamps;
-use key_types::{Frame, KeyId, Keys, NameId, Names};
+use key_types::{Chain, Frame, KeyId, Keys, Names};
 use refusal::{Kind, NoMemory};
 use std::alloc::{AllocFailed, Global};
 
@@ -51,6 +51,28 @@ pub(crate) struct Draft {
 }
 
 impl Draft {
+    /// Nothing was read.
+    pub(crate) fn new(alloc: Global) -> Result<Draft, NoMemory>
+        ensures { IfOk result spec.IsNew }
+    {
+        Ok(Draft {
+            path: Path::new(alloc),
+            opened: Keys::new(alloc)?,
+            places: Stamps::new(alloc),
+            called: Stamps::new(alloc),
+            items: Vec::new(alloc),
+        })
+    }
+
+    /// The numbers that were read.
+    pub(crate) fn close(self) -> Profile
+        ensures { result.items ≡ self.items.items }
+    {
+        Profile {
+            items: Chain::new(self.items),
+        }
+    }
+
     /// Takes in a function's line.
     pub(crate) fn add_function<'a>(
         &mut self,
@@ -119,8 +141,8 @@ impl Draft {
         requires names { length names.old < 2 ^ 32 - 1 }
         requires opened { length self.old.opened < 2 ^ 32 - 1 }
         ensures read { (keys : List Key) (at : ℕ) → spec.TakesIn names.old keys self.old at
-            (call_line depth location.offset location.disc callee.entry.name.now callee.entry.times) result
-            names.new keys self.new }
+            (call_line depth location.offset location.disc callee.entry.name.now
+            callee.entry.times) result names.new keys self.new }
     {
         if let Some(kind) = cause_of_depth(&self.path, depth) {
             return Err(DraftStop::Refused(kind));

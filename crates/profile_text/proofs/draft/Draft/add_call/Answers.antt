@@ -33,7 +33,7 @@ returns c =
     record {
       read = λ keys at before numbers is.
           call_read c.args.names.now c.add.new.self keys c.args.self.now _ before numbers c.args.depth c.args.location c.in_ok-name.name c.args.callee.name.now at c.args.callee.times
-          is free c.in_ok-name.ensures.added.kept c.in_ok-name.ensures.numbered c.in_ok-name.ensures.number
+          is free c.in_ok-name.ensures.added.kept c.in_ok-name.ensures.one_more c.in_ok-name.ensures.numbered c.in_ok-name.ensures.number
           (subst (λ (b : Bool). IsOpened (take c.args.depth c.args.self.now.path ++ at_call c.args.location.offset c.args.location.disc c.in_ok-name.name.0 ∷ []) c.args.self.now.opened b c.open_first.new.opened) c.if-not-branch.false opened)
           path refl refl refl;
     }

@@ -21,7 +21,7 @@ returns c =
     record {
       read = λ keys total before numbers is.
           function_read c.args.names.now c.add.new.self keys c.args.self.now _ before numbers c.in_ok-id.id c.args.name.now c.args.at total c.args.head
-          is c.in_ok-id.ensures.added.kept (kept_grows _ _ c.in_ok-id.ensures.added.kept) (c.in_ok-id.ensures.numbered) c.in_ok-id.ensures.number
+          is c.in_ok-id.ensures.added.kept (kept_grows _ _ c.in_ok-id.ensures.added.kept) c.in_ok-id.ensures.one_more (c.in_ok-id.ensures.numbered) c.in_ok-id.ensures.number
           (subst (λ (b : Bool). IsOpened (at_function c.in_ok-id.id.0 ∷ []) c.args.self.now.opened b c.open_first.new.opened) c.if-not-branch.false opened)
           c.begin.ensures refl refl c.in_ok-put.ensures;
     }

@@ -65,7 +65,9 @@ abbrev pub IsGivenItem : ℕ → ℕ → Item → Type 0
 IsGivenItem names keys item = IsGivenWhat names keys item.what
 
 -- Items tell these numbers, also when more names and keys are added.
-pub record TellNumbers (names : List (List ℕ)) (keys : List Key) (items : List Item) (numbers : List Number) : Type 0 where
+pub record TellNumbers
+    (names : List (List ℕ)) (keys : List Key) (items : List Item) (numbers : List Number)
+    : Type 0 where
   pub given : AllByRecursion (IsGivenItem (length names) (length keys)) items
   pub tell : (more : List (List ℕ)) (more_keys : List Key) → Kept names more → Kept keys more_keys
       → map (number_told more more_keys) items ≡ numbers
@@ -144,7 +146,9 @@ pub record AreWays (names : List (List ℕ)) (ways : List (List NumberedStep)) (
 
 -- The keys of lines that can be open, which stand for their steps alone, are those of such lines; the stamped keys are
 -- those of the body lines.
-pub record AreSeen (keys : List Key) (ways : List (List NumberedStep)) (opened : List Key) (places : List ℕ) : Type 0 where
+pub record AreSeen
+    (keys : List Key) (ways : List (List NumberedStep)) (opened : List Key) (places : List ℕ)
+    : Type 0 where
   pub are_opened : (key : Key) → key.offset ≡ 0 → key.disc ≡ 0 → Contains opened key ↔ IsOneOf (opening key) ways
   pub are_placed : (k : ℕ) (key : Key) → slice_get keys k ≡ Some key
       → (slice_index places k ≡ 1) ↔ IsOneOf (steps_of key) ways
@@ -185,7 +189,8 @@ JudgesLine cause (Err NoMemory) P = ⊤
 
 -- Names, keys and opened lines grew, each by no more than so many, and kept their numbers.
 pub record AreGrown
-    (room : ℕ) (names : List (List ℕ)) (keys opened : List Key) (more : List (List ℕ)) (more_keys more_opened : List Key)
+    (room : ℕ) (names : List (List ℕ)) (keys opened : List Key)
+    (more : List (List ℕ)) (more_keys more_opened : List Key)
     : Type 0 where
   pub names_kept : Kept names more
   pub keys_kept : Kept keys more_keys
@@ -199,7 +204,8 @@ room_of line = 1 + length (targets_on line)
 
 -- A line is taken in behind those that were read.
 abbrev pub TakesIn :
-    List (List ℕ) → List Key → Draft → ℕ → Line → Result (Unit {0}) DraftStop → List (List ℕ) → List Key → Draft → Type 0
+    List (List ℕ) → List Key → Draft → ℕ → Line → Result (Unit {0}) DraftStop
+    → List (List ℕ) → List Key → Draft → Type 0
 TakesIn names keys draft at line result more more_keys after =
     (before : List Line) (numbers : List Number) → IsRead names keys draft before numbers
     → JudgesLine (cause_of before line) result
@@ -221,7 +227,8 @@ pub record IsOpened (path : List NumberedStep) (opened : List Key) (fresh : Bool
 
 -- The same for a line in bytes, which can have the form of none.
 abbrev pub TakesLine :
-    List (List ℕ) → List Key → Draft → TextLine → Result (Unit {0}) DraftStop → List (List ℕ) → List Key → Draft → Type 0
+    List (List ℕ) → List Key → Draft → TextLine → Result (Unit {0}) DraftStop
+    → List (List ℕ) → List Key → Draft → Type 0
 TakesLine names keys draft line result more more_keys after =
     (before : List Line) (numbers : List Number) → IsRead names keys draft before numbers
     → JudgesLine (cause_of_line before (line_of line.bytes.now)) result

@@ -13,7 +13,7 @@ use Rattle.profile_model.specs.Merge.{merge_text, merged, sum_of, sum_items, fir
 use Rattle.profile_model.specs.Profile.{function_line, body_line, call_line, lines_of as profile_lines}
 use Rattle.profile_model.specs.Reading.{number_within, named_of, location_of, targets_of, call_of, line_below, function_of, is_passed, line_of}
 use Rattle.profile_model.specs.Spelled.{count, number_in, numbers_from, profile_by, spelled}
-use Rattle.profile_model.specs.Standing.{can_stand, way_above, ways_of, tells_again}
+use Rattle.profile_model.specs.Standing.{can_stand, way_above, ways_of, tells_again, again_among}
 use Rattle.profile_model.specs.Summary.{summary_text, summary_by}
 use Rattle.profile_model.specs.Text.{indent, text_of_lines}
 use Rattle.profile_model.specs.Ways.{to_function, to_body, to_call}
@@ -36,7 +36,7 @@ five_branches =
     codes "f0000:7:1\n 0: 1\n 1: 1\n 2.2: 2\n 3: 2 f0000:1\n 2.1: g:1\n  1: 1\n# branches 5\n# inside 4\n"
 
 it_is_good : first_bad_of_profile 1 five_branches ≡ None
-unfolding is_passed fields_of lines_of kept_lines items_from cause_of can_stand way_above ways_of tells_again number_of number_within named_of location_of targets_of call_of line_below function_of line_of
+unfolding is_passed fields_of lines_of kept_lines items_from cause_of can_stand way_above ways_of tells_again again_among number_of number_within named_of location_of targets_of call_of line_below function_of line_of
 it_is_good = refl
 
 its_targets :
@@ -70,58 +70,58 @@ at line kind = Some (record { file = 1; at = line; kind = kind })
 
 -- `.0` tells of the same key.
 a_key_twice : first_bad_of_profile 1 (codes "a:1:0\n 1: 1\n 1.0: 1\n") ≡ at 3 KeyTwice
-unfolding at is_passed fields_of lines_of kept_lines items_from cause_of can_stand way_above ways_of tells_again number_of number_within named_of location_of targets_of call_of line_below function_of line_of
+unfolding at is_passed fields_of lines_of kept_lines items_from cause_of can_stand way_above ways_of tells_again again_among number_of number_within named_of location_of targets_of call_of line_below function_of line_of
 a_key_twice = refl
 
 an_indentation_that_skips : first_bad_of_profile 1 (codes "a:1:0\n  1: 1\n") ≡ at 2 BadIndent
-unfolding at is_passed fields_of lines_of kept_lines items_from cause_of can_stand way_above ways_of tells_again number_of number_within named_of location_of targets_of call_of line_below function_of line_of
+unfolding at is_passed fields_of lines_of kept_lines items_from cause_of can_stand way_above ways_of tells_again again_among number_of number_within named_of location_of targets_of call_of line_below function_of line_of
 an_indentation_that_skips = refl
 
 -- A body line and a call of one location are not the same thing, nor are calls of two functions; and a location may
 -- stand again below another call and in another function.
 locations_apart :
     first_bad_of_profile 1 (codes "a:1:0\n 1: 1\n 1: b:1\n  1: 1\n 1: c:1\n  1: 1\n 1.1: b:1\nb:1:0\n 1: 1\n") ≡ None
-unfolding at is_passed fields_of lines_of kept_lines items_from cause_of can_stand way_above ways_of tells_again number_of number_within named_of location_of targets_of call_of line_below function_of line_of
+unfolding at is_passed fields_of lines_of kept_lines items_from cause_of can_stand way_above ways_of tells_again again_among number_of number_within named_of location_of targets_of call_of line_below function_of line_of
 locations_apart = refl
 
 a_call_twice : first_bad_of_profile 1 (codes "a:1:0\n 1: b:1\n 2: 1\n 1.0: b:1\n") ≡ at 4 KeyTwice
-unfolding at is_passed fields_of lines_of kept_lines items_from cause_of can_stand way_above ways_of tells_again number_of number_within named_of location_of targets_of call_of line_below function_of line_of
+unfolding at is_passed fields_of lines_of kept_lines items_from cause_of can_stand way_above ways_of tells_again again_among number_of number_within named_of location_of targets_of call_of line_below function_of line_of
 a_call_twice = refl
 
 a_function_twice : first_bad_of_profile 1 (codes "a:1:0\nb:1:0\na:0:0\n") ≡ at 3 KeyTwice
-unfolding at is_passed fields_of lines_of kept_lines items_from cause_of can_stand way_above ways_of tells_again number_of number_within named_of location_of targets_of call_of line_below function_of line_of
+unfolding at is_passed fields_of lines_of kept_lines items_from cause_of can_stand way_above ways_of tells_again again_among number_of number_within named_of location_of targets_of call_of line_below function_of line_of
 a_function_twice = refl
 
 a_target_twice : first_bad_of_profile 1 (codes "a:1:0\n 1: 1 b:1 a:1 b:0\n") ≡ at 2 KeyTwice
-unfolding at is_passed fields_of lines_of kept_lines items_from cause_of can_stand way_above ways_of tells_again number_of number_within named_of location_of targets_of call_of line_below function_of line_of
+unfolding at is_passed fields_of lines_of kept_lines items_from cause_of can_stand way_above ways_of tells_again again_among number_of number_within named_of location_of targets_of call_of line_below function_of line_of
 a_target_twice = refl
 
 -- A body line encloses nothing, and closes a call that is as deep.
 a_body_line_closes_a_call : first_bad_of_profile 1 (codes "a:1:0\n 1: b:1\n 2: 1\n  1: 1\n") ≡ at 4 BadIndent
-unfolding at is_passed fields_of lines_of kept_lines items_from cause_of can_stand way_above ways_of tells_again number_of number_within named_of location_of targets_of call_of line_below function_of line_of
+unfolding at is_passed fields_of lines_of kept_lines items_from cause_of can_stand way_above ways_of tells_again again_among number_of number_within named_of location_of targets_of call_of line_below function_of line_of
 a_body_line_closes_a_call = refl
 
 -- Lines that are passed over close nothing.
 comments_close_nothing : first_bad_of_profile 1 (codes "# all\na:1:0\n 1: b:1\n\n \t\n# b\n # b\n  1: 1\n") ≡ None
-unfolding at is_passed fields_of lines_of kept_lines items_from cause_of can_stand way_above ways_of tells_again number_of number_within named_of location_of targets_of call_of line_below function_of line_of
+unfolding at is_passed fields_of lines_of kept_lines items_from cause_of can_stand way_above ways_of tells_again again_among number_of number_within named_of location_of targets_of call_of line_below function_of line_of
 comments_close_nothing = refl
 
 nothing_is_open_at_first : first_bad_of_profile 1 (codes "\n 1: 1\n") ≡ at 2 BadIndent
-unfolding at is_passed fields_of lines_of kept_lines items_from cause_of can_stand way_above ways_of tells_again number_of number_within named_of location_of targets_of call_of line_below function_of line_of
+unfolding at is_passed fields_of lines_of kept_lines items_from cause_of can_stand way_above ways_of tells_again again_among number_of number_within named_of location_of targets_of call_of line_below function_of line_of
 nothing_is_open_at_first = refl
 
 -- The form comes first: a bad line is bad however deep it stands.
 the_form_comes_first : first_bad_of_profile 1 (codes "a:1:0\n   1: 1 \n   1: 1\n") ≡ at 2 BadLine
-unfolding at is_passed fields_of lines_of kept_lines items_from cause_of can_stand way_above ways_of tells_again number_of number_within named_of location_of targets_of call_of line_below function_of line_of
+unfolding at is_passed fields_of lines_of kept_lines items_from cause_of can_stand way_above ways_of tells_again again_among number_of number_within named_of location_of targets_of call_of line_below function_of line_of
 the_form_comes_first = refl
 
 -- How deep comes before below what.
 too_deep : first_bad_of_profile 1 (codes "a:1:0\n" ++ indent 257 ++ codes "1: 1\n") ≡ at 2 TooDeep
-unfolding at is_passed fields_of lines_of kept_lines items_from cause_of can_stand way_above ways_of tells_again number_of number_within named_of location_of targets_of call_of line_below function_of line_of
+unfolding at is_passed fields_of lines_of kept_lines items_from cause_of can_stand way_above ways_of tells_again again_among number_of number_within named_of location_of targets_of call_of line_below function_of line_of
 too_deep = refl
 
 as_deep_as_can_be : first_bad_of_profile 1 (codes "a:1:0\n" ++ indent 256 ++ codes "1: 1\n") ≡ at 2 BadIndent
-unfolding at is_passed fields_of lines_of kept_lines items_from cause_of can_stand way_above ways_of tells_again number_of number_within named_of location_of targets_of call_of line_below function_of line_of
+unfolding at is_passed fields_of lines_of kept_lines items_from cause_of can_stand way_above ways_of tells_again again_among number_of number_within named_of location_of targets_of call_of line_below function_of line_of
 as_deep_as_can_be = refl
 
 -- Lines in any order, and wrong totals.
@@ -161,21 +161,21 @@ half : List ℕ
 half = codes "a:0:9223372036854775808\n"
 
 half_fits : first_bad_of_summed 1 1 nothing half ≡ None
-unfolding half sum_items sum_of profile_by numbers_from is_passed fields_of lines_of kept_lines items_from cause_of can_stand way_above ways_of tells_again number_of number_within named_of location_of targets_of call_of line_below function_of line_of
+unfolding half sum_items sum_of profile_by numbers_from is_passed fields_of lines_of kept_lines items_from cause_of can_stand way_above ways_of tells_again again_among number_of number_within named_of location_of targets_of call_of line_below function_of line_of
 half_fits = refl
 
 twice_half_does_not : first_bad_of_summed 1 2 nothing half ≡ at 1 CountTooLarge
-unfolding half at sum_items sum_of profile_by numbers_from is_passed fields_of lines_of kept_lines items_from cause_of can_stand way_above ways_of tells_again number_of number_within named_of location_of targets_of call_of line_below function_of line_of
+unfolding half at sum_items sum_of profile_by numbers_from is_passed fields_of lines_of kept_lines items_from cause_of can_stand way_above ways_of tells_again again_among number_of number_within named_of location_of targets_of call_of line_below function_of line_of
 twice_half_does_not = refl
 
 nor_does_a_second_one :
     first_bad_of_summed 2 1 (merged ((1, half) ∷ [])) half ≡ Some (record { file = 2; at = 1; kind = CountTooLarge })
-unfolding half at sum_items sum_of profile_by numbers_from is_passed fields_of lines_of kept_lines items_from cause_of can_stand way_above ways_of tells_again number_of number_within named_of location_of targets_of call_of line_below function_of line_of
+unfolding half at sum_items sum_of profile_by numbers_from is_passed fields_of lines_of kept_lines items_from cause_of can_stand way_above ways_of tells_again again_among number_of number_within named_of location_of targets_of call_of line_below function_of line_of
 nor_does_a_second_one = refl
 
 -- What a line is by itself comes before all sums.
 the_lines_come_first : first_bad_of_summed 1 2 nothing (half ++ codes "a\n") ≡ at 2 BadLine
-unfolding half at sum_items sum_of profile_by numbers_from is_passed fields_of lines_of kept_lines items_from cause_of can_stand way_above ways_of tells_again number_of number_within named_of location_of targets_of call_of line_below function_of line_of
+unfolding half at sum_items sum_of profile_by numbers_from is_passed fields_of lines_of kept_lines items_from cause_of can_stand way_above ways_of tells_again again_among number_of number_within named_of location_of targets_of call_of line_below function_of line_of
 the_lines_come_first = refl
 
 -- Lines of zeros alone vanish.

@@ -55,10 +55,14 @@ targets_on (function_line name total head) = []
 targets_on (body_line depth offset disc count targets) = targets
 targets_on (call_line depth offset disc name total) = []
 
+-- Some name stands among those before it, where these stand before all, the last one first.
+unfoldable pub again_among : List (List ℕ) → List (List ℕ) → Bool
+again_among before [] = false
+again_among before (name ∷ names) = list_any (same_name name) before || again_among (name ∷ before) names
+
 -- Some name stands twice.
 abbrev pub has_twice : List (List ℕ) → Bool
-has_twice [] = false
-has_twice (name ∷ names) = list_any (same_name name) names || has_twice names
+has_twice names = again_among [] names
 
 -- A line tells of what was told before, where its way is that of a line before, or a target stands twice on it.
 unfoldable pub tells_again : List Line → Line → Bool

@@ -1,5 +1,5 @@
 -- The first part of a text ends where a byte is first found.
-use Rattle.std.proofs.Common.{◌≡◌, ℕ, suc, ◌+◌, ◌∙◌, take, drop, List, [], ◌∷◌, ◌++◌, Some, None, refl, ap, arith, add-one, get_or}
+use Rattle.std.proofs.Common.{◌≡◌, ℕ, suc, ◌+◌, ◌∙◌, take, drop, List, [], ◌∷◌, ◌++◌, Some, None, ap, arith, add-one, get_or}
 use Rattle.std.proofs.Math.Seq.{split_at}
 use Rattle.std.proofs.lemmas.Bool.{eqb-true}
 use Rattle.std.proofs.lemmas.List.Splits.{slice_split_at, slice_split_none}

@@ -1,2 +1,6 @@
 pub mod Parts
 pub mod Said
+pub mod Stamps
+pub mod Path
+pub mod Draft
+pub mod Text

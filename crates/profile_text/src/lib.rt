@@ -1,9 +1,19 @@
-//! The text of a profile, as LLVM reads it.
+//! The text of a profile, as LLVM reads it: written from its lines, and read as its numbers.
+//!
+//! `write` appends the lines of a tree. `read` gives the numbers of a text, one for each head, key
+//! and target, or its first bad line.
 #![tactic(auto)]
 
+mod draft;
+mod item;
 mod line;
 mod parts;
+mod path;
+mod reading;
 mod said;
+mod stamps;
 mod text;
 
+pub use item::{Item, Profile, What};
+pub use reading::read;
 pub use text::write;

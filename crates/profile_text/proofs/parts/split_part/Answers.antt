@@ -1,4 +1,4 @@
-use Rattle.std.proofs.Common.{◌≡◌, ◌+◌, ◌-◌, take, drop, arith, length, length-drop, sym}
+use Rattle.std.proofs.Common.{◌≡◌, ◌+◌, ◌-◌, take, drop, arith, length, length-drop}
 use Rattle.std.proofs.lemmas.List.{take_all}
 use Rattle.profile_text.proofs.PartLemmas.{part_ended, last_part}
 use Rattle.profile_text.proofs.parts.split_part.Goals as goal

@@ -1,4 +1,4 @@
-use Rattle.std.proofs.Common.{◌≡◌, length, ◌∙◌}
+use Rattle.std.proofs.Common.{◌≡◌, ◌∙◌}
 use Rattle.profile_model.specs.Reading.{spaces_of}
 use Rattle.profile_text.proofs.SaidLemmas.{spaces_found, spaces_are_within}
 use Rattle.profile_text.proofs.said.spaces.Goals as goal

@@ -1,0 +1,117 @@
+// A profile text, line by line.
+ghost use Rattle.std.specs.Prelude.{◌≡◌, ◌<◌, ◌≤◌, ◌+◌, ◌-◌, ◌^◌, length};
+ghost use Rattle.refusal.specs.Place.{JudgesUnlessNoMemory};
+ghost use Rattle.profile_model.specs.Judging.{first_bad_of_profile};
+ghost use Rattle.profile_text.specs.Draft as spec;
+ghost use Rattle.profile_text.specs.Text.{TakesOn, TellText};
+
+use crate::draft::{Draft, DraftStop};
+use crate::item::Profile;
+use crate::said::{Said, is_passed, read_line};
+use key_types::{Keys, Names};
+use refusal::{Kind, Place, Stop};
+use std::alloc::Global;
+use text_scan::{Line, Lines};
+
+/// The numbers of a profile text, which is the command's file `file`, in the order of the text.
+/// Lines and files are numbered from 1. How large the text may be is for the caller to judge.
+///
+/// Names and keys are added to those that are there, at most as many of each as the text has bytes.
+///
+/// # Errors
+/// `Refused` at the number of the first bad line, with the first cause that holds of it:
+/// - `BadLine`: it has the form of no line;
+/// - `TooDeep`: it begins with more than 256 spaces;
+/// - `BadIndent`: no function or call is open one step less deep;
+/// - `KeyTwice`: its function, its location in the function or call above it, or the location and
+///   the callee of its call stood before, or a target stands twice on it.
+///
+/// After an error `names` and `keys` may have grown.
+///
+/// Source: LLVM, SampleProfReader.h, "Text format".
+pub fn read<'a>(
+    alloc: Global,
+    text: &'a [u8],
+    file: u8,
+    names: &mut Names<'a>,
+    keys: &mut Keys,
+) -> Result<Profile, Stop>
+    requires size { length text.now ≤ 2 ^ 28 }
+    requires names { length names.old < 2 ^ 31 }
+    requires keys { length keys.old < 2 ^ 31 }
+    ensures { JudgesUnlessNoMemory (first_bad_of_profile file text.now) result (λ profile.
+        TellText names.old keys.old text.now profile.items names.new keys.new) }
+{
+    let mut draft = Draft::new(alloc)?;
+    let mut lines = Lines::new(text);
+    while let Some(line) = lines.next() {
+        take_in(alloc, &mut draft, line, file, names, keys)?;
+    }
+    Ok(draft.close())
+}
+
+/// Takes in a line, unless it is passed over.
+fn take_in<'a>(
+    alloc: Global,
+    draft: &mut Draft,
+    line: Line<'a>,
+    file: u8,
+    names: &mut Names<'a>,
+    keys: &mut Keys,
+) -> Result<(), Stop>
+    requires names { length names.old + length line.bytes.now < 2 ^ 32 - 1 }
+    requires keys { length keys.old < 2 ^ 32 - 1 }
+    requires opened { length draft.old.opened < 2 ^ 32 - 1 }
+    ensures { TakesOn file names.old keys.old draft.old line.entry result
+        names.new keys.new draft.new }
+{
+    if is_passed(line.bytes) {
+        return Ok(());
+    }
+    match take_line(alloc, draft, line, names, keys) {
+        Ok(()) => Ok(()),
+        Err(DraftStop::Refused(kind)) => Err(Stop::Refused(Place {
+            file,
+            at: line.number,
+            kind,
+        })),
+        Err(DraftStop::NoMemory) => Err(Stop::NoMemory),
+    }
+}
+
+/// Takes in a line that is not passed over.
+fn take_line<'a>(
+    alloc: Global,
+    draft: &mut Draft,
+    line: Line<'a>,
+    names: &mut Names<'a>,
+    keys: &mut Keys,
+) -> Result<(), DraftStop>
+    requires names { length names.old + length line.bytes.now < 2 ^ 32 - 1 }
+    requires keys { length keys.old < 2 ^ 32 - 1 }
+    requires opened { length draft.old.opened < 2 ^ 32 - 1 }
+    ensures { spec.TakesLine names.old keys.old draft.old line.entry result
+        names.new keys.new draft.new }
+{
+    let Some(said) = read_line(alloc, line.bytes)? else {
+        return Err(DraftStop::Refused(Kind::BadLine));
+    };
+    match said {
+        Said::Function(name, _, head) => {
+            draft.add_function(alloc, line.number, name, head, names)
+        }
+        Said::Body(depth, location, count, targets) => draft.add_body(
+            alloc,
+            line.number,
+            depth,
+            location,
+            count,
+            &targets,
+            names,
+            keys,
+        ),
+        Said::Call(depth, location, callee) => {
+            draft.add_call(alloc, depth, location, callee, names)
+        }
+    }
+}

@@ -2,9 +2,10 @@
  * changed; the word @ stands for its name. The same seed makes the same files.
  *
  * A run passes where it ends by itself within a second of the processor, with status 0, an output that ends in a line
- * feed and no word on the error output, or with status 4, no output and the one line "refused: file K at A: KIND". Any
- * other run is a find: its file is kept as FINDS-SEED-RUN, and a line says what happened. The last line counts the runs
- * by their statuses. Ends with 1 where there was a find.
+ * feed and no word on the error output, or with status 4, no output and the one line "refused: file K at A: KIND", or
+ * with status 1, no output and the one line "check failed at line N". Any other run is a find: its file is kept as
+ * FINDS-SEED-RUN, and a line says what happened. The last line counts the runs by their statuses. Ends with 1 where
+ * there was a find.
  *
  * Of an ELF file the bytes of headers and of debugging information are changed, of any other file all. */
 #define _GNU_SOURCE
@@ -175,23 +176,35 @@ static size_t mutate(unsigned char *file, size_t len, const struct region *regio
     return len;
 }
 
-static int is_refusal(const char *line) {
-    const char *start = "refused: file ", *at = " at ";
-    if (strncmp(line, start, strlen(start)))
-        return 0;
-    line += strlen(start);
-    if ((*line != '1' && *line != '2') || strncmp(line + 1, at, strlen(at)))
-        return 0;
-    line += 1 + strlen(at);
-    if (!isdigit((unsigned char)*line))
-        return 0;
+/* What stands behind these words in a line, or nothing. */
+static const char *behind(const char *line, const char *words) {
+    size_t len = strlen(words);
+    return line && !strncmp(line, words, len) ? line + len : NULL;
+}
+
+static const char *behind_number(const char *line) {
+    if (!line || !isdigit((unsigned char)*line))
+        return NULL;
     while (isdigit((unsigned char)*line))
         line++;
-    if (*line++ != ':' || *line++ != ' ' || !isupper((unsigned char)*line))
+    return line;
+}
+
+static int is_refusal(const char *line) {
+    line = behind(line, "refused: file ");
+    if (!line || *line < '1' || *line > '3')
+        return 0;
+    line = behind(behind_number(behind(line + 1, " at ")), ": ");
+    if (!line || !isupper((unsigned char)*line))
         return 0;
     while (isalnum((unsigned char)*line))
         line++;
-    return line[0] == '\n' && line[1] == 0;
+    return !strcmp(line, "\n");
+}
+
+static int is_failed_check(const char *line) {
+    line = behind_number(behind(line, "check failed at line "));
+    return line && !strcmp(line, "\n");
 }
 
 /* What is wrong with a run, or nothing. */
@@ -208,6 +221,8 @@ static const char *judge(int status, double seconds, int out, int err) {
         return "took more than a second";
     if (WEXITSTATUS(status) == 4)
         return out_is.st_size ? "refused with an output" : is_refusal(line) ? NULL : "refused without its line";
+    if (WEXITSTATUS(status) == 1)
+        return out_is.st_size ? "failed with an output" : is_failed_check(line) ? NULL : "failed without its line";
     if (WEXITSTATUS(status) != 0)
         return "ended with another status";
     char last = 0;

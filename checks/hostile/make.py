@@ -540,6 +540,82 @@ def branches_of_16(n):
     return load_line(LOADED, 16) + one * (n // 16)
 
 
+def function_text(name, blocks, edges, exits):
+    """The lines of a function: blocks as (start, end), edges as pairs of numbers, the numbers of its exits."""
+    out = [b"func %s\n" % name]
+    out += [b"block %d 0x%x 0x%x%s\n" % (k, a, b, b" exit" * (k in exits)) for k, (a, b) in enumerate(blocks)]
+    out += [b"edge %d %d\n" % edge for edge in edges]
+    return b"".join(out) + b"end\n"
+
+
+def bytes_from(start, n):
+    return [(start + k, start + k + 1) for k in range(n)]
+
+
+def wide_block(n):
+    """A block text of a block of n addresses with edges to each of the n blocks behind it."""
+    blocks = [(CODE, CODE + n)] + bytes_from(CODE + n, n)
+    return function_text(b"f", blocks, [(0, k + 1) for k in range(n)], range(1, n + 1))
+
+
+def branches_of_wide(n):
+    """A text of 16 branches to each of these n blocks, from addresses of the block."""
+    return b"".join(b"0x%x/0x%x\n" % (CODE + k * 7919 % n, CODE + n + (k + k // n) % n) for k in range(16 * n))
+
+
+def alike_blocks(n):
+    """A block text of n functions of one block over the same 16 addresses."""
+    return b"".join(function_text(b"f%d" % k, [(CODE, CODE + 16)], [], {0}) for k in range(n))
+
+
+def falling_blocks(n):
+    """A block text of a chain of n blocks whose addresses fall."""
+    blocks = [(CODE + n - 1 - k, CODE + n - k) for k in range(n)]
+    return function_text(b"f", blocks, [(k, k + 1) for k in range(n - 1)], {n - 1})
+
+
+def ladder_blocks(n):
+    """A block text of a chain of n blocks, from each of which the program can go on at its neighbours on both sides."""
+    edges = [edge for k in range(n - 1) for edge in ((k, k + 1), (k + 1, k))]
+    return function_text(b"f", bytes_from(CODE, n), edges, {n - 1})
+
+
+def grid_blocks(n):
+    """A block text of some n blocks in a square, with edges to the right and down."""
+    side = int(n**0.5)
+    edges = [(side * y + x, side * y + x + 1) for y in range(side) for x in range(side - 1)]
+    edges += [(side * y + x, side * y + x + side) for y in range(side - 1) for x in range(side)]
+    return function_text(b"f", bytes_from(CODE, side * side), edges, {side * side - 1})
+
+
+def called_ladder(n):
+    """The ladder, whose first block ran 2^44 - 1 times or more."""
+    return ladder_blocks(n).replace(b"\nblock 1 ", b" lo=%d\nblock 1 " % (2**44 - 1), 1)
+
+
+def ranges_at_random(n):
+    """A text of n ranges of one address each, most of them anew, among n addresses."""
+    return b"".join(b"0x%x/0x9 0x9/0x%x\n" % ((CODE + k * k * 7919 % n,) * 2) for k in range(n))
+
+
+def empty_lines(n):
+    """A text of n empty lines."""
+    return b"\n" * n
+
+
+def one_block(n):
+    """The block text of a function of one block, however large n."""
+    return function_text(b"f", [(CODE, CODE + 16)], [], {0})
+
+
+def zeros(n):
+    """A repair text for it, each number of which has n zeros in front."""
+    zeros = b"0" * n
+    numbers = tuple(zeros + digit for digit in (b"0", b"5", b"5", b"0", b"0", b"0"))
+    return b"# function f flow\n# block %s weight %s count %s in %s out %s\n# end %s\n" % numbers
+
+
+
 CASES = [
     small, abbreviations, shared_table, tails_of_a_table, tails_of_a_list, empty_attributes, section_names, segments,
     origins, far_origins, range_lists, dead_range_lists, overlapping_ranges,
@@ -551,6 +627,8 @@ CASES = [
     calls_of_each, moved_calls, calls_from_one, calls_to_one, ranges_within, moved_ranges_within, ranges_from_one,
     one_range, ranges_of_one, ranges_of_kilobytes, ranges_across, foreign_branches,
     loads_and_foreign_branches, loads_of_others, whole_machine, loads_between, branches_of_16,
+    wide_block, branches_of_wide, alike_blocks, falling_blocks, ladder_blocks, grid_blocks, called_ladder,
+    ranges_at_random, empty_lines, one_block, zeros,
 ]
 
 if __name__ == "__main__":

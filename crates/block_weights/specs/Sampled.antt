@@ -1,5 +1,5 @@
 -- Sampled branches and ranges in order.
-use Rattle.std.specs.Prelude.{◌≡◌, ℕ, ◌<◌, ◌^◌, List, sum_by}
+use Rattle.std.specs.Prelude.{◌≡◌, ℕ, ◌+◌, ◌*◌, ◌<◌, ◌^◌, List, sum_by}
 use Rattle.std.specs.List.Sorted.{IsNonDecreasingBy}
 use Rattle.sample_model.specs.declared.pair.Pair.{Pair}
 use Rattle.profile_model.specs.declared.ran_range.RanRange.{RanRange}
@@ -16,9 +16,13 @@ pub record Sampled : Type 0 where
 abbrev pub branches_taken : List Pair → ℕ
 branches_taken branches = sum_by (λ branch. branch.times) branches
 
--- The branches stand by their sources. Both they and what ran past an address count fewer than 2^32 times.
+-- Where a branch to an address from another stands: by its target, and for one target by its source.
+abbrev pub place : ℕ → ℕ → ℕ
+place to from = to * 2 ^ 64 + from
+
+-- The branches stand by their places. Both they and what ran past an address count fewer than 2^32 times.
 pub record IsInOrder (sampled : Sampled) : Type 0 where
-  pub rise : IsNonDecreasingBy (λ branch. branch.from) sampled.branches
+  pub rise : IsNonDecreasingBy (λ branch. place branch.to branch.from) sampled.branches
   pub taken_fits : branches_taken sampled.branches < 2 ^ 32
   pub passed_fits : (address : ℕ) → hits_by sampled.passing address < 2 ^ 32
 

@@ -16,6 +16,7 @@ use Rattle.text_model.specs.Lines.{lines_of, ended_lines_of}
 use Rattle.text_model.proofs.LawLemmas.{lines_join}
 use Rattle.text_scan.specs.declared.lines.Line.{Line}
 use Rattle.text_scan.specs.Lines.{as_numbered, numbered_lines}
+use Rattle.text_scan.proofs.LineLemmas.{first_of, no_rest, length-enumerated}
 use Rattle.block_model.specs.declared.parts.Block.{Block}
 use Rattle.block_model.specs.declared.parts.Bound.{Bound}
 use Rattle.block_model.specs.Function.{Function, named, with_block, with_edge}
@@ -40,36 +41,6 @@ functions-line : (opened : Option Function) (line : List ℕ) (lines : List (Lis
     → functions_from opened (line ∷ lines) ≡ closed_by_line opened (model.line_of line) ++ functions_from (open_behind_line opened (model.line_of line)) lines
 unfolding functions_from
 functions-line opened line lines = refl
-
-abbrev front : List (ℕ × List ℕ) → ℕ × List ℕ
-front [] = (0, [])
-front (x ∷ xs) = x
-
-abbrev others_of : List (ℕ × List ℕ) → List (ℕ × List ℕ)
-others_of [] = []
-others_of (x ∷ xs) = xs
-
--- the first of the lines that are left
-record IsFirst (at : ℕ) (rest : List (List ℕ)) (line : Line) (left : List (ℕ × List ℕ)) : Type 0 where
-  others : List (List ℕ)
-  split : rest ≡ line.bytes.now ∷ others
-  number : line.number ≡ at + 1
-  behind : left ≡ enumerate_from (line.number + 1) others
-
-first_of : (at : ℕ) (rest : List (List ℕ)) (line : Line) (all left : List (ℕ × List ℕ)) → all ≡ enumerate_from (at + 1) rest → all ≡ as_numbered line ∷ left → IsFirst at rest line left
-first_of at [] line all left numbered is = absurd (cc)
-first_of at (bytes ∷ others) line all left numbered is =
-    let both : (at + 1, bytes) ∷ enumerate_from (at + 1 + 1) others ≡ (line.number, line.bytes.now) ∷ left = sym numbered ∙ is in
-    let number : line.number ≡ at + 1 = sym (ap (λ (xs : List (ℕ × List ℕ)). (front xs).0) both) in
-    let same : bytes ≡ line.bytes.now = ap (λ (xs : List (ℕ × List ℕ)). (front xs).1) both in
-    let behind : left ≡ enumerate_from (at + 1 + 1) others = sym (ap others_of both) in
-    let next : line.number + 1 ≡ at + 1 + 1 = omega (arith, number) in
-    record {
-      others = others;
-      split = ap (λ (b : List ℕ). b ∷ others) same;
-      number = number;
-      behind = behind ∙ ap (λ (n : ℕ). enumerate_from n others) (sym next);
-    }
 
 -- ---- one line
 
@@ -122,10 +93,6 @@ bad_line file at bad all done opened line old left place kept is refused =
 
 -- ---- the end
 
-no_rest : (n : ℕ) (rest : List (List ℕ)) → [] ≡ enumerate_from n rest → rest ≡ []
-no_rest n [] none = refl
-no_rest n (line ∷ rest) none = absurd (cc)
-
 items-end : (file number : ℕ) (opened : Option Function) → items_from file number opened [] ≡ fails_at (is_some opened) (record { file = file; at = number; kind = NoEndLine }) ∷ []
 unfolding items_from
 items-end file number opened = refl
@@ -147,10 +114,6 @@ end_outside file at bad all done left kept none =
     (kept.judged ∙ rw (over, items-end file (at + 1) None), sym (kept.spelled ∙ rw (over, functions-end None) (append-nil done)))
 
 -- ---- the start
-
-length-enumerated : (n : ℕ) (lines : List (List ℕ)) → length (enumerate_from n lines) ≡ length lines
-length-enumerated n [] = refl
-length-enumerated n (line ∷ lines) = ap suc (length-enumerated (n + 1) lines)
 
 length-ended : (lines : List (List ℕ)) → length lines ≤ length (flat_map ended lines)
 length-ended [] = omega arith

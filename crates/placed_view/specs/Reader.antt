@@ -1,5 +1,5 @@
 -- Readers: what a binary says from a cursor on, or the place at which it is refused.
-use Rattle.std.specs.Prelude.{◌≡◌, ℕ, ◌+◌, ◌-◌, ℤ, Bool, length, take, drop, Option, None, Some, Result, Ok, Err, ⊤, if◌then◌else◌}
+use Rattle.std.specs.Prelude.{◌≡◌, ℕ, ◌+◌, ◌-◌, ℤ, Bool, length, take, drop, Option, None, Some, Result, Ok, Err, if◌then◌else◌}
 use Rattle.byte_view.specs.declared.fault.ViewFault.{ViewFault}
 use Rattle.byte_view.specs.declared.fault.ViewFault.TheVariants.{Short, LebTooLong, NoNul}
 use Rattle.byte_view.specs.declared.part.Part.{Part}
@@ -9,8 +9,6 @@ use Rattle.byte_view.specs.Reading.{Reading, field_at, uleb_at, sleb_at}
 use Rattle.refusal.specs.declared.kind.Kind.{Kind}
 use Rattle.refusal.specs.declared.kind.Kind.TheVariants as kinds
 use Rattle.refusal.specs.declared.place.Place.{Place}
-use Rattle.refusal.specs.declared.place.Stop.{Stop}
-use Rattle.refusal.specs.declared.place.Stop.TheVariants.{Refused, NoMemory}
 use Rattle.refusal.specs.Place.{in_binary}
 
 -- A value and the cursor behind what spells it, or the place at which the binary is refused.
@@ -104,12 +102,6 @@ field size cur = placed cur (field_at size cur.left)
 abbrev pub Gives : {X Y : Type 0} → (X → Y) → Result X Place → Cursor → Read Y → Type 0
 Gives seen (Ok x) new read = read ≡ Ok (seen x, new)
 Gives seen (Err place) new read = read ≡ Err place
-
--- The same where memory may be refused, which tells nothing.
-abbrev pub AnswersUnlessNoMemory : {X Y : Type 0} → (X → Y) → Result X Stop → Cursor → Read Y → Type 0
-AnswersUnlessNoMemory seen (Ok x) new read = read ≡ Ok (seen x, new)
-AnswersUnlessNoMemory seen (Err (Refused place)) new read = read ≡ Err place
-AnswersUnlessNoMemory seen (Err NoMemory) new read = ⊤
 
 -- A cursor at the start of a piece.
 abbrev pub start_of : Part → Cursor

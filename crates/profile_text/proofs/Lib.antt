@@ -4,7 +4,6 @@ pub mod CauseLemmas
 pub mod FunctionLemmas
 pub mod JoinLemmas
 pub mod LineLemmas
-pub mod NameLemmas
 pub mod OpenLemmas
 pub mod PartLemmas
 pub mod PathLemmas

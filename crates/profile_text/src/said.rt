@@ -1,13 +1,12 @@
 // One line of a profile text, read apart from the others.
 ghost use Rattle.std.specs.Prelude.{◌≡◌, ◌==◌, ◌≤◌, not, length, map, position, IfOk};
-ghost use Rattle.std.specs.List.{list_any};
 ghost use Rattle.std.specs.Option.{option_map};
 ghost use Rattle.text_model.specs.LineTests.{is_blank_line};
-ghost use Rattle.profile_model.specs.Names.{begins_no_name as begins_no_name_told, is_name as is_name_told, parts_names as parts_names_told};
 ghost use Rattle.profile_model.specs.Reading as model;
 ghost use Rattle.profile_text.specs.Said.{meaning_of, pair_of, place_of};
 
 use crate::parts::Parts;
+use key_types::is_name;
 use refusal::NoMemory;
 use std::alloc::Global;
 use text_scan::{Fields, decimal};
@@ -257,44 +256,4 @@ fn located(mut parts: Parts<'_>) -> Option<Location>
         offset: offset_of(offset)?,
         disc: disc_of(disc)?,
     })
-}
-
-/// Whether a text can be a name in a profile.
-#[tactic(auto, using(crate::proofs::NameLemmas::name_lemmas))]
-fn is_name(text: &[u8]) -> bool
-    ensures { result ≡ is_name_told text.now }
-{
-    match text.first() {
-        Some(first) if begins_no_name(*first) => false,
-        Some(_) => !holds_parting_byte(text),
-        None => false,
-    }
-}
-
-/// Whether no name begins with this byte: `#` and `!`, which begin other lines of a profile, and
-/// digits.
-fn begins_no_name(byte: u8) -> bool
-    ensures { result ≡ begins_no_name_told byte }
-{
-    byte == b'#' || byte == b'!' || byte.is_ascii_digit()
-}
-
-/// Whether a text holds a byte that no name has.
-fn holds_parting_byte(text: &[u8]) -> bool
-    ensures { result ≡ list_any parts_names_told text.now }
-{
-    for byte in text {
-        if parts_names(*byte) {
-            return true;
-        }
-    }
-    false
-}
-
-/// Whether no name has this byte: white space, other control bytes, DEL, and the colon that parts
-/// names in a profile.
-fn parts_names(byte: u8) -> bool
-    ensures { result ≡ parts_names_told byte }
-{
-    byte <= b' ' || byte == 0x7f || byte == b':'
 }

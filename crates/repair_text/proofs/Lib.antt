@@ -1,5 +1,4 @@
 pub mod LoopLemmas
-pub mod NumberLemmas
 pub mod ReadingLemmas
 pub mod SaidLemmas
 pub mod UnknownLemmas

@@ -17,7 +17,7 @@ use Rattle.block_model.specs.Function.{Function}
 use Rattle.block_model.specs.Judging.{item}
 use Rattle.cfg_text.specs.Fun.{function_of}
 use Rattle.repair_model.proofs.WholeLemmas.{lines_fewer}
-use Rattle.repair_text.proofs.NumberLemmas.{first_of, no_rest, length-enumerated}
+use Rattle.text_scan.proofs.LineLemmas.{first_of, no_rest, length-enumerated}
 use Rattle.repair_model.specs.Judging.{cause_inside, cause_of_begin, cause_of_line, cause_of_name, first_bad_of_repairs, is_unfinished, items_from}
 use Rattle.repair_model.specs.Line as model
 use Rattle.repair_model.specs.Line.{begins_function, line_of}

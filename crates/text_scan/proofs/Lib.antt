@@ -1,6 +1,7 @@
 mod Examples
 pub mod DecimalLemmas
 pub mod Growth
+pub mod LineLemmas
 pub mod ReadLemmas
 pub mod WideLemmas
 pub mod WriteLemmas

@@ -1,7 +1,7 @@
 use Rattle.std.proofs.Common.{◌≡◌, take, false}
 use Rattle.std.specs.List.{list_any}
-use Rattle.tree_model.specs.Origin.{parts_names}
-use Rattle.entry_facts.proofs.name.holds_parting_byte.Given as goal
+use Rattle.profile_model.specs.Names.{parts_names}
+use Rattle.key_types.proofs.name.holds_parting_byte.Given as goal
 
 -- The bytes up to here do not part names.
 abbrev pub invariant-loop-byte : goal.invariant-loop-byte

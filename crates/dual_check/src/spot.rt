@@ -3,7 +3,8 @@ ghost use Rattle.std.specs.Prelude.{◌≡◌, ◌↔◌, None};
 ghost use Rattle.flow_model.specs.Repair.{AreCounts, AreLeast, ConserveWithinBounds, FitCounts};
 ghost use Rattle.flow_model.specs.Passing.{PassesBlock, PassesEdge};
 ghost use Rattle.flow_model.specs.Sound.{IsNet};
-ghost use Rattle.flow_network.specs.Flow.{AreSides, counts_of, price_of};
+ghost use Rattle.flow_model.specs.Sides.{AreSides};
+ghost use Rattle.flow_network.specs.Flow.{counts_of, price_of};
 ghost use Rattle.dual_check.specs.First.{IsFirst, IsFirstBad};
 
 use crate::block::{block_passes, edge_passes};

@@ -3,7 +3,8 @@ ghost use Rattle.std.specs.Prelude.{◌↔◌, IsTrue};
 ghost use Rattle.flow_model.specs.Cut.{IsCut};
 ghost use Rattle.flow_model.specs.Network.{Counts, arcs_of};
 ghost use Rattle.flow_model.specs.Repair.{AreCounts, AreLeast, ConserveWithinBounds, FitCounts};
-ghost use Rattle.flow_network.specs.Flow.{AreSides, counts_of, holds, price_of};
+ghost use Rattle.flow_model.specs.Sides.{AreSides};
+ghost use Rattle.flow_network.specs.Flow.{counts_of, holds, price_of};
 
 use crate::spot::first_bad;
 use flow_network::{Flow, Net, Nodes, Prices, cut_sums};

@@ -8,3 +8,4 @@ pub mod Balance
 pub mod BalanceLaws
 pub mod Passing
 pub mod Sound
+pub mod Sides

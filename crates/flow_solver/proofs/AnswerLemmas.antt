@@ -16,7 +16,8 @@ use Rattle.residual_model.specs.Residual.{StepsOn}
 use Rattle.residual_model.proofs.LoadLemmas.{circulations_are_loads}
 use Rattle.residual_model.proofs.CutLemmas.{closed_sides_are_a_cut}
 use Rattle.reached_sides.specs.declared.mark.Mark.{Mark}
-use Rattle.flow_network.specs.Flow.{counts_of, at_side, price_of, holds}
+use Rattle.flow_model.specs.Sides.{at_side}
+use Rattle.flow_network.specs.Flow.{counts_of, price_of, holds}
 use Rattle.flow_network.specs.declared.flow.Flow.{Flow}
 use Rattle.flow_network.specs.declared.flow.Nodes.{Nodes}
 use Rattle.flow_network.specs.declared.flow.Prices.{Prices}

@@ -2,7 +2,8 @@
 use Rattle.std.specs.Prelude.{◌≡◌, ℕ, ◌+◌, ◌*◌, ◌<◌, List, length, slice_index_or, Option, ℤ, ◌-ℤ◌}
 use Rattle.flow_model.specs.Network.{Network}
 use Rattle.reached_sides.specs.declared.mark.Mark.{Mark}
-use Rattle.flow_network.specs.Flow.{AreSides, holds, price_of}
+use Rattle.flow_model.specs.Sides.{AreSides}
+use Rattle.flow_network.specs.Flow.{holds, price_of}
 use Rattle.flow_network.specs.declared.flow.Nodes.{Nodes}
 use Rattle.flow_network.specs.declared.flow.Prices.{Prices}
 use Rattle.path_search.specs.Ground.{price_at, sides_of}

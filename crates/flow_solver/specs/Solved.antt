@@ -2,7 +2,8 @@
 use Rattle.flow_model.specs.Cut.{IsCut}
 use Rattle.flow_model.specs.Network.{Network, Counts, arcs_of}
 use Rattle.flow_model.specs.Repair.{AreLeast, ConserveWithinBounds, FitCounts}
-use Rattle.flow_network.specs.Flow.{AreSides, counts_of, holds, price_of}
+use Rattle.flow_model.specs.Sides.{AreSides}
+use Rattle.flow_network.specs.Flow.{counts_of, holds, price_of}
 use Rattle.flow_network.specs.declared.flow.Flow.{Flow}
 use Rattle.flow_network.specs.declared.flow.Nodes.{Nodes}
 use Rattle.flow_network.specs.declared.flow.Prices.{Prices}

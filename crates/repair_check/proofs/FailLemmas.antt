@@ -16,16 +16,16 @@ use Rattle.flow_model.specs.Circulation.{EachArc}
 use Rattle.flow_model.specs.Network.{Network, Counts, network_of}
 use Rattle.flow_model.specs.Passing.{AllTestsPass, PassesBlock, PassesEdge}
 use Rattle.flow_model.specs.Repair.{AreCounts, cost_of}
+use Rattle.flow_model.specs.Sides.{AreSides, at_side}
 use Rattle.flow_model.specs.Sound.{AreWeights}
 use Rattle.flow_model.proofs.NetLemmas.{length-block_arcs, length-edge_arcs}
-use Rattle.flow_network.specs.Flow.{AreSides, counts_of}
+use Rattle.flow_network.specs.Flow.{counts_of}
 use Rattle.flow_network.specs.declared.flow.Flow.{Flow}
 use Rattle.flow_network.specs.declared.flow.Nodes.{Nodes}
 use Rattle.flow_network.specs.declared.flow.Prices.{Prices}
 use Rattle.flow_network.specs.declared.flow.Solved.{Solved}
 use Rattle.flow_network.specs.declared.flow.Solved.TheVariants as solved
 use Rattle.repair_model.specs.Laws.{HasShape}
-use Rattle.repair_model.specs.Sides.{told_at}
 use Rattle.repair_model.proofs.CheckLemmas.{block_true, block_from, edge_true, edge_from}
 use Rattle.repair_text.specs.Repair.{numbered, repair_of, solution_of}
 use Rattle.repair_text.specs.declared.repair.Repair as read
@@ -88,40 +88,40 @@ as_many (fun ∷ funs) (repair ∷ repairs) all = ap suc (as_many funs repairs a
 -- ---- the lines of counts
 
 pub block_fails : (net : Network) (counts : Counts) (ins outs : List ℤ) (number first second k : ℕ) → AreCounts net counts
-    → FailsFirst (PassesBlock net counts (told_at (pos 0) ins outs)) net.blocks counts.blocks k
+    → FailsFirst (PassesBlock net counts (at_side (pos 0) ins outs)) net.blocks counts.blocks k
     → Some (number + k) ≡ first_failing number (tests_of net (flow counts ins outs) first second)
 block_fails net counts ins outs number first second k are fails =
-    let price = told_at (pos 0) ins outs in
+    let price = at_side (pos 0) ins outs in
     sym (at_arc (PassesBlock net counts price) (passes_block net counts price) number k net.blocks counts.blocks _
     (block_from net counts price) (block_true net counts price) are.blocks fails)
 
 pub edge_fails : (net : Network) (counts : Counts) (ins outs : List ℤ) (number first second k : ℕ) → AreCounts net counts
-    → EachArc (PassesBlock net counts (told_at (pos 0) ins outs)) net.blocks counts.blocks
-    → FailsFirst (PassesEdge (told_at (pos 0) ins outs)) net.edges counts.edges k
+    → EachArc (PassesBlock net counts (at_side (pos 0) ins outs)) net.blocks counts.blocks
+    → FailsFirst (PassesEdge (at_side (pos 0) ins outs)) net.edges counts.edges k
     → Some (number + length net.blocks + k) ≡ first_failing number (tests_of net (flow counts ins outs) first second)
 edge_fails net counts ins outs number first second k are blocks fails =
-    let price = told_at (pos 0) ins outs in
+    let price = at_side (pos 0) ins outs in
     sym (behind_arcs (PassesBlock net counts price) (passes_block net counts price) number net.blocks counts.blocks _ (block_from net counts price) blocks
     ∙ at_arc (PassesEdge price) (passes_edge price) (number + length net.blocks) k net.edges counts.edges _
     (edge_from price) (edge_true price) are.edges fails)
 
 behind_all : (net : Network) (counts : Counts) (ins outs : List ℤ) (number first second : ℕ)
-    → AllTestsPass net counts (told_at (pos 0) ins outs)
+    → AllTestsPass net counts (at_side (pos 0) ins outs)
     → first_failing number (tests_of net (flow counts ins outs) first second)
     ≡ first_failing (number + length net.blocks + length net.edges) ((first == cost_of net counts) ∷ [])
 behind_all net counts ins outs number first second all =
-    let price = told_at (pos 0) ins outs in
+    let price = at_side (pos 0) ins outs in
     behind_arcs (PassesBlock net counts price) (passes_block net counts price) number net.blocks counts.blocks _ (block_from net counts price) all.blocks
     ∙ behind_arcs (PassesEdge price) (passes_edge price) (number + length net.blocks) net.edges counts.edges _ (edge_from price) all.edges
 
 pub none_fails : (net : Network) (counts : Counts) (ins outs : List ℤ) (number first second : ℕ)
-    → AllTestsPass net counts (told_at (pos 0) ins outs) → cost_of net counts ≡ first
+    → AllTestsPass net counts (at_side (pos 0) ins outs) → cost_of net counts ≡ first
     → None ≡ first_failing number (tests_of net (flow counts ins outs) first second)
 none_fails net counts ins outs number first second all same =
     sym (behind_all net counts ins outs number first second all ∙ rw (eq-eqb first (cost_of net counts) (sym same)) refl)
 
 pub cost_fails : (net : Network) (counts : Counts) (ins outs : List ℤ) (number first second : ℕ)
-    → AllTestsPass net counts (told_at (pos 0) ins outs) → (cost_of net counts ≡ first → ⊥)
+    → AllTestsPass net counts (at_side (pos 0) ins outs) → (cost_of net counts ≡ first → ⊥)
     → Some (number + length net.blocks + length net.edges) ≡ first_failing number (tests_of net (flow counts ins outs) first second)
 cost_fails net counts ins outs number first second all not_same =
     sym (behind_all net counts ins outs number first second all

@@ -21,9 +21,9 @@ use Rattle.flow_model.proofs.PassLemmas.{tests_are_exact, tests_show_least}
 use Rattle.repair_model.specs.Laws.{HasShape, PassingLinesRepair}
 use Rattle.repair_model.specs.Made.{Repairs}
 use Rattle.repair_model.specs.Repair.{Solution, flow, cut}
-use Rattle.repair_model.specs.Sides.{told_at}
 use Rattle.flow_model.specs.Network.{Network, Counts, arcs_of, free_arc, network_of}
 use Rattle.flow_model.specs.Passing.{AllTestsPass, AreCalls, IsEntered, IsLeft, PassesBlock, PassesEdge, came_by_edges, went_by_edges, is_entry, is_exit}
+use Rattle.flow_model.specs.Sides.{at_side}
 use Rattle.flow_model.specs.Prices.{FitsOn, IsBelow}
 use Rattle.flow_model.specs.Balance.{MakesUp}
 use Rattle.repair_model.specs.Checking.{is_within, is_full, fits_more, fits_less, fits, makes_up, are_calls, is_entered, is_left, passes_block, passes_edge, each_test, first_failing, is_cut_of, tests_of, failed_in, weights_of_edges}
@@ -258,9 +258,9 @@ is_net blocks edges weights edge_weights sound weighed edges_weighed = record {
 passing_counts : (net : Network) (number : ℕ) (counts : Counts) (ins outs : List ℤ) (first : ℕ) → IsNet net
     → length counts.blocks ≡ length net.blocks → length counts.edges ≡ length net.edges
     → first_failing number (tests_of net (flow counts ins outs) first 0) ≡ None
-    → AllTestsPass net counts (told_at (pos 0) ins outs) × (first ≡ cost_of net counts)
+    → AllTestsPass net counts (at_side (pos 0) ins outs) × (first ≡ cost_of net counts)
 passing_counts net number counts ins outs first is blocks edges none =
-    let price = told_at (pos 0) ins outs in
+    let price = at_side (pos 0) ins outs in
     let all = none_failing number _ none in
     let one = all_split (each_test (passes_block net counts price) net.blocks counts.blocks) _ all in
     let two = all_split (each_test (passes_edge price) net.edges counts.edges) _ one.1 in (
@@ -272,10 +272,10 @@ passing_counts net number counts ins outs first is blocks edges none =
     )
 
 counts_passing : (net : Network) (number : ℕ) (counts : Counts) (ins outs : List ℤ) (first : ℕ)
-    → AllTestsPass net counts (told_at (pos 0) ins outs) → first ≡ cost_of net counts
+    → AllTestsPass net counts (at_side (pos 0) ins outs) → first ≡ cost_of net counts
     → first_failing number (tests_of net (flow counts ins outs) first 0) ≡ None
 counts_passing net number counts ins outs first tests cost =
-    let price = told_at (pos 0) ins outs in
+    let price = at_side (pos 0) ins outs in
     all_passing number _
     (all_join (each_test (passes_block net counts price) net.blocks counts.blocks) _
     (each_from (PassesBlock net counts price) (passes_block net counts price) net.blocks counts.blocks (block_from net counts price) tests.blocks)
@@ -321,7 +321,7 @@ passing_lines_repair fun line repair sound whole =
         let is = is_net fun.blocks fun.edges weights edge_weights sound weighed edges_weighed in
         let blocks : length net.blocks ≡ length fun.blocks = length-block_arcs 0 fun.blocks weights weighed.each in
         let edges : length net.edges ≡ length fun.edges = length-edge_arcs fun.edges edge_weights edges_weighed.each in
-        let price = told_at (pos 0) ins outs in
+        let price = at_side (pos 0) ins outs in
         let exact = tests_are_exact net counts price is in
         rw shape.5 (
           (λ none.
@@ -333,7 +333,7 @@ passing_lines_repair fun line repair sound whole =
     by_solution fun line weights edge_weights (cut at_root ins outs) first second sound weighed edges_weighed shape =
         let net = network_of fun.blocks fun.edges weights (map (λ edge. Unknown) fun.edges) in
         let blocks : length net.blocks ≡ length fun.blocks = length-block_arcs 0 fun.blocks weights weighed.each in
-        let set = told_at at_root ins outs in
+        let set = at_side at_root ins outs in
         let said = all_said net.blocks in (
           (λ none.
               let all = all_split (map (λ arc. true) net.blocks) _ (none_failing (line + 1) _ none) in

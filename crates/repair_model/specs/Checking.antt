@@ -12,8 +12,8 @@ use Rattle.flow_model.specs.Cut.{least_in, most_out}
 use Rattle.flow_model.specs.Network.{Network, Counts, arcs_of, free_arc, network_of}
 use Rattle.flow_model.specs.Passing.{came_by_edges, went_by_edges, is_entry, is_exit}
 use Rattle.flow_model.specs.Repair.{cost_of}
+use Rattle.flow_model.specs.Sides.{at_side}
 use Rattle.repair_model.specs.Repair.{Repair, Solution, flow, cut}
-use Rattle.repair_model.specs.Sides.{told_at}
 
 -- A count is within the bounds of an arc.
 abbrev pub is_within : Arc → ℕ → Bool
@@ -83,11 +83,11 @@ is_cut_of (Some most) least first second = first == least && (second == most && 
 -- The tests of the lines behind the first, in their order. The line of a block in a cut says nothing that could fail.
 abbrev pub tests_of : Network → Solution → ℕ → ℕ → List Bool
 tests_of net (flow counts ins outs) first second =
-    let price = told_at (pos 0) ins outs in
+    let price = at_side (pos 0) ins outs in
     each_test (passes_block net counts price) net.blocks counts.blocks
     ++ (each_test (passes_edge price) net.edges counts.edges ++ (first == cost_of net counts) ∷ [])
 tests_of net (cut at_root ins outs) first second =
-    let set = told_at at_root ins outs in
+    let set = at_side at_root ins outs in
     map (λ arc. true) net.blocks
     ++ is_cut_of (most_out set (arcs_of net)) (least_in set (arcs_of net)) first second ∷ []
 

@@ -4,5 +4,4 @@ pub mod Laws
 pub mod Line
 pub mod Made
 pub mod Repair
-pub mod Sides
 pub mod Text

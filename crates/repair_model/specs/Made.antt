@@ -9,7 +9,7 @@ use Rattle.block_model.specs.Function.{Function}
 use Rattle.flow_model.specs.Cut.{least_in, most_out}
 use Rattle.flow_model.specs.Network.{Network, arcs_of, network_of}
 use Rattle.flow_model.specs.Repair.{AreLeast, FitCounts, cost_of}
-use Rattle.repair_model.specs.Sides.{AreOfSides, told_at}
+use Rattle.flow_model.specs.Sides.{AreSides, at_side}
 use Rattle.repair_model.specs.Repair.{Repair, Solution, flow, cut, has_counts}
 use Rattle.repair_model.specs.Text.{repair_text}
 use Rattle.weight_model.specs.Blocks.{IsWeightOf}
@@ -30,11 +30,11 @@ weighed_edges (Some told) blocks edges weights = map (weight_by told.taken told.
 -- cut, with its sums, of which the first is above the second.
 abbrev pub Repairs : Network → Solution → ℕ → ℕ → Type 0
 Repairs net (flow counts ins outs) first second =
-    AreOfSides net ins outs × AreLeast net counts × FitCounts (told_at (pos 0) ins outs) net counts
+    AreSides net ins outs × AreLeast net counts × FitCounts (at_side (pos 0) ins outs) net counts
     × (first ≡ cost_of net counts) × (second ≡ 0)
 Repairs net (cut root ins outs) first second =
-    AreOfSides net ins outs × (first ≡ least_in (told_at root ins outs) (arcs_of net))
-    × (most_out (told_at root ins outs) (arcs_of net) ≡ Some second) × (second < first)
+    AreSides net ins outs × (first ≡ least_in (at_side root ins outs) (arcs_of net))
+    × (most_out (at_side root ins outs) (arcs_of net) ≡ Some second) × (second < first)
 
 -- A text is the repair of a function: it tells the weights that its blocks and edges have, and in their place what
 -- repairs its network.

@@ -6,7 +6,8 @@ use Rattle.block_model.specs.declared.parts.Weight.{Weight}
 use Rattle.flow_model.specs.Cut.{least_in, most_out}
 use Rattle.flow_model.specs.Network.{Network, arcs_of}
 use Rattle.flow_model.specs.Repair.{AreCounts, cost_of}
-use Rattle.flow_network.specs.Flow.{counts_of, holds, AreSides}
+use Rattle.flow_model.specs.Sides.{AreSides}
+use Rattle.flow_network.specs.Flow.{counts_of, holds}
 use Rattle.flow_network.specs.declared.flow.Flow.{Flow}
 use Rattle.flow_network.specs.declared.flow.Nodes.{Nodes}
 use Rattle.flow_network.specs.declared.flow.Prices.{Prices}

@@ -10,7 +10,7 @@ use Rattle.std.proofs.lemmas.List.Sorted.{sum_by-IsPermutation}
 use Rattle.std.proofs.lemmas.List.Sums.{sum_by_more, sum_by_more_le_part, sum_by-take-drop, sum_by-le-sum_by}
 use Rattle.block_model.specs.declared.parts.Block.{Block}
 use Rattle.sample_model.specs.declared.pair.Pair.{Pair}
-use Rattle.block_weights.specs.Sampled.{branches_taken, place}
+use Rattle.block_weights.specs.Sampled.{branches_taken, rank}
 use Rattle.weight_model.specs.Edges.{leads, taken}
 use Rattle.block_weights.proofs.SumLemmas.{sum_passing, no_sum_front, no_sum_back}
 
@@ -21,10 +21,10 @@ share block to branch = cond (leads block to branch) branch.times 0
 -- so many branches were gone through
 pub record TakenSoFar (branches : List Pair) (block : Block) (to next times : ℕ) : Type 0 where
   pub within : next ≤ length branches
-  pub from : AllWithin (λ branch. place to block.lo ≤ place branch.to branch.from) branches next (length branches)
+  pub from : AllWithin (λ branch. rank to block.lo ≤ rank branch.to branch.from) branches next (length branches)
   pub is : times ≡ sum_by (share block to) (take next branches)
 
-pub TakenSoFar-none : (branches : List Pair) (block : Block) (to next : ℕ) → next ≤ length branches → AllWithin (λ branch. place branch.to branch.from < place to block.lo) branches 0 next → AllWithin (λ branch. place to block.lo ≤ place branch.to branch.from) branches next (length branches)
+pub TakenSoFar-none : (branches : List Pair) (block : Block) (to next : ℕ) → next ≤ length branches → AllWithin (λ branch. rank branch.to branch.from < rank to block.lo) branches 0 next → AllWithin (λ branch. rank to block.lo ≤ rank branch.to branch.from) branches next (length branches)
     → TakenSoFar branches block to next 0
 TakenSoFar-none branches block to next within below from = record {
   within = within;
@@ -32,7 +32,7 @@ TakenSoFar-none branches block to next within below from = record {
   is = sym (no_sum_front (share block to) branches next (λ k d at before. let low = below k d at before in grind (arith, nat_tests)));
 }
 
-pub TakenSoFar-next : (branches : List Pair) (block : Block) (to next times : ℕ) (d : Pair) → TakenSoFar branches block to next times → next < length branches → block.lo < 2 ^ 64 → block.hi < 2 ^ 64 → (get_or branches next d).from < 2 ^ 64 → place (get_or branches next d).to (get_or branches next d).from < place to block.hi
+pub TakenSoFar-next : (branches : List Pair) (block : Block) (to next times : ℕ) (d : Pair) → TakenSoFar branches block to next times → next < length branches → block.lo < 2 ^ 64 → block.hi < 2 ^ 64 → (get_or branches next d).from < 2 ^ 64 → rank (get_or branches next d).to (get_or branches next d).from < rank to block.hi
     → TakenSoFar branches block to (next + 1) (times + (get_or branches next d).times)
 TakenSoFar-next branches block to next times d so_far inside lo hi source below =
     let low = so_far.from next d (omega arith) inside in
@@ -49,13 +49,13 @@ pub taken_fits : (branches : List Pair) (block : Block) (to next times : ℕ) (d
 taken_fits branches block to next times d so_far fits inside =
     omega (arith, fits, so_far.is, sum_by_more_le_part (share block to) (λ branch. branch.times) branches next d inside (λ branch. grind (arith, nat_tests)))
 
-pub TakenSoFar-all : (branches : List Pair) (block : Block) (to next times : ℕ) (d : Pair) → IsNonDecreasingBy (λ branch. place branch.to branch.from) branches → TakenSoFar branches block to next times → (next < length branches → place to block.hi ≤ place (get_or branches next d).to (get_or branches next d).from)
+pub TakenSoFar-all : (branches : List Pair) (block : Block) (to next times : ℕ) (d : Pair) → IsNonDecreasingBy (λ branch. rank branch.to branch.from) branches → TakenSoFar branches block to next times → (next < length branches → rank to block.hi ≤ rank (get_or branches next d).to (get_or branches next d).from)
     → times ≡ taken branches block to
 TakenSoFar-all branches block to next times d rise so_far past =
     let rest : sum_by (share block to) (drop next branches) ≡ 0 =
     no_sum_back (share block to) branches next (λ k e at before.
-    let high : place to block.hi ≤ place (get_or branches k e).to (get_or branches k e).from =
-    omega (arith, past (omega (arith, at, before)), rise next k e at before, ap (λ (b : Pair). place b.to b.from) (get_or_default branches next d e (omega (arith, at, before)))) in
+    let high : rank to block.hi ≤ rank (get_or branches k e).to (get_or branches k e).from =
+    omega (arith, past (omega (arith, at, before)), rise next k e at before, ap (λ (b : Pair). rank b.to b.from) (get_or_default branches next d e (omega (arith, at, before)))) in
     grind (arith, nat_tests)) in
     omega (arith, so_far.is, rest, sum_by-take-drop (share block to) branches next, sum_passing (λ branch. branch.times) (leads block to) branches)
 

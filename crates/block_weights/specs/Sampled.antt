@@ -16,13 +16,13 @@ pub record Sampled : Type 0 where
 abbrev pub branches_taken : List Pair → ℕ
 branches_taken branches = sum_by (λ branch. branch.times) branches
 
--- Where a branch to an address from another stands: by its target, and for one target by its source.
-abbrev pub place : ℕ → ℕ → ℕ
-place to from = to * 2 ^ 64 + from
+-- The rank of a branch to an address from another: by its target, and for one target by its source.
+abbrev pub rank : ℕ → ℕ → ℕ
+rank to from = to * 2 ^ 64 + from
 
--- The branches stand by their places. Both they and what ran past an address count fewer than 2^32 times.
+-- The branches stand by their ranks. Both they and what ran past an address count fewer than 2^32 times.
 pub record IsInOrder (sampled : Sampled) : Type 0 where
-  pub rise : IsNonDecreasingBy (λ branch. place branch.to branch.from) sampled.branches
+  pub rise : IsNonDecreasingBy (λ branch. rank branch.to branch.from) sampled.branches
   pub taken_fits : branches_taken sampled.branches < 2 ^ 32
   pub passed_fits : (address : ℕ) → hits_by sampled.passing address < 2 ^ 32
 

@@ -5,7 +5,7 @@ ghost use Rattle.weight_model.specs.Edges.{taken as times_taken, went_over};
 ghost use Rattle.block_weights.specs.Sampled.{Tell, branches_taken};
 
 use crate::passing::behind_firsts;
-use crate::taken::{place, taken};
+use crate::taken::{rank, taken};
 use block_model::Block;
 use profile_model::RanRange;
 use range_counts::{Hits, sweep};
@@ -14,7 +14,7 @@ use sample_model::Pair;
 use std::alloc::Global;
 use std::marker::Model;
 
-/// Sampled branches by their places, and how often ranges ran past each address.
+/// Sampled branches by their ranks, and how often ranges ran past each address.
 #[derive(Debug, Drop)]
 pub struct EdgeSamples {
     branches: Vec<Pair>,
@@ -46,7 +46,7 @@ impl EdgeSamples {
     {
         let passing = sweep(alloc, &behind_firsts(alloc, ran)?)?;
         let mut branches = Vec::from_slice(alloc, branches)?;
-        branches.sort_unstable_by_key(|branch| place(branch.to, branch.from));
+        branches.sort_unstable_by_key(|branch| rank(branch.to, branch.from));
         Ok(EdgeSamples { branches, passing })
     }
 

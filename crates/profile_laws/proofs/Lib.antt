@@ -1,2 +1,3 @@
+mod Examples
 pub mod CountLemmas
 pub mod TotalLemmas

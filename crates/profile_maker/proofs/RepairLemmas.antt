@@ -50,6 +50,7 @@ module _ {K L : Type 0} (key : ℕ → Option K) (count : K → ℕ) (way : ℕ 
         weighed = AllZip-mono (IsWeightOf key count) (IsWeightOf way count_of) (λ block. weight_alike block.lo block.hi) fun.blocks is.repair.weights is.weighed;
         repairs = is.repairs;
         edges_weighed = is.edges_weighed;
+        told = is.told;
         spelled = is.spelled;
       })
 

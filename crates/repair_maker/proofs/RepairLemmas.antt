@@ -1,36 +1,34 @@
 -- Repairs, made for one function and put one behind the other.
-use Rattle.std.proofs.Common.{◌≡◌, ◌<◌, ◌≤◌, ◌+◌, ◌^◌, ℕ, Bool, true, List, [], ◌∷◌, ◌++◌, length, map, take, Option, None, Some, Result, Ok, Err, refl, sym, ap, subst, ◌∙◌, arith, get_or}
+use Rattle.std.proofs.Common.{◌≡◌, ◌<◌, ◌≤◌, ◌+◌, ℕ, Bool, true, List, [], ◌∷◌, ◌++◌, length, map, take, Option, None, Some, Result, Ok, Err, refl, sym, ap, subst, ◌∙◌, arith, get_or}
 use Rattle.std.specs.Prelude.{is_some, OnOk}
-use Rattle.std.specs.List.{AllZip}
+use Rattle.std.specs.List.{AllByRecursion, AllZip}
 use Rattle.std.specs.Option.{unwrap_or}
-use Rattle.std.proofs.lemmas.List.{append-nil, append_assoc, length-map, map_push, take_all, take_more}
-use Rattle.std.proofs.lemmas.List.Elements.{All-from_get_or, All-map}
+use Rattle.std.proofs.lemmas.List.{append-nil, append_assoc, map_push, take_all, take_more}
 use Rattle.block_model.specs.declared.parts.Block.{Block}
 use Rattle.block_model.specs.declared.parts.Edge.{Edge}
 use Rattle.block_model.specs.declared.parts.Weight.{Weight}
-use Rattle.block_model.specs.declared.parts.Weight.TheVariants.{Unknown}
-use Rattle.block_model.specs.Limits.{bound_bits}
-use Rattle.block_model.specs.Function.{Function, unbounded}
+use Rattle.block_model.specs.Function.{Function}
 use Rattle.flow_model.specs.Sound.{AreWeights}
 use Rattle.flow_model.proofs.NetLemmas.{length-block_arcs, length-edge_arcs}
 use Rattle.cfg_text.specs.declared.fun.Fun.{Fun}
 use Rattle.cfg_text.specs.Fun.{function_of}
 use Rattle.flow_model.specs.Cut.{most_out}
-use Rattle.flow_model.specs.Network.{Network, arcs_of, network_of, weight_of}
+use Rattle.flow_model.specs.Network.{Network, arcs_of, network_of}
 use Rattle.flow_network.specs.Flow.{holds}
 use Rattle.flow_network.specs.declared.flow.Solved.{Solved}
 use Rattle.flow_network.specs.declared.flow.Solved.TheVariants.{Flow, Cut}
 use Rattle.flow_solver.specs.Solved.{Solves}
-use Rattle.repair_model.specs.Text.{repair_text}
+use Rattle.repair_model.specs.Bits.{FitsBits}
+use Rattle.repair_model.specs.Text.{lines_of_repair, repair_text}
 use Rattle.repair_text.specs.Repair.{IsOf, repair_by}
 use Rattle.weight_model.specs.Blocks.{IsWeightOf}
 use Rattle.repair_model.specs.Made.{AreRepairsOf, EdgeTold, IsRepairOf, Repairs, weighed_edges}
 use Rattle.repair_maker.specs.Repaired.{IsRepaired}
 
 -- What holds of a good answer, by what the answer says.
-pub on_ok : {T E P Q : Type 0} (r : Result T E) → OnOk r P → (P → Q) → OnOk r Q
-on_ok (Ok x) p leads = leads p
-on_ok (Err e) p leads = tt
+pub on_both : {T E P Q R : Type 0} (r : Result T E) → OnOk r P → OnOk r Q → (P → Q → R) → OnOk r R
+on_both (Ok x) p q leads = leads p q
+on_both (Err e) p q leads = tt
 
 -- ---- one function
 
@@ -63,17 +61,19 @@ pub made_of : {K : Type 0} (key : ℕ → Option K) (count : K → ℕ) (edges :
     → is_some edges ≡ weighed → AllZip (IsWeightOf key count) fun.blocks weights
     → edge_weights ≡ weighed_edges edges fun.blocks fun.edges weights → (is_some edges ≡ true → told ≡ edge_weights)
     → net ≡ network_of fun.blocks fun.edges weights edge_weights → Solves net solved
+    → AllByRecursion FitsBits (lines_of_repair weighed fun (repair_by net weights told solved))
     → text ≡ repair_text weighed fun (repair_by net weights told solved)
     → IsRepairOf key count edges fun text
-made_of key count edges fun weights edge_weights told net (Flow flow prices) asked text by are_weights same are is solves spelled = record {
+made_of key count edges fun weights edge_weights told net (Flow flow prices) asked text by are_weights same are is solves fits spelled = record {
   repair = repair_by net weights told (Flow flow prices);
   weighed = are_weights;
   repairs = subst (λ n. Repairs n (repair_by net weights told (Flow flow prices)).solution (repair_by net weights told (Flow flow prices)).first 0)
       (is ∙ ap (network_of fun.blocks fun.edges weights) same) (solves.priced, solves.least, solves.fit, refl, refl);
   edges_weighed = λ counts edges_are. are edges_are ∙ same;
+  told = subst (λ b. AllByRecursion FitsBits (lines_of_repair b fun (repair_by net weights told (Flow flow prices)))) (sym by) fits;
   spelled = spelled ∙ ap (λ b. repair_text b fun (repair_by net weights told (Flow flow prices))) (sym by);
 }
-made_of key count edges fun weights edge_weights told net (Cut nodes) asked text by are_weights same are is solves spelled =
+made_of key count edges fun weights edge_weights told net (Cut nodes) asked text by are_weights same are is solves fits spelled =
     let most : most_out (holds nodes) (arcs_of net) ≡ Some solves.cut.0 = solves.cut.1 in
     let second : unwrap_or (most_out (holds nodes) (arcs_of net)) 0 ≡ solves.cut.0 = ap (λ o. unwrap_or o 0) most in
     record {
@@ -83,10 +83,9 @@ made_of key count edges fun weights edge_weights told net (Cut nodes) asked text
           (is ∙ ap (network_of fun.blocks fun.edges weights) same)
           (solves.sides, refl, most ∙ ap (λ m. Some m) (sym second), let below = solves.cut.2 in omega (arith, below, second));
       edges_weighed = λ counts edges_are. absurd cc;
+      told = subst (λ b. AllByRecursion FitsBits (lines_of_repair b fun (repair_by net weights told (Cut nodes)))) (sym by) fits;
       spelled = spelled ∙ ap (λ b. repair_text b fun (repair_by net weights told (Cut nodes))) (sym by);
     }
-
--- ---- edges that are not weighed
 
 -- ---- one function behind the other
 

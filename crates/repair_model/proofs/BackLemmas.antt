@@ -23,7 +23,8 @@ use Rattle.block_model.specs.declared.parts.Weight.TheVariants.{Unknown, Known}
 use Rattle.block_model.specs.Function.{Function}
 use Rattle.flow_model.specs.Network.{Counts}
 use Rattle.repair_model.specs.Judging.{is_block_due, is_edge_due, is_next_edge, cause_of_block, cause_of_edge, cause_of_end, cause_inside, cause_of_begin, cause_of_line, items_from}
-use Rattle.repair_model.specs.Laws.{CanBeTold, IsSmall, IsPassedOver, IsRepairOf, WrittenRepairsAreRead, numbered_repairs, text_of_repairs}
+use Rattle.repair_model.specs.Bits.{IsSmall}
+use Rattle.repair_model.specs.Laws.{CanBeTold, IsPassedOver, IsRepairOf, WrittenRepairsAreRead, numbered_repairs, text_of_repairs}
 use Rattle.repair_model.specs.Line.{Line, line_fields, line_text, spaced, bit_text, weight_text, fits_price}
 use Rattle.repair_model.specs.Line.{begins_flow, begins_cut, tells_count, tells_sides, tells_edge, ends_flow, ends_cut}
 use Rattle.repair_model.specs.Repair.{Repair, Solution, flow, cut, told_edges}

@@ -15,7 +15,8 @@ use Rattle.text_model.proofs.LawLemmas.{decimal_text_is_read, signed_text_is_rea
 use Rattle.block_model.specs.declared.parts.Weight.{Weight}
 use Rattle.block_model.specs.declared.parts.Weight.TheVariants.{Unknown, Known}
 use Rattle.block_model.specs.Line.{◌>>=◌, within_bits, place_of, count_of}
-use Rattle.repair_model.specs.Laws.{IsName, IsSmall, CanBeTold, WrittenLinesAreRead}
+use Rattle.repair_model.specs.Bits.{IsSmall}
+use Rattle.repair_model.specs.Laws.{IsName, CanBeTold, WrittenLinesAreRead}
 use Rattle.repair_model.specs.Line.{Line, line_fields, spaced, weight_text, bit_text, weight_of, fits_price, price_of, sum_of, bit_of, function_line_of, counted_of, sided_of, weighed_of, block_line_of, taken_of, joined_of, edge_line_of, end_line_of, line_by_fields, behind_mark, line_of}
 use Rattle.repair_model.specs.Line.{begins_flow, begins_cut, tells_count, tells_sides, tells_edge, ends_flow, ends_cut}
 

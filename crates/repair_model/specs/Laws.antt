@@ -1,17 +1,16 @@
 -- What follows from the definitions.
-use Rattle.std.specs.Prelude.{◌≡◌, ◌↔◌, ℕ, ◌+◌, ◌<◌, ◌≤◌, ◌^◌, ⊤, Bool, true, false, List, [], ◌∷◌, ◌++◌, length, map, Option, None, Some}
+use Rattle.std.specs.Prelude.{◌≡◌, ◌↔◌, ℕ, ◌+◌, ◌≤◌, ◌^◌, Bool, true, false, List, [], ◌∷◌, ◌++◌, length, map, None, Some}
 use Rattle.std.specs.List.{AllByRecursion, AllZip, flat_map, list_any}
 use Rattle.text_model.specs.Fields.{is_blank, is_filled}
 use Rattle.text_model.specs.Laws.{ended, HasNoLineFeed}
-use Rattle.block_model.specs.declared.parts.Weight.{Weight}
-use Rattle.block_model.specs.declared.parts.Weight.TheVariants.{Unknown, Known}
+use Rattle.block_model.specs.declared.parts.Weight.TheVariants.{Unknown}
 use Rattle.block_model.specs.Function.{Function}
-use Rattle.block_model.specs.Limits.{bound_bits}
 use Rattle.flow_model.specs.Sound.{AreWeights, IsSound}
+use Rattle.repair_model.specs.Bits.{FitsBits}
 use Rattle.repair_model.specs.Checking.{failed_in, network_by, weights_of_edges}
 use Rattle.repair_model.specs.Made.{Repairs}
-use Rattle.repair_model.specs.Line.{Line, line_of, line_text, begins_function, fits_price}
-use Rattle.repair_model.specs.Line.{begins_flow, begins_cut, tells_count, tells_sides, tells_edge, ends_flow, ends_cut}
+use Rattle.repair_model.specs.Line.{Line, line_of, line_text, begins_function}
+use Rattle.repair_model.specs.Line.{begins_flow, begins_cut}
 use Rattle.repair_model.specs.Repair.{Repair, Solution, flow, cut}
 use Rattle.repair_model.specs.Judging.{first_bad_of_repairs}
 use Rattle.repair_model.specs.Text.{lines_of_repair, repair_text, repairs_of}
@@ -21,26 +20,11 @@ pub record IsName (name : List ℕ) : Type 0 where
   pub filled : is_filled name ≡ true
   pub clean : list_any is_blank name ≡ false
 
--- A weight within its bits.
-abbrev pub IsSmall : Weight → Type 0
-IsSmall Unknown = ⊤
-IsSmall (Known weight) = weight < 2 ^ bound_bits
-
-abbrev pub IsSmallIfTold : Option Weight → Type 0
-IsSmallIfTold None = ⊤
-IsSmallIfTold (Some weight) = IsSmall weight
-
 -- What a line can tell: its numbers are within their bits, and a name is one.
 abbrev pub CanBeTold : Line → Type 0
 CanBeTold (begins_flow name) = IsName name
 CanBeTold (begins_cut name root) = IsName name
-CanBeTold (tells_count number weight count enter leave) =
-    (number < 2 ^ 64) × IsSmall weight × (count < 2 ^ 64) × (fits_price enter ≡ true) × (fits_price leave ≡ true)
-CanBeTold (tells_sides number weight enter leave) = (number < 2 ^ 64) × IsSmall weight
-CanBeTold (tells_edge from to weight count) =
-    (from < 2 ^ 64) × (to < 2 ^ 64) × IsSmallIfTold weight × (count < 2 ^ 64)
-CanBeTold (ends_flow cost) = cost < 2 ^ 128
-CanBeTold (ends_cut least most) = (least < 2 ^ 128) × (most < 2 ^ 128)
+CanBeTold line = FitsBits line
 
 -- A line that is written is read as that line. So no two of them are written alike.
 abbrev pub WrittenLinesAreRead : Type 0

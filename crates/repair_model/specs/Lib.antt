@@ -1,3 +1,4 @@
+pub mod Bits
 pub mod Checking
 pub mod Judging
 pub mod Laws

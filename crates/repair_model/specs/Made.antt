@@ -1,6 +1,6 @@
 -- The repairs of functions by what samples say of their blocks and edges.
 use Rattle.std.specs.Prelude.{◌≡◌, ◌<◌, ℕ, true, List, [], ◌∷◌, ◌++◌, map, Option, None, Some, is_some, pos}
-use Rattle.std.specs.List.{AllZip}
+use Rattle.std.specs.List.{AllByRecursion, AllZip}
 use Rattle.block_model.specs.declared.parts.Block.{Block}
 use Rattle.block_model.specs.declared.parts.Edge.{Edge}
 use Rattle.block_model.specs.declared.parts.Weight.{Weight}
@@ -10,8 +10,9 @@ use Rattle.flow_model.specs.Cut.{least_in, most_out}
 use Rattle.flow_model.specs.Network.{Network, arcs_of, network_of}
 use Rattle.flow_model.specs.Repair.{AreLeast, FitCounts, cost_of}
 use Rattle.flow_model.specs.Sides.{AreSides, at_side}
+use Rattle.repair_model.specs.Bits.{FitsBits}
 use Rattle.repair_model.specs.Repair.{Repair, Solution, flow, cut, has_counts}
-use Rattle.repair_model.specs.Text.{repair_text}
+use Rattle.repair_model.specs.Text.{lines_of_repair, repair_text}
 use Rattle.weight_model.specs.Blocks.{IsWeightOf}
 use Rattle.weight_model.specs.Edges.{weight_by}
 
@@ -37,7 +38,7 @@ Repairs net (cut root ins outs) first second =
     × (most_out (at_side root ins outs) (arcs_of net) ≡ Some second) × (second < first)
 
 -- A text is the repair of a function: it tells the weights that its blocks and edges have, and in their place what
--- repairs its network.
+-- repairs its network, in numbers that can be read.
 pub record IsRepairOf {K : Type 0} (key : ℕ → Option K) (count : K → ℕ) (edges : Option EdgeTold) (fun : Function)
     (text : List ℕ) : Type 0 where
   pub repair : Repair
@@ -47,6 +48,7 @@ pub record IsRepairOf {K : Type 0} (key : ℕ → Option K) (count : K → ℕ) 
       repair.solution repair.first repair.second
   pub edges_weighed : has_counts repair.solution ≡ true → is_some edges ≡ true
       → repair.edge_weights ≡ weighed_edges edges fun.blocks fun.edges repair.weights
+  pub told : AllByRecursion FitsBits (lines_of_repair (is_some edges) fun repair)
   pub spelled : text ≡ repair_text (is_some edges) fun repair
 
 -- The repairs of functions, one behind the other.

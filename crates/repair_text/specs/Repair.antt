@@ -1,10 +1,12 @@
 -- Repairs as the code has them.
-use Rattle.std.specs.Prelude.{◌≡◌, ◌≢◌, ℕ, ⊤, List, [], length, Option, None, Some}
+use Rattle.std.specs.Prelude.{◌≡◌, ◌≢◌, ℕ, ◌<◌, ◌^◌, ⊤, List, [], length, Option, None, Some}
 use Rattle.std.specs.Borrow.{Bor}
+use Rattle.std.specs.List.{All}
 use Rattle.std.specs.Option.{unwrap_or}
 use Rattle.block_model.specs.declared.parts.Weight.{Weight}
+use Rattle.block_model.specs.Limits.{bound_bits}
 use Rattle.flow_model.specs.Cut.{least_in, most_out}
-use Rattle.flow_model.specs.Network.{Network, arcs_of}
+use Rattle.flow_model.specs.Network.{Network, arcs_of, weight_of}
 use Rattle.flow_model.specs.Repair.{AreCounts, cost_of}
 use Rattle.flow_model.specs.Sides.{AreSides}
 use Rattle.flow_network.specs.Flow.{counts_of, holds}
@@ -28,6 +30,10 @@ AreAsMany count (Some weights) = length weights.now ≡ count
 
 abbrev pub AreToldWeights : Network → Option (Bor (List Weight)) → Type 0
 AreToldWeights net weights = AreAsMany (length net.edges) weights
+
+-- Weights within their bits.
+abbrev pub AreSmall : List Weight → Type 0
+AreSmall weights = All (λ weight. weight_of weight < 2 ^ bound_bits) weights
 
 -- The repair of a function with this network by counts, and by a cut.
 abbrev pub flow_by : Network → List Weight → List Weight → Flow → Prices → Repair

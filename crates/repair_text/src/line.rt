@@ -1,7 +1,10 @@
 // One line, with its line feed.
-ghost use Rattle.std.specs.Prelude.{◌≡◌, ◌<◌, ◌++◌, codes, length, pos, slice_index_or, OnOk};
+ghost use Rattle.std.specs.Prelude.{◌≡◌, ◌<◌, ◌++◌, ◌^◌, codes, length, pos, slice_index_or, true, OnOk};
 ghost use Rattle.text_model.specs.Laws.{ended};
 ghost use Rattle.text_model.specs.Numbers.{decimal_text, signed_text};
+ghost use Rattle.block_model.specs.Limits.{bound_bits};
+ghost use Rattle.flow_model.specs.Network.{weight_of};
+ghost use Rattle.repair_model.specs.Bits.{FitsBits, IsSmallIfTold};
 ghost use Rattle.repair_model.specs.Line as model;
 
 use block_model::Weight;
@@ -43,9 +46,12 @@ pub(crate) fn push_count(
 ) -> Result<(), NoMemory>
     requires entered { number < length ins.now }
     requires left { number < length outs.now }
-    ensures { OnOk result (text.new.items ≡ text.old.items
+    ensures written { OnOk result (text.new.items ≡ text.old.items
         ++ ended (model.line_text (model.tells_count number weight count
         (slice_index_or ins.now number (pos 0)) (slice_index_or outs.now number (pos 0))))) }
+    ensures fits { OnOk result (weight_of weight < 2 ^ bound_bits
+        → FitsBits (model.tells_count number weight count
+        (slice_index_or ins.now number (pos 0)) (slice_index_or outs.now number (pos 0)))) }
 {
     push_block(text, number, weight)?;
     text.extend_from_slice(b" count ")?;
@@ -61,8 +67,10 @@ pub(crate) fn push_count(
 /// Appends the price of a block's side.
 fn push_price(text: &mut Vec<u8>, prices: &[i64], number: usize) -> Result<(), NoMemory>
     requires { number < length prices.now }
-    ensures { OnOk result (text.new.items ≡ text.old.items
+    ensures written { OnOk result (text.new.items ≡ text.old.items
         ++ signed_text (slice_index_or prices.now number (pos 0))) }
+    ensures fits { OnOk result
+        (model.fits_price (slice_index_or prices.now number (pos 0)) ≡ true) }
 {
     push_signed(text, prices[number])
 }
@@ -75,8 +83,10 @@ pub(crate) fn push_sides(
     enter: bool,
     leave: bool,
 ) -> Result<(), NoMemory>
-    ensures { OnOk result (text.new.items ≡ text.old.items
+    ensures written { OnOk result (text.new.items ≡ text.old.items
         ++ ended (model.line_text (model.tells_sides number weight enter leave))) }
+    ensures fits { OnOk result (weight_of weight < 2 ^ bound_bits
+        → FitsBits (model.tells_sides number weight enter leave)) }
 {
     push_block(text, number, weight)?;
     text.extend_from_slice(b" in ")?;
@@ -95,8 +105,10 @@ pub(crate) fn push_edge(
     weight: Option<Weight>,
     count: u64,
 ) -> Result<(), NoMemory>
-    ensures { OnOk result (text.new.items ≡ text.old.items
+    ensures written { OnOk result (text.new.items ≡ text.old.items
         ++ ended (model.line_text (model.tells_edge from to weight count))) }
+    ensures fits { OnOk result (IsSmallIfTold weight
+        → FitsBits (model.tells_edge from to weight count)) }
 {
     text.extend_from_slice(b"# edge ")?;
     push_number(text, u128::from(from))?;
@@ -114,8 +126,9 @@ pub(crate) fn push_edge(
 
 /// Appends `# end COST`.
 pub(crate) fn push_end_of_flow(text: &mut Vec<u8>, cost: u128) -> Result<(), NoMemory>
-    ensures { OnOk result (text.new.items
+    ensures written { OnOk result (text.new.items
         ≡ text.old.items ++ ended (model.line_text (model.ends_flow cost))) }
+    ensures fits { OnOk result (FitsBits (model.ends_flow cost)) }
 {
     text.extend_from_slice(b"# end ")?;
     push_number(text, cost)?;
@@ -125,8 +138,9 @@ pub(crate) fn push_end_of_flow(text: &mut Vec<u8>, cost: u128) -> Result<(), NoM
 
 /// Appends `# end LOWER UPPER`.
 pub(crate) fn push_end_of_cut(text: &mut Vec<u8>, least: u128, most: u128) -> Result<(), NoMemory>
-    ensures { OnOk result (text.new.items
+    ensures written { OnOk result (text.new.items
         ≡ text.old.items ++ ended (model.line_text (model.ends_cut least most))) }
+    ensures fits { OnOk result (FitsBits (model.ends_cut least most)) }
 {
     text.extend_from_slice(b"# end ")?;
     push_number(text, least)?;

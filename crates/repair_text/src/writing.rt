@@ -1,6 +1,7 @@
 // The lines of a repair.
 ghost use Rattle.std.specs.Prelude.{◌≡◌, ◌≢◌, ◌++◌, ◌<◌, ℕ, Bool, List, length, None, Some};
 ghost use Rattle.std.specs.Prelude.{is_some, slice_index_or, OnErr, OnOk, if◌then◌else◌};
+ghost use Rattle.std.specs.List.{AllByRecursion};
 ghost use Rattle.block_model.specs.declared.parts.Weight.{Weight};
 ghost use Rattle.block_model.specs.declared.parts.Weight.TheVariants.{Unknown};
 ghost use Rattle.cfg_text.specs.Fun.{function_of};
@@ -9,9 +10,10 @@ ghost use Rattle.flow_model.specs.Network.{arcs_of};
 ghost use Rattle.flow_model.specs.Repair.{AreCounts};
 ghost use Rattle.flow_model.specs.Sides.{AreSides};
 ghost use Rattle.flow_network.specs.Flow.{counts_of, holds};
+ghost use Rattle.repair_model.specs.Bits.{FitsBits};
 ghost use Rattle.repair_model.specs.Repair as told;
 ghost use Rattle.repair_model.specs.Text as model;
-ghost use Rattle.repair_text.specs.Repair.{AreAsMany, AreToldWeights, IsOf};
+ghost use Rattle.repair_text.specs.Repair.{AreAsMany, AreSmall, AreToldWeights, IsOf};
 ghost use Rattle.repair_text.specs.Repair.{cut_by, flow_by, repair_by, weights_of};
 
 use crate::line::{
@@ -32,6 +34,8 @@ use refusal::NoMemory;
 /// block, and `# end LOWER UPPER`. `W` is `?` where no sample could have told; `R`, `S` and `T` are
 /// 1 for a side in the cut, and else 0.
 ///
+/// Where weights are below 2^44, each number is within the bits in which it is read.
+///
 /// # Errors
 /// `NoMemory`, and `out` is as it was.
 pub fn write(
@@ -50,6 +54,10 @@ pub fn write(
     ensures written { OnOk result (out.new.items ≡ out.old.items
         ++ model.repair_text (is_some edges.entry) (function_of fun.now)
         (repair_by net.now weights.now (weights_of edges.entry) solved.now)) }
+    ensures fits { OnOk result (AreSmall weights.now → AreSmall (weights_of edges.entry)
+        → AllByRecursion FitsBits
+        (model.lines_of_repair (is_some edges.entry) (function_of fun.now)
+        (repair_by net.now weights.now (weights_of edges.entry) solved.now))) }
     ensures unchanged { OnErr result (out.new.items ≡ out.old.items) }
 {
     let mut text = Vec::new(*out.allocator());
@@ -79,9 +87,13 @@ fn push_flow(
     requires edges_weighed { AreToldWeights net.now edges }
     requires counted { AreCounts net.now (counts_of flow.now) }
     requires priced { AreSides net.now prices.now.ins prices.now.outs }
-    ensures { OnOk result (text.new.items ≡ text.old.items
+    ensures written { OnOk result (text.new.items ≡ text.old.items
         ++ model.repair_text (is_some edges.entry) (function_of fun.now)
         (flow_by net.now weights.now (weights_of edges.entry) flow.now prices.now)) }
+    ensures fits { OnOk result (AreSmall weights.now → AreSmall (weights_of edges.entry)
+        → AllByRecursion FitsBits
+        (model.lines_of_repair (is_some edges.entry) (function_of fun.now)
+        (flow_by net.now weights.now (weights_of edges.entry) flow.now prices.now))) }
 {
     push_begin_of_flow(text, fun.name)?;
     push_counts(text, net.block_count(), weights, flow, prices)?;
@@ -102,9 +114,12 @@ fn push_cut(
     requires weighed { length weights.now ≡ length net.now.blocks }
     requires sided { AreSides net.now nodes.now.ins nodes.now.outs }
     requires bounded { most_out (holds nodes.now) (arcs_of net.now) ≢ None }
-    ensures { OnOk result ((weighed : Bool) → text.new.items
+    ensures written { OnOk result ((weighed : Bool) → text.new.items
         ≡ text.old.items ++ model.repair_text weighed (function_of fun.now)
         (cut_by net.now weights.now nodes.now)) }
+    ensures fits { OnOk result ((weighed : Bool) → AreSmall weights.now
+        → AllByRecursion FitsBits (model.lines_of_repair weighed (function_of fun.now)
+        (cut_by net.now weights.now nodes.now))) }
 {
     push_begin_of_cut(text, fun.name, nodes.root)?;
     push_nodes(text, net.block_count(), weights, nodes)?;
@@ -125,9 +140,12 @@ fn push_edges(
 ) -> Result<(), NoMemory>
     requires weighed { AreAsMany (length edges.now) weights }
     requires counted { length flow.now.edges ≡ length edges.now }
-    ensures { OnOk result (text.new.items ≡ text.old.items
+    ensures written { OnOk result (text.new.items ≡ text.old.items
         ++ model.text_of_lines (model.lines_of_edges (is_some weights.entry) edges.now
         (weights_of weights.entry)
+        (told.flow (counts_of flow.now) prices.now.ins prices.now.outs))) }
+    ensures fits { OnOk result (AreSmall (weights_of weights.entry) → AllByRecursion FitsBits
+        (model.lines_of_edges (is_some weights.entry) edges.now (weights_of weights.entry)
         (told.flow (counts_of flow.now) prices.now.ins prices.now.outs))) }
 {
     let counts = flow.edges.as_slice();
@@ -168,8 +186,11 @@ fn push_counts(
     requires counted { length flow.now.blocks ≡ count }
     requires entered { length prices.now.ins ≡ count }
     requires left { length prices.now.outs ≡ count }
-    ensures { OnOk result (text.new.items ≡ text.old.items
+    ensures written { OnOk result (text.new.items ≡ text.old.items
         ++ model.text_of_lines (model.lines_of_blocks count weights.now
+        (told.flow (counts_of flow.now) prices.now.ins prices.now.outs))) }
+    ensures fits { OnOk result (AreSmall weights.now → AllByRecursion FitsBits
+        (model.lines_of_blocks count weights.now
         (told.flow (counts_of flow.now) prices.now.ins prices.now.outs))) }
 {
     let counts = flow.blocks.as_slice();
@@ -191,8 +212,11 @@ fn push_nodes(
     requires weighed { length weights.now ≡ count }
     requires entered { length nodes.now.ins ≡ count }
     requires left { length nodes.now.outs ≡ count }
-    ensures { OnOk result (text.new.items ≡ text.old.items
+    ensures written { OnOk result (text.new.items ≡ text.old.items
         ++ model.text_of_lines (model.lines_of_blocks count weights.now
+        (told.cut nodes.now.root nodes.now.ins nodes.now.outs))) }
+    ensures fits { OnOk result (AreSmall weights.now → AllByRecursion FitsBits
+        (model.lines_of_blocks count weights.now
         (told.cut nodes.now.root nodes.now.ins nodes.now.outs))) }
 {
     let ins = nodes.ins.as_slice();

@@ -1,13 +1,18 @@
-use Rattle.std.proofs.Common.{◌≡◌, List, [], ap, length, false, sym, true, ◌∙◌}
+use Rattle.std.proofs.Common.{◌≡◌, ◌<◌, ◌^◌, List, [], ap, length, false, subst, sym, true, ◌∙◌}
 use Rattle.std.specs.Prelude.{is_some}
+use Rattle.std.specs.List.{AllByRecursion}
+use Rattle.std.proofs.lemmas.List.Elements.{All-nil}
 use Rattle.block_model.specs.declared.parts.Weight.{Weight}
+use Rattle.block_model.specs.Limits.{bound_bits}
 use Rattle.block_weights.specs.Counts.{count_in}
 use Rattle.cfg_text.specs.Fun.{function_of}
 use Rattle.key_types.specs.Segments.{key_told}
-use Rattle.repair_model.specs.Text.{repair_text}
-use Rattle.repair_text.specs.Repair.{repair_by}
+use Rattle.flow_model.specs.Network.{weight_of}
+use Rattle.repair_model.specs.Bits.{FitsBits}
+use Rattle.repair_model.specs.Text.{lines_of_repair, repair_text}
+use Rattle.repair_text.specs.Repair.{AreSmall, repair_by}
 use Rattle.repair_maker.specs.Told.{edges_told}
-use Rattle.repair_maker.proofs.RepairLemmas.{made_of, on_ok, repaired_blocks, repaired_edges}
+use Rattle.repair_maker.proofs.RepairLemmas.{made_of, on_both, repaired_blocks, repaired_edges}
 use Rattle.repair_maker.proofs.maker.write_one.Goals as goal
 
 pub write-requires-clause-blocks : goal.write-requires-clause-blocks
@@ -30,12 +35,14 @@ pub returns-in-Some-clause-written : goal.returns-in-Some-clause-written
 returns-in-Some-clause-written c =
     let made = c.in_ok-made.made in
     let is = c.in_ok-made.ensures in
-    on_ok c.write.result c.write.ensures.written (λ appended. (
+    on_both c.write.result c.write.ensures.written c.write.ensures.fits (λ appended fits. (
       repair_text true (function_of c.args.fun.now) (repair_by made.net c.deref.result.now c.deref-in-Some.result.now made.solved),
       appended,
       made_of (key_told c.args.segments.now) (count_in c.args.counts.now) (edges_told c.args.edges) (function_of c.args.fun.now) made.weights.items made.edge_weights.items c.deref-in-Some.result.now made.net made.solved true
           (repair_text true (function_of c.args.fun.now) (repair_by made.net c.deref.result.now c.deref-in-Some.result.now made.solved))
           (ap (λ edges. is_some (edges_told edges)) c.in-Some.is) is.weighed is.edges_weighed (λ asked. c.deref-in-Some.ensures.value) is.net_is is.solves
+          (subst (λ ws. AllByRecursion FitsBits (lines_of_repair true (function_of c.args.fun.now) (repair_by made.net ws c.deref-in-Some.result.now made.solved))) c.deref.ensures.value
+          (fits (subst AreSmall (sym c.deref.ensures.value) is.small.small) (subst AreSmall (sym c.deref-in-Some.ensures.value) is.edges_small.small)))
           (ap (λ ws. repair_text true (function_of c.args.fun.now) (repair_by made.net ws c.deref-in-Some.result.now made.solved)) c.deref.ensures.value),
     ))
 
@@ -55,11 +62,13 @@ returns-clause-written c =
     let made = c.in_ok-made.made in
     let is = c.in_ok-made.ensures in
     let none : is_some (edges_told c.args.edges) ≡ false = ap (λ edges. is_some (edges_told edges)) c.in-None.is in
-    on_ok c.write-in-None.result c.write-in-None.ensures.written (λ appended. (
+    on_both c.write-in-None.result c.write-in-None.ensures.written c.write-in-None.ensures.fits (λ appended fits. (
       repair_text false (function_of c.args.fun.now) (repair_by made.net c.deref-in-None.result.now [] made.solved),
       appended,
       made_of (key_told c.args.segments.now) (count_in c.args.counts.now) (edges_told c.args.edges) (function_of c.args.fun.now) made.weights.items made.edge_weights.items [] made.net made.solved false
           (repair_text false (function_of c.args.fun.now) (repair_by made.net c.deref-in-None.result.now [] made.solved))
           none is.weighed is.edges_weighed (λ asked. let both : false ≡ true = sym none ∙ asked in absurd cc) is.net_is is.solves
+          (subst (λ ws. AllByRecursion FitsBits (lines_of_repair false (function_of c.args.fun.now) (repair_by made.net ws [] made.solved))) c.deref-in-None.ensures.value
+          (fits (subst AreSmall (sym c.deref-in-None.ensures.value) is.small.small) (All-nil (λ (weight : Weight). weight_of weight < 2 ^ bound_bits))))
           (ap (λ ws. repair_text false (function_of c.args.fun.now) (repair_by made.net ws [] made.solved)) c.deref-in-None.ensures.value),
     ))

@@ -2,8 +2,8 @@
 use Rattle.std.proofs.Common.{append_assoc}
 use Rattle.repair_text.proofs.line.push_sides.Goals as goal
 
-pub returns : goal.returns
-returns c =
+pub returns-clause-written : goal.returns-clause-written
+returns-clause-written c =
     rw (
       c.in_ok-push.ensures.items,
       c.in_ok-push_bit-2.ensures,

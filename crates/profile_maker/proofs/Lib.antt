@@ -1,7 +1,9 @@
 pub mod BuiltLemmas
 pub mod NameLemmas
+pub mod OutputLemmas
 pub mod RepairLemmas
 pub mod SegmentLemmas
 pub mod KeyWayLemmas
 pub mod SampleLemmas
 pub mod ShownLemmas
+pub mod SummaryLemmas

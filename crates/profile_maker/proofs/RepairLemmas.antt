@@ -13,6 +13,7 @@ use Rattle.repair_model.specs.Made.{AreRepairsOf, EdgeTold, IsRepairOf}
 use Rattle.report_model.specs.Report.{Sampled}
 use Rattle.inline_tree.proofs.StepLemmas.{AllZip-mono}
 use Rattle.output_model.specs.Built.{branches_from}
+use Rattle.output_model.specs.Summary.{IsRepairCost}
 
 -- ---- weights of blocks
 
@@ -59,6 +60,14 @@ module _ {K L : Type 0} (key : ℕ → Option K) (count : K → ℕ) (way : ℕ 
   repairs_alike edges other same [] text are = are
   repairs_alike edges other same (fun ∷ funs) text are =
       (are.0, are.1, are.2, repair_alike edges other same fun are.0 are.3, repairs_alike edges other same funs are.1 are.4)
+
+  -- what they cost is the same too
+  pub cost_alike : (fun : Function) (cost : Option ℕ) → IsRepairCost key count fun cost → IsRepairCost way count_of fun cost
+  cost_alike fun cost is = record {
+    weights = is.weights;
+    weighed = AllZip-mono (IsWeightOf key count) (IsWeightOf way count_of) (λ block. weight_alike block.lo block.hi) fun.blocks is.weights is.weighed;
+    least = is.least;
+  }
 
 -- ---- weights of edges
 

@@ -1,3 +1,4 @@
 pub mod Edges
 pub mod MapLaws
 pub mod Laws
+pub mod Profiled

@@ -1,5 +1,8 @@
 //! The profile of a binary and the report on its samples, from the binary's map and what was
-//! counted of a branch text; and between the two a repair of each function of a block text.
+//! counted of a branch text; between the two a repair of each function of a block text; or a
+//! summary of all.
+//!
+//! The profile is made once (`profile_of`), and each of the three stands on it.
 //!
 //! By the laws what was read of a binary, the segments of its map, the numbers of its keys and the
 //! names in them, meets all that making a profile asks of these.
@@ -9,8 +12,11 @@ mod builder;
 mod laws;
 mod maker;
 mod map_laws;
+mod profiled;
+mod summary;
 
 pub use builder::build;
 pub use laws::{binaries_show_programs, key_ways_are_told};
 pub use maker::make;
 pub use map_laws::{entries_are_given, keys_have_names, places_are_given, segments_fit};
+pub use summary::summarize;

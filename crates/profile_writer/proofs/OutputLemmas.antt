@@ -1,5 +1,6 @@
 -- The profile of what was counted is that of the program and its samples.
-use Rattle.std.proofs.Common.{◌≡◌, ◌<◌, ℕ, ◌^◌, nat_lt, true, false, List, [], ◌++◌, map, length, Option, sym, ap, subst, ◌∙◌, arith}
+use Rattle.std.proofs.Common.{◌≡◌, ◌<◌, ℕ, ◌+◌, ◌^◌, nat_lt, true, false, List, [], ◌∷◌, map, length, sum_by, Option, refl, sym, ap, subst, ◌∙◌, arith}
+use Rattle.std.proofs.lemmas.List.Sums.{sum_by-cons}
 use Rattle.std.specs.List.{All, filter_map}
 use Rattle.std.proofs.lemmas.Bool.Decides.{nat_tests}
 use Rattle.profile_model.specs.Hits.{hits_at}
@@ -15,9 +16,8 @@ use Rattle.report_model.specs.Branches.{branch_class}
 use Rattle.report_model.specs.Ranges.{range_class}
 use Rattle.profile_laws.proofs.CountLemmas.{lines_are_by_counts}
 use Rattle.profile_model.specs.Profile.{lines_of}
-use Rattle.profile_model.specs.Text.{profile_text, text_of_lines}
+use Rattle.profile_model.specs.Text.{text_of_lines}
 use Rattle.profile_report.specs.Classed.{classed_by}
-use Rattle.profile_report.specs.Told.{Tells}
 use Rattle.profile_report.specs.declared.classed.Classed.{Classed}
 use Rattle.profile_report.specs.declared.report.Units.{Units}
 use Rattle.profile_tree.proofs.ListLemmas.{Among, range_among}
@@ -26,17 +26,32 @@ use Rattle.profile_tree.specs.Known.{HasNames}
 use Rattle.profile_tree.specs.Said.{AreCountsOfPlaces, said}
 use Rattle.profile_tree.specs.Told.{told}
 use Rattle.profile_tree.specs.declared.line.Line.{Line}
+use Rattle.profile_tree.specs.declared.line.Line.TheVariants.{Function, Body, Call}
 use Rattle.weight_model.specs.Edges.{passed}
-use Rattle.report_model.specs.Report.{Classes, Sampled, report_text}
-use Rattle.output_model.specs.Output.{output_text}
+use Rattle.report_model.specs.Report.{Sampled}
 use Rattle.output_model.specs.Program.{Program}
 use Rattle.output_model.specs.Sampled.{all_addresses, hits_of, profile_of}
+use Rattle.output_model.specs.Summary.{function_total, totals_in}
 use Rattle.profile_writer.proofs.BranchLemmas.{calls_given, heads_alike, heads_given, targets_alike}
 use Rattle.profile_writer.proofs.ClassLemmas.{classes_told, report_alike}
 use Rattle.profile_writer.proofs.CountLemmas.{counted_alike, counts_alike, hits_alike, passed_alike}
 use Rattle.profile_writer.specs.Items.{call_in, head_in, ran_in}
-use Rattle.profile_writer.specs.Profile.{IsProfileOf, Parts, lines_text}
+use Rattle.profile_writer.specs.Profile.{IsProfileOf, total_of_line}
 use Rattle.profile_writer.specs.Told.{TellsProgram, TellsSampled}
+
+-- a line has its total as it is told
+total_told : (names : List (List ℕ)) (line : Line) → total_of_line line ≡ function_total (told names line)
+total_told names (Function name total head) = refl
+total_told names (Body depth offset disc count targets) = refl
+total_told names (Call depth offset disc name total) = refl
+
+totals_told : (names : List (List ℕ)) (lines : List Line) → sum_by total_of_line lines ≡ totals_in (map (told names) lines)
+totals_told names [] = refl
+totals_told names (line ∷ lines) =
+    sum_by-cons total_of_line line lines
+    ∙ ap (λ (n : ℕ). n + sum_by total_of_line lines) (total_told names line)
+    ∙ ap (λ (n : ℕ). function_total (told names line) + n) (totals_told names lines)
+    ∙ sym (sum_by-cons function_total (told names line) (map (told names) lines))
 
 -- every address is among all
 below : (address bound : ℕ) → nat_lt address bound ≡ true → address < bound
@@ -95,10 +110,12 @@ module _ (program : Program) (sampled : Sampled) (all : List (List ℕ)) (keys :
       subst (λ (xs : List (Classed RangeClass)). AreCountsOfPlaces segments (hits_at (filter_map ran_in xs)) counts) rs_are counts_are in
       let none_beyond : (address : ℕ) → nat_lt address (2 ^ 64) ≡ false → hits_at (filter_map ran_in ranges) address ≡ 0 =
       λ address far. ap (λ (xs : List (Classed RangeClass)). hits_at (filter_map ran_in xs) address) (sym rs_are) ∙ beyond address far in
+      let lines_same : map (told all) lines ≡ lines_of (profile_of program sampled) =
+      lines_are ∙ ap (λ (xs : List (Classed Class)). lines_of (said all keys counts (filter_map (call_in place) xs) (filter_map head_in xs))) bs_are
+      ∙ lines_alike counts given len counts_told none_beyond in
       record {
-        written = ap text_of_lines
-            (lines_are ∙ ap (λ (xs : List (Classed Class)). lines_of (said all keys counts (filter_map (call_in place) xs) (filter_map head_in xs))) bs_are
-            ∙ lines_alike counts given len counts_told none_beyond);
+        written = ap text_of_lines lines_same;
+        totalled = totals_told all lines ∙ ap totals_in lines_same;
         classes = classes_told place function entered;
         classed = record {
           branch_rows = branch_rows;
@@ -116,14 +133,3 @@ module _ (program : Program) (sampled : Sampled) (all : List (List ℕ)) (keys :
             (filter_map (call_in place) branches) (filter_map head_in branches) given len (subst (λ f. AreCountsOfPlaces segments f counts) hits_are counts_told);
         passing = ap (λ (xs : List (Classed RangeClass)). passed (filter_map ran_in xs)) ds_are ∙ passed_alike program sampled function range_rows shown.functions rows.of_ranges;
       }
-
--- what is written of it is the profile and the report
-pub output_alike : (program : Program) (sampled : Sampled) (names : List (List ℕ)) (segments : List Seg) (parts : Parts) → IsProfileOf program sampled names segments parts
-    → (none before after : List ℕ) → none ≡ [] → before ≡ none ++ lines_text names parts
-    → ((classes : Classes) (s : Sampled) → Tells classes s parts.branches parts.ranges parts.units → after ≡ before ++ report_text classes s)
-    → after ≡ output_text program sampled
-unfolding output_text
-output_alike program sampled names segments parts is none before after none_is before_is after_is =
-    after_is is.classes sampled is.classed
-    ∙ ap (λ (t : List ℕ). t ++ report_text is.classes sampled) (before_is ∙ ap (λ (t : List ℕ). t ++ lines_text names parts) none_is ∙ is.written)
-    ∙ ap (λ (t : List ℕ). profile_text (profile_of program sampled) ++ t) is.reported

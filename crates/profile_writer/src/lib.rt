@@ -2,17 +2,15 @@
 //! program's places.
 //!
 //! `Profile` classes the sampled branches and ranges once, and counts how often addresses ran, what
-//! was called and what was entered. It appends the lines that come of these and the report, and
-//! lends the counts of keys and the ranges that ran to what is weighed by them. `write` does both.
+//! was called and what was entered. It appends the lines that come of these and the report, tells
+//! their totals, and lends the counts of keys and the ranges that ran to what is weighed by them.
 #![tactic(auto)]
 
 mod counted;
-mod output;
 mod profile;
 mod samples;
 mod tree;
 
-pub use output::write;
 pub use profile::Profile;
 pub use profile_report::Units;
 pub use samples::Samples;

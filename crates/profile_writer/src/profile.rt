@@ -11,7 +11,7 @@ ghost use Rattle.profile_tree.specs.Told.{IsOf};
 ghost use Rattle.report_model.specs.Report.{Classes, Sampled, report_text};
 ghost use Rattle.sample_model.specs.Limits.{max_branches};
 ghost use Rattle.output_model.specs.Program.{Program};
-ghost use Rattle.profile_writer.specs.Profile.{IsProfileOf, lines_text, ran as ranges_run};
+ghost use Rattle.profile_writer.specs.Profile.{IsProfileOf, lines_text, ran as ranges_run, total_of, total_of_line};
 ghost use Rattle.profile_writer.specs.Told.{TellsProgram, TellsSampled};
 
 use crate::counted::ran_of;
@@ -20,7 +20,7 @@ use crate::tree::tree_of;
 use branch_class::{Class, RangeClass};
 use key_types::{Keys, Names, Places, Seg};
 use profile_report::{Classed, Units, class_branches, class_ranges};
-use profile_tree::Tree;
+use profile_tree::{Line, Tree};
 use range_counts::RanRange;
 use refusal::NoMemory;
 use std::alloc::Global;
@@ -126,6 +126,17 @@ impl Profile {
         profile_report::write(out, &self.branches, &self.ranges, self.units)
     }
 
+    /// The totals of all functions, together.
+    pub fn total(&self) -> u128
+        ensures { result ≡ total_of self.now }
+    {
+        let mut total: u128 = 0;
+        for line in self.tree.lines.as_slice() {
+            total += u128::from(total_of(line));
+        }
+        total
+    }
+
     /// The count of each key, at its number.
     pub fn counts(&self) -> &[u64]
         ensures same { result.now ≡ self.now.counts }
@@ -143,5 +154,15 @@ impl Profile {
         ensures few { IfOk result (λ ran. times_of ran.items ≤ max_branches) }
     {
         ran_of(alloc, &self.ranges)
+    }
+}
+
+/// The total in the line of a function; no other line counts.
+fn total_of(line: &Line) -> u64
+    ensures { result ≡ total_of_line line.now }
+{
+    match line {
+        Line::Function { total, .. } => *total,
+        Line::Body { .. } | Line::Call { .. } => 0,
     }
 }

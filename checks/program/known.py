@@ -4,6 +4,7 @@
 What it has to write is worked out by hand from docs/FORMATS.md and docs/RULES.md, and the places of the file where a
 changed byte is refused too. The last line tells how many cases passed and failed; a case that failed has a line.
 """
+import itertools
 import os
 import re
 import subprocess
@@ -292,13 +293,17 @@ def words():
     for spelled in [
         "where", "where bin", "where bin xyz", "where bin 0x", "where bin 0X1", "where bin 00000000000401000",
         "where --base --base bin 401000", "where --bases bin 401000", "where -- bin 401000", "where bin --base 401000",
-        "where bin 401000 --base", "profile", "profile bin", "make 1 bin", "build bin perf",
+        "where bin 401000 --base", "profile", "profile bin", "build bin perf",
         "where --base bin 401000 x", "where --base bin 401000 x y", "where --base bin 401000 x y z",
         "profile --map=/x --base bin perf x", "profile --map=/x --base bin perf x y", "profile bin perf x y z v",
         "profile --map=/x --base --base bin perf", "profile --map=/x --base --base --map=/y bin perf",
         "counts perf x y z u", "counts perf x y z u v", "where --edges bin 401000", "profile --edges bin perf",
         "build bin perf perf perf", "build --edges --edges bin perf perf", "build --map= bin perf perf",
         "build --scaled bin perf perf", "build --edges bin perf", "build bin --edges perf perf",
+        "build --base --base bin perf perf", "build --map=/x --map=/x bin perf perf", "build --map=/x --map=/y bin perf perf",
+        "build --edge bin perf perf", "build --edges= bin perf perf", "build --map bin perf perf", "build bin perf perf --edges",
+        "build --edges --base --map=/x --edges bin perf perf", "build --edges --base --map=/x bin perf",
+        "build --edges --base --map=/x bin perf perf perf", "build bin perf perf perf perf perf", "build",
     ]:
         judge(spelled, (BAD_WORDS, b"", USAGE), spelled.split(), bin=ONE, perf=b"")
     for options in [["--map=/x", "--base"], ["--base", "--map=/x"]]:
@@ -453,19 +458,44 @@ def builds():
         "a repair between profile and report", (DONE, wanted, b""), ["build", "bin", "perf", "cfg"], told=without_prices,
         bin=ONE, perf=first, cfg=BLOCKS,
     )
+    wanted = b"f0000:5:5\n 0: 5\n" + CUT + (
+        b"# branches 10\n# entries 5\n# inside 0\n# unmapped ToOutside 0x401000 0x9 5\n# ranges ran 5\n"
+        b"# ranges reversed 0\n# ranges outside 0\n# ranges crossing 0\n# units read 1 passed 0\n"
+    )
+    judge(
+        "a cut between profile and report", (DONE, wanted, b""), ["build", "bin", "perf", "cfg"],
+        bin=ONE, perf=b"0x401000/0x9 0x9/0x401000\n" * 5, cfg=LOOP,
+    )
     none = (b"0", b"0", b"0", b"0"), (0,) * 8, 0
     repaired("no sample", b"", BLOCKS, counted(*none))
     repaired("no sample of edges", b"", BLOCKS, counted(*none, edges=(b"0",) * 4), "--edges")
     uneven = b"0x401001/0x9 0x9/0x401001\n" * 100 + b"0x401008/0x9 0x9/0x401008\n" * 60 + b"0x401020/0x9 0x9/0x401020\n" * 100
     weights, counts = (b"100", b"60", b"0", b"100"), (100, 100, 0, 100, 100, 0, 100, 0)
-    repaired("weights that do not conserve", uneven, BLOCKS, counted(weights, counts, 400))
+    ends = [b"0x401001 0x9 100", b"0x401008 0x9 60", b"0x401020 0x9 100"]
+    wanted = b"f0000:260:0\n 0: 100\n 1: 60\n 2.2: 100\n" + counted(weights, counts, 400) + (
+        b"# branches 520\n# entries 0\n# inside 0\n# unmapped FromOutside 0x9 0x401001 100\n"
+        b"# unmapped FromOutside 0x9 0x401008 60\n# unmapped FromOutside 0x9 0x401020 100\n"
+    ) + b"".join(b"# unmapped ToOutside %s\n" % end for end in ends) + (
+        b"# ranges ran 260\n# ranges reversed 0\n# ranges outside 0\n# ranges crossing 0\n# units read 1 passed 0\n"
+    )
+    judge(
+        "weights that do not conserve", (DONE, wanted, b""), ["build", "bin", "perf", "cfg"], told=without_prices,
+        bin=ONE, perf=uneven, cfg=BLOCKS,
+    )
     repaired("the same with edges that no branch took", uneven, BLOCKS, counted(weights, counts, 1000, edges=(b"0",) * 4), "--edges")
     both = (b"1", b"1", b"1", b"2"), (2, 1, 1, 2, 1, 1, 1, 1), 40
     judge(
         "two ways, of which several counts cost as little", (DONE, b"# end 40\n", b""), ["build", "bin", "perf", "cfg"],
         told=lambda out: b"".join(re.findall(rb"# end .*\n", out)), bin=ONE, perf=TWO_SAMPLES, cfg=BLOCKS,
     )
-    repaired("two ways by their edges", TWO_SAMPLES, BLOCKS, counted(*both, edges=(b"1",) * 4), "--edges")
+    wanted = b"f0000:7:1\n 0: 1\n 1: 1\n 2.2: 2\n 3: 2 f0000:1\n 2.1: g:1\n  1: 1\n" + counted(*both, edges=(b"1",) * 4) + (
+        b"# branches 5\n# entries 1\n# inside 4\n# ranges ran 3\n# ranges reversed 0\n# ranges outside 0\n"
+        b"# ranges crossing 0\n# units read 1 passed 0\n"
+    )
+    judge(
+        "two ways by their edges", (DONE, wanted, b""), ["build", "--edges", "bin", "perf", "cfg"], told=without_prices,
+        bin=ONE, perf=TWO_SAMPLES, cfg=BLOCKS,
+    )
     repaired("a function twice", uneven, BLOCKS + BLOCKS, 2 * counted(weights, counts, 400))
     repaired("no function", TWO_SAMPLES, b"", b"")
     repaired(
@@ -515,6 +545,10 @@ def builds():
         (b"file 3 at 3: NoEndLine", ONE, b"func a\nblock 0 0x1 0x2\n", b""),
         (b"file 2 at 1: BadLine", ONE, b"zz\n", b"zz\n"),
         (b"file 1 at 0: NotElf", b"zz\n", b"zz\n", b"zz\n"),
+        (b"file 3 at 3: BlockOverlap", ONE, b"func a\nblock 0 0x1 0x3\nblock 1 0x2 0x4\n", b""),
+        (b"file 3 at 2: NoBlocks", ONE, b"func a\nend\n", b""),
+        (b"file 3 at 2: BadLine", ONE, b"func a\nblock 0 0x1 0x2 never ran\n", b""),
+        (b"file 3 at 11: BadLine", ONE, BLOCKS + b"block 0 0x1 0x2\n", TWO_SAMPLES),
     ]:
         judge(
             said.decode(), (REFUSED, b"", b"refused: " + said + b"\n"), ["build", "bin", "perf", "cfg"],
@@ -525,6 +559,59 @@ def builds():
             "file %d missing" % k, (MISSING, b"", b"no such file: %d\n" % k), ["build", *words],
             bin=ONE, perf=b"", cfg=BLOCKS,
         )
+    for said, words in [(b"file 1 at 0: NotElf", ["cfg", "x", "x"]), (b"file 2 at 1: BadLine", ["bin", "cfg", "x"])]:
+        judge(
+            "a bad file before a missing one", (REFUSED, b"", b"refused: " + said + b"\n"), ["build", *words],
+            bin=ONE, perf=b"", cfg=BLOCKS,
+        )
+
+
+# The generated function as two blocks, of which the second begins at 0x401020.
+HALVES = b"func f0000\nblock 0 0x401000 0x401020\nblock 1 0x401020 0x401040 exit\nedge 0 1\nend\n"
+
+
+def builds_with_options():
+    def halves(title, binary, perf, profile, weights, counts, cost, report, *options, ran=0, outside=0):
+        wanted = profile + b"# function f0000 flow\n" + b"".join(
+            b"# block %d weight %d count %d\n" % (k, weight, counts) for k, weight in enumerate(weights)
+        ) + b"# edge 0 1 %scount %d\n# end %d\n" % (b"weight 0 " if "--edges" in options else b"", counts, cost) + report + (
+            b"# ranges ran %d\n# ranges reversed 0\n# ranges outside %d\n# ranges crossing 0\n" % (ran, outside)
+            + b"# units read 1 passed 0\n"
+        )
+        judge(
+            title, (DONE, wanted, b""), ["build", *options, "bin", "perf", "cfg"], told=without_prices,
+            bin=binary, perf=perf, cfg=HALVES,
+        )
+
+    # A block is known by the line that its addresses have with bases too, and counted with its factor.
+    copied = changed(ONE, (278, 278, 0x11))
+    thrice = b"0x401021/0x9 0x9/0x401020\n" * 3
+    report = (
+        b"# branches 6\n# entries 0\n# inside 0\n# unmapped FromOutside 0x9 0x401020 3\n# unmapped ToOutside 0x401021 0x9 3\n"
+    )
+    halves("a discriminator", copied, thrice, b"f0000:3:0\n 2.17: 3\n", (0, 3), 1, 80, report, ran=3)
+    halves("its base and its factor", copied, thrice, b"f0000:12:0\n 2: 12\n", (0, 12), 1, 260, report, "--base", ran=3)
+    # Addresses that were moved by load lines.
+    call = LOAD + b"0x7f0000000034/0x7f0000000000/P/-/-/1"
+    called = b"# branches 1\n# entries 1\n# inside 0\n"
+    halves("a moved call", ONE, call, b"f0000:0:1\n 3: 0 f0000:1\n", (0, 0), 0, 0, called, "--map=/bin/x")
+    halves(
+        "a foreign call", ONE, call, b"", (0, 0), 0, 0,
+        b"# branches 1\n# entries 0\n# inside 0\n# unmapped FromOutside 0x0 0x0 1\n", "--map=/bin/y",
+    )
+    moved = LOAD + b"0x7f0000000004/0x9 0x9/0x7f0000000000"
+    entered = b"# branches 2\n# entries 1\n# inside 0\n# unmapped ToOutside 0x401004 0x0 1\n"
+    halves("a moved range", ONE, moved, b"f0000:1:1\n 0: 1\n", (1, 0), 1, 11, entered, "--map=/bin/x", ran=1)
+    # All options, in each order: an edge that nothing took costs 3 more.
+    for options in itertools.permutations(["--map=/bin/x", "--base", "--edges"]):
+        halves(" ".join(options), ONE, moved, b"f0000:1:1\n 0: 1\n", (1, 0), 1, 14, entered, *options, ran=1)
+    # A branch over the edge that was moved with its text.
+    judge(
+        "a moved branch over an edge",
+        (DONE, b"# edge 0 1 weight 1 count 1\n", b""), ["build", "--edges", "--map=/bin/x", "bin", "perf", "cfg"],
+        told=lambda out: b"".join(re.findall(rb"# edge .*\n", out)), bin=ONE,
+        perf=LOAD + b"0x7f0000000004/0x7f0000000020 0x9/0x7f0000000000", cfg=HALVES,
+    )
 
 
 # Counts that repair the weights 100, 60, 0 and 100 of that function, with prices that fit them; and a cut of the loop.
@@ -641,6 +728,41 @@ def checks():
         passes("what build wrote, " + title, blocks, built.stdout, blocks.count(b"func "))
 
 
+def summary_of(built):
+    """The summary of what `build` wrote."""
+    lines = built.splitlines()
+    told = lambda front: [int(line.split()[2]) for line in lines if line.startswith(front)]
+    return b"functions %d branches %d total %d cost %d cuts %d\n" % (
+        sum(line.startswith(b"# function ") for line in lines), *told(b"# branches "),
+        sum(int(line.split(b":")[1]) for line in lines if line[:1] not in (b" ", b"#")), sum(told(b"# end ")),
+        sum(line.startswith(b"# function ") and b" cut " in line for line in lines),
+    )
+
+
+def makes():
+    # No form reads a file: there is none.
+    for spelled, wanted in [
+        ("0 bin", make.small(0)), ("1 bin", ONE), ("01 bin", ONE), ("2 bin", TWO), ("4096 bin", make.small(4096)),
+        ("1 perf", TWO_SAMPLES), ("0000001 cfg", BLOCKS), ("0 perf", b""), ("0 cfg", b""),
+    ]:
+        judge("make " + spelled, (DONE, wanted, b""), ["make", *spelled.split()])
+    for count, branches, total, cost in [(0, 0, 0, 0), (1, 5, 7, 40), (64, 6368, 8512, 2560), (4096, 407552, 544768, 163840)]:
+        line = b"functions %d branches %d total %d cost %d cuts 0\n" % (count, branches, total, cost)
+        judge("the summary of %d functions" % count, (DONE, line, b""), ["make", "%d" % count, "sum"])
+    for spelled in [
+        "make", "make 64", "make sum", "make 64 sum x", "make --base 1 bin", "make 1 --base bin", "make 4097 bin", "make 4097 sum",
+        "make 18446744073709551617 bin", "make 0x1 bin", "make -1 bin", "make +1 bin", "make 1 Bin", "make 1 sums", "make bin 1",
+    ]:
+        judge(spelled, (BAD_WORDS, b"", USAGE), spelled.split())
+    judge("a number without digits", (BAD_WORDS, b"", USAGE), ["make", "", "bin"])
+
+    # What is built of 64 functions is the same twice, and its summary is that of its lines.
+    files = {part: run(["make", "64", part], {}).stdout for part in ("bin", "perf", "cfg")}
+    built = run(["build", "bin", "perf", "cfg"], files).stdout
+    judge("64 functions built again", (DONE, built, b""), ["build", "bin", "perf", "cfg"], **files)
+    judge("what is built and its summary", (DONE, summary_of(built), b""), ["make", "64", "sum"])
+
+
 def large():
     # More functions than 16 bits number, with two lines each. Function k calls the next three from its line 11 + 2 k,
     # and itself begins in line 5. The three branches of a sample have two ranges between them, which go back to that
@@ -665,7 +787,7 @@ def large():
 
 
 PROGRAM = os.path.abspath(sys.argv[1])
-for part in [places, range_lists, other_places, refusals, words, profiles, reports, bases_and_loads, builds, checks, large]:
+for part in [places, range_lists, other_places, refusals, words, profiles, reports, bases_and_loads, builds, builds_with_options, checks, makes, large]:
     part()
 print(f"{passed} passed, {failed} failed")
 sys.exit(failed > 0)

@@ -15,7 +15,7 @@ use Rattle.command_model.specs.Answer.Answer.{usage, no_such_file, refused, writ
 use Rattle.command_model.specs.Files.{IsOutput}
 use Rattle.profile_model.specs.Ways.{to_function, to_body, to_call}
 use Rattle.binary_model.specs.Places.{outside, nameless, no_line, at_way}
-use Rattle.command_model.specs.Command.{address_of as address_asked, command_of, counts, where_, profile, build}
+use Rattle.command_model.specs.Command.{address_of as address_asked, bin_file, cfg_file, command_of, counts, functions_of, make, make_sum, perf_file, where_, profile, build}
 use Rattle.command_model.specs.Options.{Options, map_name, options_of}
 use Rattle.command_model.specs.Counts.{counts_text}
 use Rattle.command_model.specs.Where.{where_text}
@@ -77,6 +77,21 @@ words_of_build : (command_of (codes "build" ∷ codes "--edges" ∷ codes "--bas
     × (command_of (codes "build" ∷ codes "--scaled" ∷ codes "a" ∷ codes "p" ∷ codes "c" ∷ []) ≡ None)
 unfolding command_of options_of map_name
 words_of_build = (refl, refl, refl, refl)
+
+-- a number of at most 4,096, with zeros in front or not, and no option
+words_of_make : (command_of (codes "make" ∷ codes "1" ∷ codes "bin" ∷ []) ≡ Some (make bin_file 1))
+    × (command_of (codes "make" ∷ codes "01" ∷ codes "perf" ∷ []) ≡ Some (make perf_file 1))
+    × (command_of (codes "make" ∷ codes "0" ∷ codes "cfg" ∷ []) ≡ Some (make cfg_file 0))
+    × (command_of (codes "make" ∷ codes "4096" ∷ codes "sum" ∷ []) ≡ Some (make_sum 4096))
+    × (command_of (codes "make" ∷ codes "4097" ∷ codes "bin" ∷ []) ≡ None)
+    × (command_of (codes "make" ∷ codes "64" ∷ []) ≡ None)
+    × (command_of (codes "make" ∷ codes "64" ∷ codes "sum" ∷ codes "x" ∷ []) ≡ None)
+    × (command_of (codes "make" ∷ codes "--base" ∷ codes "1" ∷ codes "bin" ∷ []) ≡ None)
+    × (command_of (codes "make" ∷ [] ∷ codes "bin" ∷ []) ≡ None)
+    × (command_of (codes "make" ∷ codes "0x1" ∷ codes "bin" ∷ []) ≡ None)
+    × (command_of (codes "make" ∷ codes "1" ∷ codes "text" ∷ []) ≡ None)
+unfolding command_of functions_of number_of
+words_of_make = (refl, refl, refl, refl, refl, refl, refl, refl, refl, refl, refl)
 
 -- one to sixteen digits
 addresses : (address_asked (codes "ffffffffffffffff") ≡ Some 0xffffffffffffffff) × (address_asked (codes "0x0000000000401000") ≡ Some 0x401000)

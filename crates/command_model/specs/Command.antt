@@ -2,8 +2,14 @@
 use Rattle.std.specs.Prelude.{ℕ, true, false, nat_le, List, [], ◌∷◌, drop, length, codes, Option, None, Some, option_and_then, if◌then◌else◌}
 use Rattle.std.specs.Option.{option_map}
 use Rattle.std.specs.Str.{bytes_eq}
-use Rattle.text_model.specs.Numbers.{has_prefix, hex_of}
+use Rattle.text_model.specs.Numbers.{decimal_of, has_prefix, hex_of}
 use Rattle.command_model.specs.Options.{Options, operands_of, options_in, options_of}
+
+-- A file of a generated case: the binary, the branch text or the block text.
+pub data CaseFile : Type 0 where
+  bin_file : CaseFile
+  perf_file : CaseFile
+  cfg_file : CaseFile
 
 -- What a user can ask for.
 pub data Command : Type 0 where
@@ -17,6 +23,10 @@ pub data Command : Type 0 where
   build : Options → List ℕ → List ℕ → List ℕ → Command
   -- Whether the repairs of a repair text keep what they promise of the functions of a block text.
   check : List ℕ → List ℕ → Command
+  -- A file of the generated case of so many functions.
+  make : CaseFile → ℕ → Command
+  -- The summary of what is built of the three files of such a case.
+  make_sum : ℕ → Command
 
 -- The digits of an address, which stand behind `0x` or alone.
 abbrev pub digits_of : List ℕ → List ℕ
@@ -57,6 +67,27 @@ abbrev pub check_of : List (List ℕ) → List (List ℕ) → Option Command
 check_of [] (cfg ∷ out ∷ []) = Some (check cfg out)
 check_of _ _ = None
 
+-- A generated case has at most 4,096 functions.
+abbrev pub max_functions : ℕ
+max_functions = 4096
+
+-- The number of functions of a case: decimal digits.
+unfoldable pub functions_of : List ℕ → Option ℕ
+functions_of word = option_and_then (λ n. if nat_le n max_functions then Some n else None) (decimal_of word)
+
+-- What is made of a case of so many functions.
+abbrev pub made_of : List ℕ → ℕ → Option Command
+made_of what n =
+    if bytes_eq what (codes "bin") then Some (make bin_file n)
+    else (if bytes_eq what (codes "perf") then Some (make perf_file n)
+    else (if bytes_eq what (codes "cfg") then Some (make cfg_file n)
+    else (if bytes_eq what (codes "sum") then Some (make_sum n) else None)))
+
+-- `make N bin|perf|cfg|sum`
+abbrev pub make_of : List (List ℕ) → List (List ℕ) → Option Command
+make_of [] (number ∷ what ∷ []) = option_and_then (made_of what) (functions_of number)
+make_of _ _ = None
+
 -- The command of a name, by the words of its options and those behind them.
 abbrev pub command_by : List ℕ → List (List ℕ) → List (List ℕ) → Option Command
 command_by name options operands =
@@ -64,7 +95,8 @@ command_by name options operands =
     else (if bytes_eq name (codes "where") then where_of options operands
     else (if bytes_eq name (codes "profile") then profile_of options operands
     else (if bytes_eq name (codes "build") then build_of options operands
-    else (if bytes_eq name (codes "check") then check_of options operands else None))))
+    else (if bytes_eq name (codes "check") then check_of options operands
+    else (if bytes_eq name (codes "make") then make_of options operands else None)))))
 
 -- The command that the words spell, if they spell one.
 unfoldable pub command_of : List (List ℕ) → Option Command

@@ -4,5 +4,6 @@ pub mod Command
 pub mod Counts
 pub mod Files
 pub mod Good
+pub mod Make
 pub mod Options
 pub mod Where

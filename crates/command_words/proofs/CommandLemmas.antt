@@ -1,18 +1,20 @@
 -- The words of a command, as the definitions see them.
-use Rattle.std.proofs.Common.{◌≡◌, ◌≤◌, ◌<◌, ◌+◌, ◌^◌, ◌&&◌, ℕ, ◌-◌, zero, suc, Bool, true, false, nat_lt, List, [], ◌∷◌, length, drop, Option, None, Some, Err, refl, ap, subst, sym, ◌∙◌, arith, add-one, drop-cons, get_or}
-use Rattle.std.specs.Prelude.{if◌then◌else◌}
+use Rattle.std.proofs.Common.{◌≡◌, ◌≤◌, ◌<◌, ◌+◌, ◌^◌, ◌&&◌, ℕ, ◌-◌, zero, suc, Bool, true, false, nat_le, nat_lt, List, [], ◌∷◌, length, drop, Option, None, Some, Ok, Err, refl, ap, subst, sym, ◌∙◌, arith, inl, inr, add-one, drop-cons, get_or}
+use Rattle.std.specs.Prelude.{if◌then◌else◌, option_and_then}
 use Rattle.std.specs.Global.{Vec}
 use Rattle.std.proofs.lemmas.List.{drop_all}
 use Rattle.std.specs.List.{list_all}
 use Rattle.std.specs.Char.{is_digit}
 use Rattle.std.specs.Str.Parse.{AllDigits, digits_value}
 use Rattle.std.proofs.lemmas.Int.Digits.{digits_value-lt}
-use Rattle.std.proofs.lemmas.Bool.{lt-ltb, ltb-true}
+use Rattle.std.proofs.lemmas.Bool.{cases_lt, le-leb, le-ltb, lt-leb, lt-ltb, ltb-true}
 use Rattle.text_model.specs.Numbers.{hex_of, is_numeral, number_of}
+use Rattle.command_model.specs.Command.{max_functions}
 use Rattle.command_model.specs.Options.{is_option, option_count}
 use Rattle.command_words.specs.Words.{texts_of}
 use Rattle.text_scan.specs.Numbers.{within}
 use Rattle.text_scan.specs.declared.read.NumberFault.{NumberFault}
+use Rattle.text_scan.specs.declared.read.NumberFault.TheVariants.{NumberTooLarge}
 
 -- ---- sixteen digits fit 64 bits
 
@@ -46,6 +48,38 @@ no_address-by text false fault short is bad = refl
 pub no_address : (text : List ℕ) (fault : NumberFault) → length text ≤ 16 → within 64 (hex_of text) ≡ Err fault → hex_of text ≡ None
 unfolding number_of
 no_address text fault short bad = no_address-by text (is_numeral 16 text) fault short refl bad
+
+-- ---- a number of functions
+
+pub few_functions : (o : Option ℕ) (n : ℕ) → Ok n ≡ within 64 o → n ≤ max_functions → Some n ≡ option_and_then (λ n. if nat_le n max_functions then Some n else None) o
+few_functions None n told few = absurd (cc)
+few_functions (Some m) n told few =
+    elim (cases_lt m (2 ^ 64)) [
+      | inl fits ↦
+          let at : Ok n ≡ Ok m = rw (lt-ltb m (2 ^ 64) fits) at told in
+          let same : n ≡ m = cc in
+          rw (← same, le-leb n max_functions few)
+      | inr large ↦ let at : Ok n ≡ Err NumberTooLarge = rw (le-ltb m (2 ^ 64) large) at told in absurd (cc)
+    ]
+
+pub many_functions : (o : Option ℕ) (n : ℕ) → Ok n ≡ within 64 o → max_functions < n → None ≡ option_and_then (λ n. if nat_le n max_functions then Some n else None) o
+many_functions None n told many = absurd (cc)
+many_functions (Some m) n told many =
+    elim (cases_lt m (2 ^ 64)) [
+      | inl fits ↦
+          let at : Ok n ≡ Ok m = rw (lt-ltb m (2 ^ 64) fits) at told in
+          let same : n ≡ m = cc in
+          rw (← same, lt-leb n max_functions many)
+      | inr large ↦ let at : Ok n ≡ Err NumberTooLarge = rw (le-ltb m (2 ^ 64) large) at told in absurd (cc)
+    ]
+
+pub no_functions : (o : Option ℕ) (fault : NumberFault) → Err fault ≡ within 64 o → None ≡ option_and_then (λ n. if nat_le n max_functions then Some n else None) o
+no_functions None fault told = refl
+no_functions (Some m) fault told =
+    elim (cases_lt m (2 ^ 64)) [
+      | inl fits ↦ let at : Err fault ≡ Ok m = rw (lt-ltb m (2 ^ 64) fits) at told in absurd (cc)
+      | inr over ↦ rw (lt-leb m max_functions (omega (arith, over)))
+    ]
 
 -- ---- words in front
 

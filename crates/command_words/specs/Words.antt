@@ -2,10 +2,12 @@
 use Rattle.std.specs.Prelude.{ℕ, List, map}
 use Rattle.std.specs.Option.{option_map}
 use Rattle.std.specs.Global.{Vec}
+use Rattle.case_maker.specs.declared.case.CasePart.{CasePart}
+use Rattle.case_maker.specs.declared.case.CasePart.TheVariants.{Bin, Perf, Cfg}
 use Rattle.command_model.specs.Command as model
 use Rattle.command_model.specs.Options as options
 use Rattle.command_words.specs.declared.command.Command.{Command}
-use Rattle.command_words.specs.declared.command.Command.TheVariants.{Counts, Where, Profile, Build, Check}
+use Rattle.command_words.specs.declared.command.Command.TheVariants.{Counts, Where, Profile, Build, Check, Make, MakeSum}
 use Rattle.command_words.specs.declared.options.Has.{Has}
 use Rattle.command_words.specs.declared.options.Options.{Options}
 
@@ -21,6 +23,11 @@ told_options said =
 abbrev pub told_has : Has → options.Has
 told_has has = record { map = has.map; base = has.base; edges = has.edges }
 
+abbrev pub told_part : CasePart → model.CaseFile
+told_part Bin = model.bin_file
+told_part Perf = model.perf_file
+told_part Cfg = model.cfg_file
+
 -- What is asked for, apart from where the words lie.
 abbrev pub meaning_of : Command → model.Command
 meaning_of (Counts perf) = model.counts perf.now
@@ -28,3 +35,5 @@ meaning_of (Where said binary address) = model.where_ (told_options said) binary
 meaning_of (Profile said binary perf) = model.profile (told_options said) binary.now perf.now
 meaning_of (Build said binary perf blocks) = model.build (told_options said) binary.now perf.now blocks.now
 meaning_of (Check blocks repairs) = model.check blocks.now repairs.now
+meaning_of (Make part functions) = model.make (told_part part) functions
+meaning_of (MakeSum functions) = model.make_sum functions

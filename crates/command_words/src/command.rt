@@ -1,14 +1,18 @@
 ghost use Rattle.std.specs.Prelude.{◌≡◌, ◌≤◌, length};
 ghost use Rattle.std.specs.Option.{option_map};
-ghost use Rattle.command_model.specs.Command.{address_of as address_told, build_of, check_of, command_of, counts_of, digits_of as digits_told, profile_of, where_of};
+ghost use Rattle.command_model.specs.Command.{address_of as address_told, build_of, check_of, command_of, counts_of, digits_of as digits_told, functions_of as functions_told, made_of as made_told, make_of, profile_of, where_of};
 ghost use Rattle.command_model.specs.Options.{is_option as option_told, option_count as count_told};
 ghost use Rattle.command_words.specs.Words.{texts_of, meaning_of};
 
 use crate::options::{Has, Options, options_of};
-use text_scan::hex;
+use case_maker::CasePart;
+use text_scan::{decimal, hex};
 
 /// The most digits of an address.
 const MOST_DIGITS: usize = 16;
+
+/// The most functions of a generated case.
+const MOST_FUNCTIONS: u64 = 4096;
 
 const WHERE_HAS: Has = Has {
     map: false,
@@ -59,6 +63,15 @@ pub enum Command<'a> {
         blocks: &'a [u8],
         repairs: &'a [u8],
     },
+    /// A file of the generated case of so many functions.
+    Make {
+        part: CasePart,
+        functions: u64,
+    },
+    /// The summary of what is built of the three files of such a case.
+    MakeSum {
+        functions: u64,
+    },
 }
 
 /// The command that the words spell.
@@ -80,6 +93,8 @@ pub fn parse(words: &[Vec<u8>]) -> Option<Command<'_>>
         parse_build(options, operands)
     } else if name.as_slice() == b"check".as_slice() {
         parse_check(options, operands)
+    } else if name.as_slice() == b"make".as_slice() {
+        parse_make(options, operands)
     } else {
         None
     }
@@ -172,6 +187,54 @@ fn parse_check<'a>(options: &[Vec<u8>], operands: &'a [Vec<u8>]) -> Option<Comma
     match (options, operands) {
         ([], [blocks, repairs]) => Some(Command::Check { blocks, repairs }),
         _ => None,
+    }
+}
+
+/// `make N bin|perf|cfg|sum`
+fn parse_make<'a>(options: &[Vec<u8>], operands: &'a [Vec<u8>]) -> Option<Command<'a>>
+    ensures { option_map meaning_of result
+        ≡ make_of (texts_of options.now) (texts_of operands.now) }
+{
+    match (options, operands) {
+        ([], [number, what]) => made_of(what, functions_of(number)?),
+        _ => None,
+    }
+}
+
+/// What is made of a case of so many functions.
+fn made_of(what: &[u8], functions: u64) -> Option<Command<'_>>
+    ensures { option_map meaning_of result ≡ made_told what.now functions }
+{
+    if what == b"bin".as_slice() {
+        Some(Command::Make {
+            part: CasePart::Bin,
+            functions,
+        })
+    } else if what == b"perf".as_slice() {
+        Some(Command::Make {
+            part: CasePart::Perf,
+            functions,
+        })
+    } else if what == b"cfg".as_slice() {
+        Some(Command::Make {
+            part: CasePart::Cfg,
+            functions,
+        })
+    } else if what == b"sum".as_slice() {
+        Some(Command::MakeSum { functions })
+    } else {
+        None
+    }
+}
+
+/// The number of functions that decimal digits spell.
+fn functions_of(word: &[u8]) -> Option<u64>
+    ensures { result ≡ functions_told word.now }
+{
+    match decimal(word) {
+        Ok(functions) if functions <= MOST_FUNCTIONS => Some(functions),
+        Ok(_) => None,
+        Err(_) => None,
     }
 }
 

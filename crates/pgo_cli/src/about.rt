@@ -20,6 +20,9 @@ usage:
                               of a block text repaired between them
   pgo check CFG OUT           whether repairs, by `pgo build` or by anyone else,
                               keep what they promise
+  pgo make N bin|perf|cfg|sum
+                              a file of a made-up program of N functions, for
+                              tests; or what `pgo build` finds in all three
   pgo --help, pgo -h          this text
   pgo --help COMMAND          what a command reads and writes, and an example
   pgo --help KIND             what helps where a file is refused for this kind
@@ -27,7 +30,8 @@ usage:
 
 PERF is what `perf script -F ip,brstack` prints, in a file. BIN is a 64-bit ELF
 file with DWARF 4 or 5, HEX an address in hexadecimal digits. CFG is a block
-text, as `contrib/blocks BIN` prints it, OUT what `pgo build` printed.
+text, as `contrib/blocks BIN` prints it, OUT what `pgo build` printed. N is at
+most 4096.
 
 --base      discriminators are taken apart as clang packs them: give it for
             binaries of clang and rustc, and not for those of gcc
@@ -46,7 +50,8 @@ if you see:
   Compressed             `objcopy --decompress-debug-sections BIN PLAIN`
   NotElf                 the program comes first, then the text
   usage                  options come in front, each once; NAME stands behind
-                         `--map=` without a space; HEX is never decimal
+                         `--map=` without a space; HEX is never decimal, and N
+                         always is
 
 Messages count file words and lines from 1, and places in a binary from 0.
 

@@ -7,7 +7,7 @@ pub(crate) struct Topic {
 }
 
 /// The commands.
-pub(crate) const TOPICS: [Topic; 5] = [
+pub(crate) const TOPICS: [Topic; 6] = [
     Topic {
         word: b"counts",
         text: b"\
@@ -100,6 +100,25 @@ Where weights come from is not judged. A text of another block text is refused
 example:
   pgo build --base demo/words demo/words.txt demo/words.blocks >words.built
   pgo check demo/words.blocks words.built
+",
+    },
+    Topic {
+        word: b"make",
+        text: b"\
+pgo make N bin|perf|cfg|sum
+
+Writes a file of a program that is made up, for tests and measurements: its
+binary, its branch text or its block text. The program has N functions of 64
+bytes, each with an inlined call. N is a decimal number of at most 4096. No file
+is read.
+
+With `sum` all three are made in memory, and what `pgo build` finds in them is
+written as one line: how many functions and branches there are, the sum of the
+functions' totals, what all repairs cost, and how many of them are cuts.
+
+examples:
+  pgo make 64 bin >case
+  pgo make 64 sum
 ",
     },
 ];

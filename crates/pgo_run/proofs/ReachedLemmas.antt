@@ -179,7 +179,7 @@ same-file A B (ReadFault j) k is = is
 same-file A B (CheckFailed line) k is = is
 same-file A B NoMemory k is = is
 
-carried : (command : Command) (store : Option Store) (h : Halt) (r : Result (Vec ℕ) Halt) (opens opens_after faults faults_after : ℕ)
+pub carried : (command : Command) (store : Option Store) (h : Halt) (r : Result (Vec ℕ) Halt) (opens opens_after faults faults_after : ℕ)
     → IsErrAnd r (λ x. x ≡ h) → Carries command store (Err h) opens opens_after faults faults_after → Carries command store r opens opens_after faults faults_after
 carried command store h (Ok text) opens opens_after faults faults_after is carries = absurd is
 carried command store h (Err other) opens opens_after faults faults_after is carries =

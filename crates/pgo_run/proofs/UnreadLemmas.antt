@@ -32,7 +32,7 @@ answers-wider : (told : Option Answer) (k : ℕ) (file : Option (List ℕ)) (jud
 answers-wider None k file judge wider more ends = tt
 answers-wider (Some a) k file judge wider more ends = ends-wider k file judge wider a more ends
 
-too-large : (bytes : List ℕ) (place : Place) → size_item 1 max_binary_bytes bytes ≡ Some place → first_bad_of_binary bytes ≡ Some place
+pub too-large : (bytes : List ℕ) (place : Place) → size_item 1 max_binary_bytes bytes ≡ Some place → first_bad_of_binary bytes ≡ Some place
 unfolding first_bad_of_binary
 too-large bytes place is = ap (λ item. first_bad (item ∷ items_behind_size bytes)) is
 
@@ -41,7 +41,7 @@ pub unread-binary : (store : Option Store) (name : List ℕ) (h : Halt)
 unread-binary None name h ends = tt
 unread-binary (Some files) name h ends = answers-wider (answer_in h) 1 (files name) (size_item 1 max_binary_bytes) first_bad_of_binary too-large ends
 
-too-large-blocks : (file : ℕ) (bytes : List ℕ) (place : Place) → size_item file max_block_bytes bytes ≡ Some place → first_bad_of_blocks file bytes ≡ Some place
+pub too-large-blocks : (file : ℕ) (bytes : List ℕ) (place : Place) → size_item file max_block_bytes bytes ≡ Some place → first_bad_of_blocks file bytes ≡ Some place
 unfolding first_bad_of_blocks
 too-large-blocks file bytes place is = ap (λ item. first_bad (item ∷ first_bad_of_text file bytes ∷ [])) is
 

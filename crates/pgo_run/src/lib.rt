@@ -10,6 +10,7 @@ mod build;
 mod check;
 mod counts;
 mod halt;
+mod make;
 mod order;
 mod profile;
 mod program;

@@ -30,6 +30,9 @@ const PROFILE: &[u8] = b"f0000:7:1\n 0: 1\n 1: 1\n 2.2: 2\n 3: 2 f0000:1\n 2.1: 
 // The words for it.
 const WORDS: &[&[u8]] = &[b"profile", b"bin", b"perf"];
 
+// What `make 1 sum` writes.
+const SUMMARY: &[u8] = b"functions 1 branches 5 total 7 cost 40 cuts 0\n";
+
 // How files are read and an output is written: in pieces, and with calls that fail.
 #[derive(Clone, Copy)]
 struct Pieces {
@@ -108,10 +111,11 @@ fn binary(alloc: Global, functions: u64) -> Result<Vec<u8>, test::Fail> {
 fn each_command_writes_its_output(rt: HostRuntime) -> Result<(), test::Fail> {
     let alloc = rt.alloc();
     let bin = binary(alloc, 1)?;
-    let cases: [(&[&[u8]], &[u8]); 3] = [
+    let cases: [(&[&[u8]], &[u8]); 4] = [
         (&[b"counts", b"perf"], COUNTS),
         (&[b"where", b"bin", b"401014"], b"f0000 2.1 g 1\n"),
         (WORDS, PROFILE),
+        (&[b"make", b"1", b"sum"], SUMMARY),
     ];
     for (texts, want) in cases {
         let (status, written) = answer(alloc, texts, &bin, TEXT, &failing(0, 0, 99))?;

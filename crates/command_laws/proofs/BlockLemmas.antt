@@ -1,5 +1,5 @@
 -- The functions of a block text: their names are fields of its lines; and that no line is bad hangs on no number of the file.
-use Rattle.std.proofs.Common.{◌≡◌, ℕ, ◌+◌, Bool, true, false, ◌||◌, List, [], ◌∷◌, ◌++◌, map, filter, length, Option, None, Some, arith, refl, sym, ap, ◌∙◌, subst}
+use Rattle.std.proofs.Common.{◌≡◌, ℕ, ◌+◌, Bool, true, false, List, [], ◌∷◌, ◌++◌, map, filter, length, Option, None, Some, arith, refl, sym, ap, ◌∙◌, subst}
 use Rattle.std.specs.Prelude.{nat_lt, codes, ⊤, is_some, if◌then◌else◌}
 use Rattle.std.specs.List.{AllByRecursion, flat_map, list_any}
 use Rattle.std.specs.Str.{bytes_eq}
@@ -20,7 +20,8 @@ use Rattle.block_model.specs.Line.{Line, passed, begins, tells_block, tells_edge
 use Rattle.block_model.specs.Text.{closed_by_line, functions_from, functions_of, open_behind_line}
 use Rattle.repair_model.specs.Laws.{IsName}
 use Rattle.command_model.specs.Files.{first_bad_of_blocks, max_block_bytes}
-use Rattle.command_laws.proofs.NameLemmas.{all_append}
+use Rattle.profile_tree.proofs.ListLemmas.{all_append}
+use Rattle.command_laws.proofs.NameLemmas.{neither}
 
 -- ---- fields
 
@@ -28,11 +29,6 @@ use Rattle.command_laws.proofs.NameLemmas.{all_append}
 pub record IsField (name : List ℕ) : Type 0 where
   pub name_is : IsName name
   pub clean : HasNoLineFeed name
-
-neither : (a b : Bool) → (a || b) ≡ false → (a ≡ false) × (b ≡ false)
-neither false false is = (refl, refl)
-neither false true is = absurd cc
-neither true b is = absurd cc
 
 first_clean : (xs ys : List ℕ) → HasNoLineFeed (xs ++ ys) → HasNoLineFeed xs × HasNoLineFeed ys
 first_clean xs ys clean = neither (list_any is_line_feed xs) (list_any is_line_feed ys) (sym (list_any-append is_line_feed xs ys) ∙ clean)

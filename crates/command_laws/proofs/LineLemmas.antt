@@ -16,7 +16,7 @@ use Rattle.profile_model.specs.Orders.{target_cmp, way_cmp}
 use Rattle.profile_model.specs.Profile.{Line, Profile, body_line, call_line, function_line, entered, line_at, line_by, lines_of, recorded, targets_of, total_of_function, written}
 use Rattle.profile_model.specs.Text.{disc_text, indent, line_text, location_text, named_text, profile_text, target_text, text_of_lines}
 use Rattle.profile_model.specs.Ways.{Kind, Step, Way, beginnings, body, call, function, last_step}
-use Rattle.profile_tree.proofs.ListLemmas.{SomeAll, all_beginnings, all_ordered}
+use Rattle.profile_tree.proofs.ListLemmas.{SomeAll, all_append, all_beginnings, all_ordered}
 use Rattle.repair_model.specs.Laws.{IsPassedOver}
 use Rattle.repair_model.specs.Line.{begins_function}
 use Rattle.report_model.specs.declared.class.Reason.{Reason}
@@ -25,7 +25,7 @@ use Rattle.report_model.specs.Report.{Classes, Sampled, branches_text, lines_for
 use Rattle.output_model.specs.Program.{Program, program_of, way_at, way_of_place}
 use Rattle.output_model.specs.Sampled.{all_addresses, call_by, call_of, count_among, head_of as entry_of, profile_among, profile_of, ways_among}
 use Rattle.binary_model.specs.Places.{Place, at_way, nameless, no_line, outside}
-use Rattle.command_laws.proofs.NameLemmas.{BeginsOther, IsClean, IsCleanIfAny, IsCleanPlace, all_append, entries_clean, places_clean}
+use Rattle.command_laws.proofs.NameLemmas.{BeginsOther, IsClean, IsCleanIfAny, IsCleanPlace, entries_clean, places_clean}
 
 -- ---- texts of such lines
 

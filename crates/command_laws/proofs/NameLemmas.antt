@@ -14,6 +14,7 @@ use Rattle.key_types.specs.declared.key.Key.{Key}
 use Rattle.chain_model.specs.Places as by_number
 use Rattle.profile_model.specs.Names.{begins_no_name, is_name, parts_names}
 use Rattle.profile_model.specs.Ways.{Step, to_body, to_call}
+use Rattle.profile_tree.proofs.ListLemmas.{all_append}
 use Rattle.range_model.specs.Texts.{Sections}
 use Rattle.unit_model.specs.Entries.{Entry}
 use Rattle.unit_model.specs.Units.{Units, Unit as InfoUnit}
@@ -49,7 +50,7 @@ both true true is = (refl, refl)
 both true false is = absurd cc
 both false b is = absurd cc
 
-neither : (a b : Bool) → (a || b) ≡ false → (a ≡ false) × (b ≡ false)
+pub neither : (a b : Bool) → (a || b) ≡ false → (a ≡ false) × (b ≡ false)
 neither false false is = (refl, refl)
 neither false true is = absurd cc
 neither true b is = absurd cc
@@ -137,10 +138,6 @@ IsTree tree = AllByRecursion AreTold tree.functions
 all_push : {X : Type 0} (P : X → Type 0) (xs : List X) (x : X) → AllByRecursion P xs → P x → AllByRecursion P (xs ++ x ∷ [])
 all_push P [] x all is = (is, tt)
 all_push P (y ∷ xs) x all is = (all.0, all_push P xs x all.1 is)
-
-pub all_append : {X : Type 0} (P : X → Type 0) (xs ys : List X) → AllByRecursion P xs → AllByRecursion P ys → AllByRecursion P (xs ++ ys)
-all_append P [] ys all others = others
-all_append P (x ∷ xs) ys all others = (all.0, all_append P xs ys all.1 others)
 
 member_added : (number : ℕ) (call : Told) (functions : List (List Told)) → AllByRecursion AreTold functions → IsCleanIfAny call.name → AllByRecursion AreTold (with_member number call functions)
 member_added number call [] all is = tt

@@ -26,7 +26,7 @@ use Rattle.flow_model.specs.Sides.{at_side}
 use Rattle.repair_model.specs.Text.{first_line, last_line, line_of_edge, lines_of_blocks, lines_of_edges, lines_of_repair, numbers, repair_text, text_of_lines}
 use Rattle.repair_model.proofs.CheckLemmas.{passing_lines_repair}
 use Rattle.command_laws.proofs.BlockLemmas.{IsField}
-use Rattle.command_laws.proofs.NameLemmas.{all_append}
+use Rattle.profile_tree.proofs.ListLemmas.{all_append}
 
 -- ---- a cut hangs on no weight of an edge
 

@@ -1,3 +1,4 @@
 mod Examples
 pub mod CountLemmas
+pub mod OnceLemmas
 pub mod TotalLemmas

@@ -1,5 +1,6 @@
-// Totals, seen from the lines below; lines, seen from what was counted.
+// Totals, seen from the lines below; lines, seen from what was counted; the numbers of a text.
 ghost use Rattle.profile_laws.specs.Counts.{LinesAreByCounts};
+ghost use Rattle.profile_laws.specs.Once.{NumbersStandOnce};
 ghost use Rattle.profile_laws.specs.Totals.{TotalsAddUp};
 
 /// The total of a function or a call is the sum of the counts of its body lines and of the totals
@@ -12,4 +13,10 @@ pub fn totals_add_up()
 /// their lists of counts are cut and ordered.
 pub fn lines_are_by_counts()
     ensures { LinesAreByCounts }
+{}
+
+/// A profile text that has no bad place tells each number once: it has no two for one head, for one
+/// key, or for one target of a key.
+pub fn numbers_stand_once()
+    ensures { NumbersStandOnce }
 {}

@@ -11,3 +11,7 @@ HasNames names key = (key.root.0 < names) × AllByRecursion (λ frame. frame.nam
 -- The key and the callee of a call were given.
 abbrev pub IsGiven : ℕ → ℕ → Call → Type 0
 IsGiven keys names call = (call.key.0 < keys) × (call.callee.0 < names)
+
+-- The key and the callee of a call.
+abbrev pub called_from : Call → ℕ × ℕ
+called_from call = (call.key.0, call.callee.0)

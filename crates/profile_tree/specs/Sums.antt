@@ -4,7 +4,12 @@ use Rattle.std.specs.List.{range_with_len}
 use Rattle.key_types.specs.declared.key.Key.{Key}
 use Rattle.profile_model.specs.Profile.{capped}
 use Rattle.profile_tree.specs.declared.head.Head.{Head}
+use Rattle.profile_tree.specs.declared.key_count.KeyCount.{KeyCount}
 use Rattle.profile_lists.specs.declared.pairs.Call.{Call}
+
+-- The count of a key, as some counts state it: 0 where none does.
+abbrev pub count_stated : List KeyCount → ℕ → ℕ
+count_stated counts key = sum_by (λ count. cond (count.key.0 == key) count.times 0) counts
 
 -- How often a function was entered.
 abbrev pub entries_of : List Head → ℕ → ℕ

@@ -1,22 +1,26 @@
 //! A profile in memory: its lines in the order in which they are written and the counts of its
-//! keys, from segments, hits, calls and heads.
+//! keys, from segments and hits or from counts that are stated, with calls and heads.
 //!
 //! The tree of functions and inlined calls is flat: a line knows its depth, and what belongs to a
 //! function or a call stands behind it, one deeper. `build` makes it in one call from the parts of
-//! the program, the hits of its addresses, and what was called and entered.
+//! the program, the hits of its addresses, and what was called and entered; `from_counts` from
+//! counts, calls and heads that are known.
 #![tactic(auto)]
 
-mod from_counts;
+mod counted;
+mod fit;
 mod head;
 mod items;
+mod key_count;
 mod line;
 mod lines;
 mod order;
 mod sums;
 mod tree;
 
-pub use from_counts::build;
+pub use counted::{build, from_counts};
 pub use head::Head;
+pub use key_count::KeyCount;
 pub use line::{Line, Target};
 pub use profile_lists::Call;
 pub use tree::Tree;

@@ -1,12 +1,27 @@
-// Sums for each function.
+// A number for each key, or for each function.
 ghost use Rattle.std.specs.Prelude.{◌≡◌, ◌<◌, ◌+◌, ◌^◌, ℕ, All, IfOk, length, slice_index, slice_set};
 ghost use Rattle.profile_model.specs.Profile.{capped};
-ghost use Rattle.profile_tree.specs.Sums.{AreEach, entries_of, root_total};
+ghost use Rattle.profile_laws.specs.Once.{StandOnce};
+ghost use Rattle.profile_tree.specs.Sums.{AreEach, count_stated, entries_of, root_total};
 
 use crate::head::Head;
+use crate::key_count::KeyCount;
 use key_types::{KeyId, Keys, NameId};
 use refusal::NoMemory;
 use std::alloc::Global;
+
+/// The count of each of `keys` keys: the one that is stated, or 0.
+pub fn stated_of(alloc: Global, keys: u32, counts: &[KeyCount]) -> Result<Vec<u64>, NoMemory>
+    requires given { All (λ count. count.key.0 < keys) counts.now }
+    requires once { StandOnce (λ count. count.key.0) counts.now }
+    ensures { IfOk result (λ stated. AreEach keys (count_stated counts.now) stated.items) }
+{
+    let mut stated = vec![in alloc; 0; keys as usize]?;
+    for count in counts {
+        stated[count.key.0 as usize] = count.times;
+    }
+    Ok(stated)
+}
 
 /// The total of each of `names` functions: the sum of the counts of its keys.
 pub fn totals_of(

@@ -5,17 +5,20 @@ ghost use Rattle.profile_lists.specs.Segments.{AllFit};
 ghost use Rattle.key_types.specs.Segments.{AreSegments};
 ghost use Rattle.key_types.specs.Numbers.{IsNumbered};
 ghost use Rattle.profile_model.specs.Profile.{lines_of};
-ghost use Rattle.profile_tree.specs.Known.{HasNames, IsGiven};
-ghost use Rattle.profile_tree.specs.Said.{AreCountsOfPlaces, said};
-ghost use Rattle.profile_tree.specs.Sums.{calls_of, entries_of};
+ghost use Rattle.profile_tree.specs.Known.{HasNames, IsGiven, called_from};
+ghost use Rattle.profile_laws.specs.Once.{StandOnce};
+ghost use Rattle.profile_tree.specs.Said.{AreCountsOfPlaces, said, stated};
+ghost use Rattle.profile_tree.specs.Sums.{AreEach, calls_of, count_stated, entries_of};
 ghost use Rattle.profile_tree.specs.Told.{IsOf, told};
 
+use crate::fit::{calls_fit, heads_fit};
 use crate::head::Head;
 use crate::items::{RankedBy, items_of};
+use crate::key_count::KeyCount;
 use crate::line::Line;
 use crate::lines::{Parts, lines_of};
 use crate::order::{by_name, by_total};
-use crate::sums::{heads_of, totals_of};
+use crate::sums::{heads_of, stated_of, totals_of};
 use crate::tree::Tree;
 use key_types::{Chain, Keys, Names, Seg};
 use profile_lists::{Call, counts_of, rows_of, sort_items, targets_of};
@@ -62,6 +65,47 @@ pub fn build(
     keys.each_once();
     names.each_once();
     let counts = counts_of(alloc, segments, hits, keys.len())?;
+    let lines = lines_of_counts(alloc, &counts, calls, heads, keys, names)?;
+    Ok(Tree {
+        lines: Chain::new(lines),
+        counts: Chain::new(counts),
+    })
+}
+
+/// The profile of counts, calls and heads that are known: each key, target and head has the number
+/// that is stated of it, or 0 where none is. A total stands still at 2^64 - 1.
+///
+/// Each key stands once in `counts`, each pair of a key and a callee once in `calls` and each
+/// function once in `heads`; all numbers are of `keys` and `names`.
+///
+/// # Errors
+/// `NoMemory`.
+pub fn from_counts(
+    alloc: Global,
+    counts: &[KeyCount],
+    calls: &[Call],
+    heads: &[Head],
+    keys: &Keys,
+    names: &Names,
+) -> Result<Tree, NoMemory>
+    requires key_names { All (HasNames (length names.now)) keys.now }
+    requires counted { All (λ count. count.key.0 < length keys.now) counts.now }
+    requires calls { All (IsGiven (length keys.now) (length names.now)) calls.now }
+    requires heads { All (λ head. head.name.0 < length names.now) heads.now }
+    requires counts_once { StandOnce (λ count. count.key.0) counts.now }
+    requires calls_once { StandOnce called_from calls.now }
+    requires heads_once { StandOnce (λ head. head.name.0) heads.now }
+    ensures lines { IfOk result (λ tree. map (told names.now) tree.lines
+        ≡ lines_of (stated names.now keys.now counts.now calls.now heads.now)) }
+    ensures names { IfOk result (λ tree. All (IsOf names.now) tree.lines) }
+    ensures counts { IfOk result (λ tree.
+        AreEach (length keys.now) (count_stated counts.now) tree.counts) }
+{
+    keys.each_once();
+    names.each_once();
+    calls_fit(calls);
+    heads_fit(heads);
+    let counts = stated_of(alloc, keys.len(), counts)?;
     let lines = lines_of_counts(alloc, &counts, calls, heads, keys, names)?;
     Ok(Tree {
         lines: Chain::new(lines),

@@ -10,7 +10,7 @@ use Rattle.profile_tree.specs.Told.{IsOf, told}
 use Rattle.profile_tree.specs.declared.line.Line.{Line}
 use Rattle.profile_tree.specs.declared.lines.Parts.{Parts}
 use Rattle.profile_lists.specs.Pairs.{pair_of, sum_at, was_made}
-use Rattle.profile_tree.proofs.from_counts.lines_of_counts.Goals as goal
+use Rattle.profile_tree.proofs.counted.lines_of_counts.Goals as goal
 
 pub targets_of-requires-clause-fit : goal.targets_of-requires-clause-fit
 targets_of-requires-clause-fit c =

@@ -2,7 +2,7 @@ use Rattle.std.proofs.Common.{subst, sym}
 use Rattle.profile_model.specs.Steps.{hits_by}
 use Rattle.profile_lists.proofs.PlaceLemmas.{counts_are_those_of_places}
 use Rattle.profile_tree.specs.Said.{AreCountsOfPlaces}
-use Rattle.profile_tree.proofs.from_counts.build.Goals as goal
+use Rattle.profile_tree.proofs.counted.build.Goals as goal
 
 pub returns-clause-counts : goal.returns-clause-counts
 returns-clause-counts c =

@@ -6,7 +6,7 @@ use Rattle.std.proofs.lemmas.List.{length_push, map-append}
 use Rattle.std.proofs.lemmas.Option.{slice_get_within}
 use Rattle.refusal.specs.declared.kind.Kind.{Kind}
 use Rattle.refusal.specs.declared.kind.Kind.TheVariants.{KeyTwice}
-use Rattle.key_types.specs.Numbers.{IsNumbered}
+use Rattle.key_types.specs.Numbers.{Adds, IsNumbered}
 use Rattle.key_types.specs.declared.key.Key.{Key}
 use Rattle.key_types.specs.declared.ids.KeyId.{KeyId}
 use Rattle.profile_model.specs.Judging.{cause_of}
@@ -20,6 +20,7 @@ use Rattle.profile_text.proofs.CauseLemmas.{Stands, cause_none, cause_way, cause
 use Rattle.profile_text.proofs.OpenLemmas.{path_more, kept_on, kept_grows, steps_grow, take_given, both_given}
 use Rattle.profile_text.proofs.SeenLemmas.{ways_more, seen_again, seen_first, seen_keys, seen_body}
 use Rattle.profile_text.proofs.ToldLemmas.{told_more}
+use Rattle.profile_text.proofs.NamedLemmas.{names_more, keys_named, opening_named}
 use Rattle.profile_text.specs.Draft.{Kept, AreGiven, AreGrown, AreSeen, IsPath, IsRead, TellNumbers, AreOld, AreTargetsPut, PutsTargets, JudgesLine, names_of, room_of, target_number}
 use Rattle.profile_text.specs.Path.{IsKeyAt}
 use Rattle.profile_text.specs.Stamps.{IsStamped}
@@ -80,7 +81,7 @@ old_stamps names keys draft before numbers mid item is mid_is = record {
 pub body_read : (names more : List (List ℕ)) (keys more_keys : List Key) (draft after : Draft) (before : List Line) (numbers : List Number)
     (depth : ℕ) (location : Location) (key : Key) (id : KeyId) (at n : ℕ) (targets : List (List ℕ × ℕ)) (mid : List Item)
     → IsRead names keys draft before numbers → Stands (length draft.path) depth → IsKeyAt (take depth draft.path) location key → IsNumbered names
-    → Kept keys more_keys → length more_keys ≤ length keys + 1 → IsNumbered more_keys → slice_get more_keys id.0 ≡ Some key → false ≡ (slice_index draft.places id.0 == 1)
+    → Adds keys more_keys key → length more_keys ≤ length keys + 1 → IsNumbered more_keys → slice_get more_keys id.0 ≡ Some key → false ≡ (slice_index draft.places id.0 == 1)
     → IsStamped draft.places id.0 1 after.places → mid ≡ draft.items.items ++ record { line = at; what = Count id; times = n } ∷ []
     → after.path ≡ take depth draft.path → after.opened ≡ draft.opened
     → has_twice (names_of targets) ≡ false → AreTargetsPut names mid at id targets more after.called after.items.items
@@ -88,7 +89,7 @@ pub body_read : (names more : List (List ℕ)) (keys more_keys : List Key) (draf
     × (IsRead more more_keys after (body_line depth location.offset location.disc n targets ∷ before)
     (numbers ++ numbers_on at (way_of before (body_line depth location.offset location.disc n targets)) (body_line depth location.offset location.disc n targets))
     × AreGrown (room_of (body_line depth location.offset location.disc n targets)) names keys draft.opened more more_keys after.opened)
-body_read names more keys more_keys draft after before numbers depth location key id at n targets mid is free at_key apart kept one_more keys_apart there stood stamped mid_is path opened once put = (
+body_read names more keys more_keys draft after before numbers depth location key id at n targets mid is free at_key apart adds one_more keys_apart there stood stamped mid_is path opened once put = (
   cause_none before (body_line depth location.offset location.disc n targets) (length draft.path) (is.path.stands depth) free
       (seen_first names names is.ways before (steps_of key) (way_of before (body_line depth location.offset location.disc n targets)) apart is.are_ways (λ n x known. known) (omega arith)
       (body_given (length names) draft.path depth location key at_key is.path.given)
@@ -106,6 +107,9 @@ body_read names more keys more_keys draft after before numbers depth location ke
       seen = rw opened (seen_body more_keys is.ways draft.opened draft.places after.places id.0 key seen keys_apart there stamped);
       stamps = put.low;
       called = put.few;
+      named = names_more names more more_keys (kept_grows names more put.kept)
+          (keys_named names keys more_keys key id.0 adds one_more there is.named (opening_named (length names) key
+          (subst (AreGiven (length names)) (sym at_key.steps) (take_given (length names) depth draft.path is.path.given))));
       told = record {
         given = put.given (length more_keys) (slice_get_within more_keys id.0 key there) told.given;
         tell = λ last last_keys behind keys_behind.
@@ -126,6 +130,9 @@ body_read names more keys more_keys draft after before numbers depth location ke
   ),
 )
   where
+    kept : Kept keys more_keys
+    kept = adds.kept
+
     seen : AreSeen more_keys is.ways draft.opened draft.places
     seen = seen_keys keys more_keys is.ways draft.opened draft.places is.seen kept (kept_grows keys more_keys kept) keys_apart
 

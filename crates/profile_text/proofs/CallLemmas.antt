@@ -18,6 +18,7 @@ use Rattle.profile_text.proofs.FunctionLemmas.{one_of_before, none_before}
 use Rattle.profile_text.proofs.OpenLemmas.{path_more, kept_on, kept_grows, name_kept, steps_grow, take_given, both_given}
 use Rattle.profile_text.proofs.SeenLemmas.{ways_more, seen_again, seen_first, seen_opened}
 use Rattle.profile_text.proofs.ToldLemmas.{told_grow}
+use Rattle.profile_text.proofs.NamedLemmas.{names_more}
 use Rattle.profile_text.specs.Draft.{Kept, AreGiven, AreGrown, IsPath, IsRead, IsOpened, room_of}
 use Rattle.profile_text.specs.declared.draft.Draft.{Draft}
 use Rattle.profile_text.specs.declared.said.Location.{Location}
@@ -70,6 +71,7 @@ call_read names more keys draft after before numbers depth location id name at n
       seen = rw places (seen_opened keys is.ways draft.opened after.opened draft.places (take depth draft.path ++ at_call location.offset location.disc id.0 ∷ []) is.seen fresh);
       stamps = λ m. rw (called, items) (is.stamps m);
       called = rw called (omega (arith, is.called, grown));
+      named = names_more names more keys grown is.named;
       told = rw (items, append-nil numbers) (told_grow names more keys keys draft.items.items numbers is.told kept grown (λ n x known. known) (omega arith));
     },
     record {

@@ -17,6 +17,7 @@ use Rattle.profile_text.proofs.CauseLemmas.{Stands, cause_none, cause_way}
 use Rattle.profile_text.proofs.OpenLemmas.{name_kept, path_more}
 use Rattle.profile_text.proofs.SeenLemmas.{ways_more, seen_again, seen_first, seen_opened, opened_fresh, opened_before}
 use Rattle.profile_text.proofs.ToldLemmas.{told_more}
+use Rattle.profile_text.proofs.NamedLemmas.{names_more}
 use Rattle.profile_text.specs.Draft.{Kept, IsOneOf, AreSeen, AreGrown, IsRead, IsOpened, room_of}
 use Rattle.profile_text.specs.Path.{opening}
 use Rattle.profile_text.specs.declared.draft.Draft.{Draft}
@@ -93,6 +94,7 @@ function_read names more keys draft after before numbers id name at total n is k
       seen = rw places (seen_opened keys is.ways draft.opened after.opened draft.places (at_function id.0 ∷ []) is.seen fresh);
       stamps = λ m. rw (called, items) (omega (arith, is.stamps m, length_push draft.items.items (record { line = at; what = Head id; times = n })));
       called = rw called (omega (arith, is.called, grown));
+      named = names_more names more keys grown is.named;
       told = rw items
           (told_more names more keys keys draft.items.items numbers (record { line = at; what = Head id; times = n })
           (record { line = at; what = head name; times = n }) is.told kept grown (λ n x known. known) (omega arith)

@@ -4,6 +4,7 @@ pub mod CauseLemmas
 pub mod FunctionLemmas
 pub mod JoinLemmas
 pub mod LineLemmas
+pub mod NamedLemmas
 pub mod OpenLemmas
 pub mod PartLemmas
 pub mod PathLemmas

@@ -1,5 +1,5 @@
 -- A profile text, line by line.
-use Rattle.std.proofs.Common.{◌≡◌, ℕ, suc, ◌+◌, ◌≤◌, Bool, true, false, cond, List, [], ◌∷◌, ◌++◌, Some, None, Err, map, length, refl, sym, ap, subst, arith, ◌∙◌, append_assoc, append-nil}
+use Rattle.std.proofs.Common.{◌≡◌, ℕ, suc, ◌+◌, ◌≤◌, Bool, true, false, cond, List, [], ◌∷◌, ◌++◌, Some, None, Err, length, refl, sym, ap, subst, arith, ◌∙◌, append_assoc, append-nil, All}
 use Rattle.std.specs.Prelude.{◌==◌}
 use Rattle.std.specs.List.{enumerate_from, onto_first, slice_split}
 use Rattle.std.proofs.lemmas.List.Splits.{slice_split-cons_yes, slice_split-cons_no}
@@ -10,14 +10,18 @@ use Rattle.refusal.specs.declared.place.Stop.TheVariants.{Refused, NoMemory}
 use Rattle.key_types.specs.declared.key.Key.{Key}
 use Rattle.text_model.specs.Lines.{is_line_feed, lines_of, without_empty_end}
 use Rattle.text_scan.specs.declared.lines.Line.{Line as TextLine}
+use Rattle.profile_laws.proofs.OnceLemmas.{numbers_stand_once}
+use Rattle.profile_laws.specs.Once.{StandOnce}
 use Rattle.profile_model.specs.Judging.{cause_of_line, with_line, item, items_from, kept_lines, first_bad_of_profile}
 use Rattle.profile_model.specs.Profile.{Line}
 use Rattle.profile_model.specs.Reading.{is_passed, line_of}
-use Rattle.profile_model.specs.Spelled.{Number, numbers_from, numbers_of_line}
+use Rattle.profile_model.specs.Spelled.{Number, numbers_from, numbers_of, numbers_of_line}
 use Rattle.profile_model.specs.Standing.{ways_of}
+use Rattle.profile_tree.specs.Known.{HasNames}
+use Rattle.profile_text.proofs.NamedLemmas.{each_named, items_once, named_each}
 use Rattle.profile_text.proofs.OpenLemmas.{kept_on, path_none}
 use Rattle.profile_text.proofs.SeenLemmas.{nothing_seen}
-use Rattle.profile_text.specs.Draft.{AreGrown, IsNew, IsRead, number_told}
+use Rattle.profile_text.specs.Draft.{AreGrown, IsNew, IsRead, TellNumbers}
 use Rattle.profile_text.specs.Text.{Whole, whole_of, bytes_of, IsLeft, GoesOn, TellText}
 use Rattle.profile_text.specs.declared.draft.Draft.{Draft}
 use Rattle.profile_text.specs.declared.item.Item.{Item}
@@ -145,26 +149,27 @@ unfolding lines_of
 text_bytes text =
     omega (arith, numbered_bytes 1 (without_empty_end (slice_split is_line_feed text)), without_end_bytes (slice_split is_line_feed text), split_bytes text)
 
-nothing_read : (names : List (List ℕ)) (keys : List Key) (draft : Draft) → IsNew draft → IsRead names keys draft [] []
+nothing_read : (names : List (List ℕ)) (keys : List Key) (draft : Draft) → IsNew draft → All (HasNames (length names)) keys → IsRead names keys draft [] []
 unfolding ways_of
-nothing_read names keys draft new = record {
+nothing_read names keys draft new named = record {
   ways = [];
   path = rw new.path (path_none names);
   are_ways = record { given = tt; tell = λ more kept. refl };
   seen = rw (new.opened, new.places) (nothing_seen keys);
   stamps = λ n. rw new.called (omega arith);
   called = rw new.called (omega arith);
+  named = each_named names keys named;
   told = rw new.items (record { given = tt; tell = λ more more_keys kept keys_kept. refl });
 }
 
 pub all_left : (file : ℕ) (text : List ℕ) (names : List (List ℕ)) (keys : List Key) (draft : Draft) (left : List (ℕ × List ℕ)) → IsNew draft → left ≡ enumerate_from 1 (lines_of text)
-    → IsLeft file (whole_of file text names keys) names keys draft left
-all_left file text names keys draft left new is =
+    → All (HasNames (length names)) keys → IsLeft file (whole_of file text names keys) names keys draft left
+all_left file text names keys draft left new is named =
     subst (IsLeft file (whole_of file text names keys) names keys draft) (sym is)
     (record {
       before = [];
       numbers = [];
-      read = nothing_read names keys draft new;
+      read = nothing_read names keys draft new named;
       judged = refl;
       spelled = refl;
       names_kept = λ n x known. known;
@@ -179,14 +184,17 @@ pub none_left : (file : ℕ) (text : List ℕ) (names more : List (List ℕ)) (k
     → (first_bad_of_profile file text ≡ None) × TellText names keys text items more more_keys
 unfolding kept_lines items_from numbers_from
 none_left file text names more keys more_keys draft left items is none are =
-    let end = subst (IsLeft file (whole_of file text names keys) more more_keys draft) none is in (
+    let end = subst (IsLeft file (whole_of file text names keys) more more_keys draft) none is in
+    let spelled : numbers_of text ≡ end.numbers = end.spelled ∙ append-nil end.numbers in
+    let told : TellNumbers more more_keys items (numbers_of text) =
+    subst (λ (list : List Item). TellNumbers more more_keys list (numbers_of text)) (sym are)
+    (subst (TellNumbers more more_keys draft.items.items) (sym spelled) end.read.told) in (
       end.judged,
       record {
-        numbers =
-            ap (map (number_told more more_keys)) are
-            ∙ end.read.told.tell more more_keys (λ n x known. known) (λ n x known. known)
-            ∙ sym (end.spelled ∙ append-nil end.numbers);
-        given = rw are end.read.told.given;
+        told = told;
+        once = items_once more more_keys items
+            (subst (StandOnce (λ (number : Number). number.what)) (sym (told.tell more more_keys (λ n x known. known) (λ n x known. known))) (numbers_stand_once file text end.judged));
+        named = named_each more more_keys end.read.named;
         names_kept = end.names_kept;
         keys_kept = end.keys_kept;
         few_names = omega (arith, end.few_names);

@@ -15,6 +15,7 @@ use Rattle.profile_model.specs.Spelled.{Number, head, count, target, numbers_on,
 use Rattle.profile_model.specs.Spelled as told
 use Rattle.profile_model.specs.Standing.{can_stand, way_above, way_of, ways_of, targets_on, again_among, has_twice}
 use Rattle.profile_model.specs.Ways.{Way}
+use Rattle.profile_tree.specs.Known.{HasNames}
 use Rattle.profile_tree.specs.Said.{way_at}
 use Rattle.profile_tree.specs.Steps.{NumberedStep, at_function, at_line, at_call, name_at, named, steps_of}
 use Rattle.profile_text.specs.Path.{opening}
@@ -155,6 +156,10 @@ pub record AreSeen
   pub known : (key : Key) → IsOneOf (steps_of key) ways → Contains keys key
   pub few : length places ≤ length keys
 
+-- The names of keys were given.
+abbrev pub AreNamed : List (List ℕ) → List Key → Type 0
+AreNamed names keys = (n : ℕ) (key : Key) → slice_get keys n ≡ Some key → HasNames (length names) key
+
 -- These lines were read, and these numbers told.
 pub record IsRead
     (names : List (List ℕ)) (keys : List Key) (draft : Draft) (before : List Line) (numbers : List Number)
@@ -165,6 +170,7 @@ pub record IsRead
   pub seen : AreSeen keys ways draft.opened draft.places
   pub stamps : (n : ℕ) → slice_index draft.called n ≤ length draft.items.items
   pub called : length draft.called ≤ length names
+  pub named : AreNamed names keys
   pub told : TellNumbers names keys draft.items.items numbers
 
 -- Nothing was read.

@@ -1,16 +1,18 @@
 -- How far a profile text was read.
-use Rattle.std.specs.Prelude.{◌≡◌, ℕ, ◌+◌, ◌≤◌, ⊤, List, [], ◌∷◌, ◌++◌, length, map, Option, Some, Result, Ok, Err}
-use Rattle.std.specs.List.{AllByRecursion}
+use Rattle.std.specs.Prelude.{◌≡◌, ℕ, ◌+◌, ◌≤◌, ⊤, List, [], ◌∷◌, ◌++◌, length, Option, Some, Result, Ok, Err}
+use Rattle.std.specs.List.{All}
 use Rattle.refusal.specs.declared.place.Place.{Place}
 use Rattle.refusal.specs.declared.place.Stop.{Stop}
 use Rattle.refusal.specs.declared.place.Stop.TheVariants.{Refused, NoMemory}
 use Rattle.refusal.specs.Place.{first_bad}
 use Rattle.key_types.specs.declared.key.Key.{Key}
 use Rattle.text_scan.specs.declared.lines.Line.{Line as TextLine}
+use Rattle.profile_laws.specs.Once.{StandOnce}
 use Rattle.profile_model.specs.Judging.{items_from, kept_lines, first_bad_of_profile}
 use Rattle.profile_model.specs.Profile.{Line}
 use Rattle.profile_model.specs.Spelled.{Number, numbers_from, numbers_of}
-use Rattle.profile_text.specs.Draft.{Kept, IsGivenItem, IsRead, number_told}
+use Rattle.profile_tree.specs.Known.{HasNames}
+use Rattle.profile_text.specs.Draft.{Kept, IsRead, TellNumbers}
 use Rattle.profile_text.specs.declared.draft.Draft.{Draft}
 use Rattle.profile_text.specs.declared.item.Item.{Item}
 
@@ -70,13 +72,15 @@ TakesOn file names keys draft line result more more_keys after =
     → IsLeft file whole names keys draft ((line.number, line.bytes.now) ∷ rest)
     → GoesOn file whole rest result more more_keys after
 
--- Items tell the numbers of a text by names and keys that grew by no more than the text has bytes.
+-- Items tell the numbers of a text, each once, by names and keys that grew by no more than the text has bytes. The
+-- names of all keys were given.
 pub record TellText
     (names : List (List ℕ)) (keys : List Key) (text : List ℕ) (items : List Item)
     (more : List (List ℕ)) (more_keys : List Key)
     : Type 0 where
-  pub numbers : map (number_told more more_keys) items ≡ numbers_of text
-  pub given : AllByRecursion (IsGivenItem (length more) (length more_keys)) items
+  pub told : TellNumbers more more_keys items (numbers_of text)
+  pub once : StandOnce (λ item. item.what) items
+  pub named : All (HasNames (length more)) more_keys
   pub names_kept : Kept names more
   pub keys_kept : Kept keys more_keys
   pub few_names : length more ≤ length names + length text

@@ -1,7 +1,8 @@
 // A profile text, line by line.
-ghost use Rattle.std.specs.Prelude.{◌≡◌, ◌<◌, ◌≤◌, ◌+◌, ◌-◌, ◌^◌, length};
+ghost use Rattle.std.specs.Prelude.{◌≡◌, ◌<◌, ◌≤◌, ◌+◌, ◌-◌, ◌^◌, All, length};
 ghost use Rattle.refusal.specs.Place.{JudgesUnlessNoMemory};
 ghost use Rattle.profile_model.specs.Judging.{first_bad_of_profile};
+ghost use Rattle.profile_tree.specs.Known.{HasNames};
 ghost use Rattle.profile_text.specs.Draft as spec;
 ghost use Rattle.profile_text.specs.Text.{TakesOn, TellText};
 
@@ -17,6 +18,7 @@ use text_scan::{Line, Lines};
 /// Lines and files are numbered from 1. How large the text may be is for the caller to judge.
 ///
 /// Names and keys are added to those that are there, at most as many of each as the text has bytes.
+/// What keys name is of `names`, before and after. No head, key or target has two numbers.
 ///
 /// # Errors
 /// `Refused` at the number of the first bad line, with the first cause that holds of it:
@@ -39,6 +41,7 @@ pub fn read<'a>(
     requires size { length text.now ≤ 2 ^ 28 }
     requires names { length names.old < 2 ^ 31 }
     requires keys { length keys.old < 2 ^ 31 }
+    requires key_names { All (HasNames (length names.old)) keys.old }
     ensures { JudgesUnlessNoMemory (first_bad_of_profile file text.now) result (λ profile.
         TellText names.old keys.old text.now profile.items names.new keys.new) }
 {

@@ -26,6 +26,6 @@ returns c = λ before numbers is.
     (λ once put.
     body_read c.args.names.now c.put_targets.new.names c.args.keys.now c.add.new.self c.args.self.now _ before numbers c.args.depth c.args.location c.in_ok-key.field-0
     c.in_ok-key-2.key c.args.at c.args.count (map pair_of c.args.targets.now) c.put.new.items.items is free at c.each_once.ensures
-    c.in_ok-key-2.ensures.added.kept c.in_ok-key-2.ensures.one_more c.in_ok-key-2.ensures.numbered c.in_ok-key-2.ensures.number (sym c.if-branch.false ∙ c.in_ok-stamp.ensures.told)
+    c.in_ok-key-2.ensures.added c.in_ok-key-2.ensures.one_more c.in_ok-key-2.ensures.numbered c.in_ok-key-2.ensures.number (sym c.if-branch.false ∙ c.in_ok-stamp.ensures.told)
     c.in_ok-stamp.ensures.stamped c.in_ok-put.ensures c.close.ensures refl once put)
     (λ twice. body_twice c.args.names.now c.args.keys.now c.args.self.now before numbers c.args.depth c.args.location c.args.count (map pair_of c.args.targets.now) is free twice)

@@ -10,6 +10,8 @@ mod of_profile_report;
 #[cfg(test)]
 mod of_profile_text;
 #[cfg(test)]
+mod of_profile_tree;
+#[cfg(test)]
 mod of_range_counts;
 #[cfg(test)]
 mod of_target_lists;

@@ -1,0 +1,7 @@
+mod CalledLemmas
+mod FunctionLemmas
+mod HotLemmas
+mod ItemLemmas
+pub mod MergeLemmas
+mod SummaryLemmas
+pub mod TellLemmas

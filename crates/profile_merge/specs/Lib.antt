@@ -1,0 +1,7 @@
+pub mod Called
+pub mod Functions
+pub mod Hot
+pub mod Laws
+pub mod Row
+pub mod Sums
+pub mod Told

@@ -5,3 +5,4 @@ mod ItemLemmas
 pub mod MergeLemmas
 mod SummaryLemmas
 pub mod TellLemmas
+mod TreeLemmas

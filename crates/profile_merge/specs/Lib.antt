@@ -3,5 +3,6 @@ pub mod Functions
 pub mod Hot
 pub mod Laws
 pub mod Row
+pub mod Stated
 pub mod Sums
 pub mod Told

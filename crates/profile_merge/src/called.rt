@@ -1,9 +1,11 @@
 // Sums of calls.
-ghost use Rattle.std.specs.Prelude.{◌≡◌, [], IfOk, OnOk};
+ghost use Rattle.std.specs.Prelude.{◌≡◌, [], IfOk, OnOk, map};
 ghost use Rattle.profile_merge.specs.Called.{AreReached, AreWithSum, IsCalled, called_sum};
+ghost use Rattle.profile_merge.specs.Stated.{call_of};
 
 use indexmap::IndexMap;
 use key_types::{KeyId, NameId};
+use profile_tree::Call;
 use refusal::NoMemory;
 use std::alloc::{AllocError, Global};
 use std::marker::Model;
@@ -33,6 +35,21 @@ impl Called {
         Ok(Called {
             sums: IndexMap::with_capacity(alloc, 1)?,
         })
+    }
+
+    /// The calls of each key and callee that have a place.
+    pub(crate) fn calls(&self, alloc: Global) -> Result<Vec<Call>, NoMemory>
+        ensures { IfOk result (λ calls. calls.items ≡ map call_of self.now) }
+    {
+        let mut calls = Vec::with_capacity(alloc, self.sums.len())?;
+        for (target, times) in self.sums.iter() {
+            calls.push(Call {
+                key: target.0,
+                callee: target.1,
+                times: *times,
+            })?;
+        }
+        Ok(calls)
     }
 
     /// The sum of a key and a callee.

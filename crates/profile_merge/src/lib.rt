@@ -10,6 +10,7 @@ mod functions;
 mod hot;
 mod laws;
 mod row;
+mod stated;
 mod sums;
 mod text;
 

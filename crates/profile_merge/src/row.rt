@@ -32,6 +32,13 @@ impl Row {
         })
     }
 
+    /// The sums, each at its number.
+    pub(crate) fn as_slice(&self) -> &[u64]
+        ensures { result.now ≡ self.now }
+    {
+        &self.sums
+    }
+
     /// The sum of a number.
     pub(crate) fn sum(&self, id: u32) -> u64
         ensures { result ≡ slice_index self.now id }

@@ -1,13 +1,19 @@
 // Numbers of profile texts, summed with weights.
-ghost use Rattle.std.specs.Prelude.{◌≡◌, ◌↔◌, ◌≤◌, ◌+◌, ◌*◌, ◌^◌, ◌<◌, ℕ, None, [], IfOk, IsNone, OnErr, OnOk};
+ghost use Rattle.std.specs.Prelude.{◌≡◌, ◌↔◌, ◌≤◌, ◌+◌, ◌*◌, ◌^◌, ◌<◌, ℕ, None, [], All, IfOk, IsNone, OnErr, OnOk, length, map};
+ghost use Rattle.profile_model.specs.Profile.{lines_of};
 ghost use Rattle.profile_text.specs.Draft.{IsGivenWhat};
 ghost use Rattle.profile_merge.specs.Sums.{AddsPart, AreSameSums, AreSumsOf, HasPlace, HavePlaces, IsWithSum, JudgesItems, KeepsPlaces, StaySumsOf, TellOnce, first_over, sum_in};
+ghost use Rattle.profile_merge.specs.Told.{sums_told};
+ghost use Rattle.profile_tree.specs.Known.{HasNames};
+ghost use Rattle.profile_tree.specs.Told.{IsOf, told};
 ghost use Rattle.profile_merge.specs.declared.sums.MergeStop.TheVariants.{NoMemory as no_memory};
 
 use crate::called::Called;
 use crate::row::Row;
-use key_types::{KeyId, NameId};
+use crate::stated::{counts_of, heads_of};
+use key_types::{Keys, Names};
 use profile_text::{Item, Profile, What};
+use profile_tree::{Tree, from_counts};
 use refusal::NoMemory;
 use std::alloc::Global;
 use std::marker::Model;
@@ -95,6 +101,29 @@ impl Sums {
         self.reach_all(items)?;
         self.raise_all(items, weight);
         Ok(())
+    }
+
+    /// The profile of the sums: each key, target and head has its sum. A total stands still at
+    /// 2^64 - 1.
+    ///
+    /// The profiles that were added had their numbers from `keys` and `names`.
+    ///
+    /// # Errors
+    /// `NoMemory`.
+    pub fn tree(&self, alloc: Global, keys: &Keys, names: &Names) -> Result<Tree, NoMemory>
+        requires given { AreSumsOf (length names.now) (length keys.now) self.now }
+        requires key_names { All (HasNames (length names.now)) keys.now }
+        ensures lines { IfOk result (λ tree. map (told names.now) tree.lines
+            ≡ lines_of (sums_told names.now keys.now self.now)) }
+        ensures names { IfOk result (λ tree. All (IsOf names.now) tree.lines) }
+    {
+        // What is read here is that 32 bits number all keys and names.
+        let _keys = keys.len();
+        let _names = names.len();
+        let counts = counts_of(alloc, &self.counts)?;
+        let heads = heads_of(alloc, &self.heads)?;
+        let calls = self.called.calls(alloc)?;
+        from_counts(alloc, &counts, &calls, &heads, keys, names)
     }
 
     /// The line of the first of these numbers that is too large.

@@ -1,4 +1,5 @@
 mod CalledLemmas
+mod Examples
 mod FunctionLemmas
 mod HotLemmas
 mod ItemLemmas

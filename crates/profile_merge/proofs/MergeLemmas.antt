@@ -30,7 +30,7 @@ use Rattle.profile_text.specs.declared.item.What.TheVariants.{Head, Count, Targe
 use Rattle.profile_merge.proofs.CalledLemmas.{targets_same}
 use Rattle.profile_merge.proofs.TellLemmas.{number_in_both, number_is, told_by_items, way_is, name_is, what_once, what_same}
 use Rattle.profile_merge.specs.Called.{Target as CalledFrom, IsGivenTarget, called_sum, same_target}
-use Rattle.profile_merge.specs.Laws.{AreNumbered, NothingIsSummed, SumsStayWithMore, RaisedSumsCountBoth, FirstOverIsFirstBad, LinesAreOfSums, place_over}
+use Rattle.profile_merge.specs.Laws.{AreNumbered, NothingIsSummed, SumsStayWithMore, RaisedSumsCountBoth, FirstOverIsFirstBad, LinesAreOfSums, SumsAreByCounts, place_over}
 use Rattle.profile_merge.specs.Sums.{AreSumsOf, Sums, first_over, is_over, sum_in}
 use Rattle.profile_merge.specs.Told.{AreSumsIn, IsToldBy, no_sums, part_told, sums_told}
 
@@ -391,3 +391,16 @@ lines_are_of_sums names keys sums profile are sums_are =
       targets = same_calls names keys sums profile are sums_are;
       heads = same_heads names keys sums profile are sums_are;
     })
+
+-- ---- profiles that count the same
+pub sums_are_by_counts : SumsAreByCounts
+sums_are_by_counts names keys sums p q same are = record {
+  given = are.given;
+  each = λ what given. are.each what given ∙ number_same (what_told names keys what);
+  only = λ told some. are.only told (subst (λ n. 0 < n) (sym (number_same told)) some);
+}
+  where
+    number_same : (told : ToldWhat) → number_in p told ≡ number_in q told
+    number_same (head name) = same.heads name
+    number_same (count way) = same.keys way
+    number_same (target way name) = same.targets way name

@@ -7,6 +7,7 @@ use Rattle.key_types.specs.declared.key.Key.{Key}
 use Rattle.refusal.specs.declared.kind.Kind.TheVariants.{CountTooLarge}
 use Rattle.refusal.specs.declared.place.Place.{Place}
 use Rattle.refusal.specs.Place.{first_bad}
+use Rattle.profile_laws.specs.Counts.{CountTheSame}
 use Rattle.profile_model.specs.Merge.{both, nothing, sum_items, weighed}
 use Rattle.profile_model.specs.Profile.{Profile, lines_of}
 use Rattle.profile_text.specs.Draft.{IsGivenItem, Kept, number_told}
@@ -58,3 +59,9 @@ LinesAreOfSums =
     (names : List (List ℕ)) (keys : List Key) (sums : Sums) (profile : Profile)
     → AreNumbered names keys → AreSumsIn names keys sums profile
     → lines_of (sums_told names keys sums) ≡ lines_of profile
+
+-- Sums are those of any profile that counts the same.
+abbrev pub SumsAreByCounts : Type 0
+SumsAreByCounts =
+    (names : List (List ℕ)) (keys : List Key) (sums : Sums) (p q : Profile)
+    → CountTheSame p q → AreSumsIn names keys sums p → AreSumsIn names keys sums q

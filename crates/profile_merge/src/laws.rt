@@ -1,5 +1,5 @@
 // Sums by numbers, seen as profiles by names.
-ghost use Rattle.profile_merge.specs.Laws.{FirstOverIsFirstBad, LinesAreOfSums, NothingIsSummed, RaisedSumsCountBoth, SumsStayWithMore};
+ghost use Rattle.profile_merge.specs.Laws.{FirstOverIsFirstBad, LinesAreOfSums, NothingIsSummed, RaisedSumsCountBoth, SumsAreByCounts, SumsStayWithMore};
 
 /// New sums are those of a profile in which nothing was counted.
 pub fn nothing_is_summed()
@@ -25,4 +25,9 @@ pub fn first_over_is_first_bad()
 /// What sums say was counted has the lines of the profile that they are of.
 pub fn lines_are_of_sums()
     ensures { LinesAreOfSums }
+{}
+
+/// Sums are those of any profile that counts the same.
+pub fn sums_are_by_counts()
+    ensures { SumsAreByCounts }
 {}

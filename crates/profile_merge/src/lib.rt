@@ -16,7 +16,7 @@ mod text;
 
 pub use laws::{
     first_over_is_first_bad, lines_are_of_sums, nothing_is_summed, raised_sums_count_both,
-    sums_stay_with_more,
+    sums_are_by_counts, sums_stay_with_more,
 };
 pub use sums::{MergeStop, Sums};
 pub use text::summary;

@@ -237,9 +237,9 @@ is_function_by p way s function = refl
 is_function_by p way s body = refl
 is_function_by p way s call = refl
 
-no_more : (p : Profile) (s : Step) (front way : Way) → AllByRecursion (λ t. is_root t.kind ≡ false) way
+no_more : (p : Profile) (s : Step) (way : Way) → AllByRecursion (λ t. is_root t.kind ≡ false) way
     → filter (λ w. is_function (line_at p w)) (map (λ w. s ∷ w) (beginnings way)) ≡ []
-no_more p s front way all = none (beginnings way) (ends way all)
+no_more p s way all = none (beginnings way) (ends way all)
   where
     Ends : Way → Type 0
     Ends [] = ⊥
@@ -268,7 +268,7 @@ one_function p [] is = absurd is
 one_function p (s ∷ way) is =
     ap (λ b. cond b ((s ∷ []) ∷ filter (λ w. is_function (line_at p w)) (map (λ w. s ∷ w) (beginnings way))) (filter (λ w. is_function (line_at p w)) (map (λ w. s ∷ w) (beginnings way))))
     (is_function_by p (s ∷ []) s s.kind ∙ ap is_root is.0)
-    ∙ ap (λ ws. (s ∷ []) ∷ ws) (no_more p s [] way is.1)
+    ∙ ap (λ ws. (s ∷ []) ∷ ws) (no_more p s way is.1)
 
 functions_only : (p : Profile) (ways : List Way) → AllByRecursion IsWay ways → filter (λ w. is_function (line_at p w)) (flat_map beginnings ways) ≡ map root_in ways
 functions_only p [] all = refl

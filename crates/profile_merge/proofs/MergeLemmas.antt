@@ -221,9 +221,6 @@ own_sum (first ∷ calls) call once (inr there) =
     other (c ∷ cs) apart (inr r) = other cs apart.1 r
 
 module _ (names : List (List ℕ)) (keys : List Key) (sums : Sums) (profile : Profile) (are : AreNumbered names keys) (sums_are : AreSumsIn names keys sums profile) where
-  told : Profile
-  told = sums_told names keys sums
-
   -- the sums of keys with a way
   way_sum : (way : Way) → count_of (sums_told names keys sums) way ≡ sum_by (λ id. cond (same_way way (way_at names keys id)) (slice_index sums.counts id) 0) (range_with_len 0 (length sums.counts))
   way_sum way =
@@ -342,8 +339,6 @@ module _ (names : List (List ℕ)) (keys : List Key) (sums : Sums) (profile : Pr
       none : target_of profile way name ≤ 0 → (call : CalledFrom × ℕ) → Among call sums.called → place call ≡ 0
       none zero call there =
           let given = call_given sums.called call sums_are.given.called.given there in
-          let a = same_way way (way_at names keys call.0.0.0) in
-          let b = same_name name (name_at names call.0.1.0) in
           bool_cases (same_way way (way_at names keys call.0.0.0) && same_name name (name_at names call.0.1.0))
           (λ e.
           let own = sym (own_sum sums.called call sums_are.given.called.once there) ∙ sums_are.each (Target call.0.0 call.0.1) (given.0, given.1) in

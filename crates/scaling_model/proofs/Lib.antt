@@ -1,0 +1,4 @@
+pub mod RefineLemmas
+pub mod CoarseLemmas
+pub mod HalvedLemmas
+mod Examples

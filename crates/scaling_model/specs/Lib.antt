@@ -1,0 +1,3 @@
+pub mod Coarse
+pub mod Laws
+pub mod Refining

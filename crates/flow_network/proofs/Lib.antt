@@ -4,3 +4,4 @@ pub mod PushLemmas
 pub mod NetLemmas
 pub mod CutLemmas
 pub mod CostLemmas
+pub mod CoarseLemmas

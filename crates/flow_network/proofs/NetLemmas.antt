@@ -16,7 +16,7 @@ use Rattle.flow_network.specs.Net.{network_by, tails_of, heads_of, KeepsNet}
 use Rattle.flow_network.specs.Table.{AreRows}
 use Rattle.flow_network.specs.declared.rows.Rows.{Rows}
 
-network_by-arcs : (net : Network) (blocks edges : ℕ) → length net.blocks ≡ blocks → length net.edges ≡ edges
+pub network_by-arcs : (net : Network) (blocks edges : ℕ) → length net.blocks ≡ blocks → length net.edges ≡ edges
     → network_by (arcs_of net) blocks edges ≡ net
 network_by-arcs net blocks edges same also =
     let rest = net.edges ++ net.returns in

@@ -2,13 +2,14 @@
 //! with the bounds and the costs of the counts on them.
 //!
 //! `net_of` makes it from a function and its weights. Beside its arcs a `Net` keeps which of them
-//! leave and enter each side. `Flow`, `Prices` and `Nodes` are what can be said of a network, and
-//! `cost` and `cut_sums` add up over its arcs.
+//! leave and enter each side; `Net::coarse` is the same network in coarser units. `Flow`, `Prices`
+//! and `Nodes` are what can be said of a network, and `cost` and `cut_sums` add up over its arcs.
 //!
-//! Source: Ahuja, Magnanti and Orlin, "Network Flows", chapters 2, 6 and 9.
+//! Source: Ahuja, Magnanti and Orlin, "Network Flows", chapters 2, 6, 9 and 10.
 #![tactic(auto)]
 
 mod arcs;
+mod coarse;
 mod costs;
 mod cut;
 mod flow;

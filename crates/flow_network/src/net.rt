@@ -1,12 +1,14 @@
 // A network with its arcs by side.
-ghost use Rattle.std.specs.Prelude.{◌≡◌, ◌*◌, ◌≤◌, length, IfOk};
+ghost use Rattle.std.specs.Prelude.{◌≡◌, ◌*◌, ◌<◌, ◌≤◌, length, IfOk};
 ghost use Rattle.block_model.specs.Limits.{max_blocks, max_edges};
 ghost use Rattle.flow_model.specs.Network.{arcs_of, network_of};
 ghost use Rattle.flow_model.specs.Sound.{AreWeights, IsNet, IsSound};
+ghost use Rattle.scaling_model.specs.Coarse.{coarse};
 ghost use Rattle.flow_network.specs.Net.{heads_of, tails_of};
 ghost use Rattle.flow_network.specs.Rows.{places_of};
 
 use crate::arcs::arcs_by;
+use crate::coarse::coarse_arcs;
 use crate::rows::Rows;
 use block_model::Weight;
 use cfg_text::Fun;
@@ -84,6 +86,13 @@ impl Net {
         &self.arcs[1 + self.blocks..1 + self.blocks + self.edges]
     }
 
+    /// The arcs of the returns.
+    fn returns(&self) -> &[Arc]
+        ensures { result.now ≡ self.now.returns }
+    {
+        &self.arcs[1 + self.blocks + self.edges..]
+    }
+
     /// The places in `arcs` of those that leave a side, ascending.
     pub fn leaving(&self, side: u32) -> &[u32]
         requires { side ≤ 2 * length self.now.blocks }
@@ -98,6 +107,29 @@ impl Net {
         ensures { result.now ≡ places_of side (heads_of (arcs_of self.now)) }
     {
         self.entering.row(side)
+    }
+
+    /// This network in units of 2^`shift`: lower bounds are rounded down, upper bounds and weights
+    /// are rounded up. It is the network of a function, and a set of sides that is a cut of it is a
+    /// cut of this one.
+    ///
+    /// Source: "Network Flows", 10.2.
+    pub fn coarse(&self, alloc: Global, shift: u32) -> Result<Net, NoMemory>
+        requires { shift < 64 }
+        ensures { IfOk result (λ net. net ≡ coarse shift self.now) }
+    {
+        let calls = self.arcs[0];
+        let returns = self.returns();
+        let arcs = coarse_arcs(alloc, calls, self.blocks(), self.edges(), returns, shift)?;
+        let leaving = self.leaving.copy(alloc)?;
+        let entering = self.entering.copy(alloc)?;
+        Ok(Net {
+            arcs,
+            blocks: self.blocks,
+            edges: self.edges,
+            leaving,
+            entering,
+        })
     }
 }
 

@@ -161,7 +161,7 @@ net_halved net is = record {
   same = ap halved is.same ∙ sym (network_halved is.blocks is.edges is.weights is.edge_weights);
 }
 
-one_more : (shift : ℕ) (net : Network) → coarse (suc shift) net ≡ halved (coarse shift net)
+pub one_more : (shift : ℕ) (net : Network) → coarse (suc shift) net ≡ halved (coarse shift net)
 one_more shift net =
     let e : suc shift ≡ shift + 1 = omega arith in
     ap (λ (k : ℕ). coarse k net) e ∙ (shifts_halve net).1 shift
@@ -242,7 +242,7 @@ cut_step false false lower half_least least (Some r) rest most one low more is l
     let found = more r refl in
     (0 + found.0, rw (found.1) refl, let few = found.2 in omega (arith, few, e, low, less))
 
-one_call : (weights : List Weight) → (if some_sampled weights then 1 else 0) ≤ 1
+pub one_call : (weights : List Weight) → (if some_sampled weights then 1 else 0) ≤ 1
 one_call weights = let P : ℕ → Type 0 = λ n. n ≤ 1 in cond_both (some_sampled weights) 1 0 P (λ _. omega arith) (λ _. omega arith)
 
 cut_halved_of : (blocks : List Block) (edges : List Edge) (weights edge_weights : List Weight) (set : ℕ → Bool)

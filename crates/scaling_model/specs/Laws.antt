@@ -30,7 +30,8 @@ halved net = record net { blocks = map halved_arc net.blocks; edges = map halved
 
 -- In units of 1 a network is as it was, and each further shift halves it.
 abbrev pub ShiftsHalve : Type 0
-ShiftsHalve = (net : Network) → (coarse 0 net ≡ net) × ((shift : ℕ) → coarse (shift + 1) net ≡ halved (coarse shift net))
+ShiftsHalve =
+    (net : Network) → (coarse 0 net ≡ net) × ((shift : ℕ) → coarse (shift + 1) net ≡ halved (coarse shift net))
 
 -- In coarser units the network of a function is the network of a function.
 abbrev pub CoarseNetsAreNets : Type 0
@@ -42,8 +43,7 @@ CoarseCutsAreCuts =
     (shift : ℕ) (net : Network) (set : ℕ → Bool) → IsNet net → IsCut set (arcs_of (coarse shift net))
     → IsCut set (arcs_of net)
 
--- Where no count to start from is above 2^(shift + bits), none is above 2^bits in units of 2^shift, but for the one call
--- that is enough.
+-- Where no count to start from is above 2^(shift + bits), none is above 2^bits in units of 2^shift.
 abbrev pub CoarseStartsAreSmall : Type 0
 CoarseStartsAreSmall =
     (shift bits : ℕ) (net : Network) → IsNet net → All (λ arc. starting arc ≤ 2 ^ (shift + bits)) (arcs_of net)

@@ -1,5 +1,1 @@
-pub mod Answer
-pub mod Excess
-pub mod Level
-pub mod Solved
-pub mod State
+pub use Rattle.flow_balance.specs.Solved

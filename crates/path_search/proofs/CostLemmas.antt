@@ -134,7 +134,7 @@ way_cost net counts prices source marks ground ways side mark at =
 
 pub way_near : (net : Network) (counts : List ℕ) (prices : List ℤ) (source : ℕ) (marks : List (Option Mark)) → IsGround net counts prices
     → AreWays net counts prices source marks → length marks ≡ length prices → (side : ℕ) (mark : Mark) → mark_at marks side ≡ Some mark
-    → mark.distance < 2 ^ 29
+    → mark.distance < 2 ^ 33
 way_near net counts prices source marks ground ways each side mark at =
     let cost = way_cost net counts prices source marks ground ways side mark at in
     let few = few_sides net ground.of_a_function in

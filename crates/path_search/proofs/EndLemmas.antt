@@ -50,7 +50,7 @@ nearer_is_settled marks frontier side distance other near next nearer =
 -- the side that the search has come to is near
 pub next_near : (net : Network) (counts : List ℕ) (prices : List ℤ) (source : ℕ) (marks : List (Option Mark)) (frontier : List (ℕ × ℕ))
     (side distance : ℕ) → IsGround net counts prices → AreWays net counts prices source marks → length marks ≡ length prices
-    → IsNext marks frontier side distance → distance_at marks side < 2 ^ 29
+    → IsNext marks frontier side distance → distance_at marks side < 2 ^ 33
 next_near net counts prices source marks frontier side distance ground ways each next =
     let found = open_mark (mark_at marks side) next.current.waits in
     let near = way_near net counts prices source marks ground ways each side found.0 found.1 in
@@ -103,7 +103,7 @@ near_is_reached marks side near = by_mark (mark_at marks side) near
 
 -- one step from a settled side
 step_reaches : (prices : List ℤ) (marks : List (Option Mark)) (from to : ℕ) (cost : ℤ) → AreSmall prices
-    → from < length prices → to < length prices → IsSmallCost cost → distance_at marks from < 2 ^ 29
+    → from < length prices → to < length prices → IsSmallCost cost → distance_at marks from < 2 ^ 33
     → pos (distance_at marks to) ≤ℤ (pos (distance_at marks from) +ℤ reduced (price_at prices) from to cost)
     → is_reached marks to ≡ true
 step_reaches prices marks from to cost small from_within to_within cheap below led =
@@ -119,7 +119,7 @@ closed net counts prices excess source marks frontier rank ground walking ways n
     → pos (distance_at marks to) ≤ℤ (pos (distance_at marks from) +ℤ reduced (price_at prices) from to cost) in
     let Closed : ℕ → ℕ → ℤ → Type 0 = λ from to cost. is_reached marks from ≡ true → is_reached marks to ≡ true in
     let settled = λ (side : ℕ) (is : is_reached marks side ≡ true). reached_is_settled marks side (none_open side) is in
-    let near : (side : ℕ) → is_reached marks side ≡ true → distance_at marks side < 2 ^ 29 = λ side is.
+    let near : (side : ℕ) → is_reached marks side ≡ true → distance_at marks side < 2 ^ 33 = λ side is.
     let mark = settled_mark (mark_at marks side) (settled side is) in
     let close = way_near net counts prices source marks ground ways walking.settled.each side mark.0 mark.1 in
     let d = ap distance_of mark.1 in

@@ -162,7 +162,7 @@ taken_searching prices marks frontier distance side mark new_marks new_frontier 
 
 pub looked : (prices : List ℤ) (marks : List (Option Mark)) (frontier : List (ℕ × ℕ)) (distance side : ℕ) (mark : Mark)
     (new_marks : List (Option Mark)) (new_frontier : List (ℕ × ℕ)) → IsLooking prices marks frontier distance → side < length prices
-    → is_settled (Some mark) ≡ false → distance ≤ mark.distance → mark.distance ≤ distance + 2 ^ 29
+    → is_settled (Some mark) ≡ false → distance ≤ mark.distance → mark.distance ≤ distance + 2 ^ 33
     → Offers side mark marks frontier new_marks new_frontier
     → IsLooking prices new_marks new_frontier distance × ComeNearer marks new_marks
 looked prices marks frontier distance side mark new_marks new_frontier looking within is_not ahead room (inl same) =

@@ -152,7 +152,7 @@ pub record IsStepping (net : Network) (counts : List ℕ) (prices excess : List 
   pub now : IsSettledNow marks new_marks side
 
 pub looks_from : (net : Network) (counts : List ℕ) (prices excess : List ℤ) (source : ℕ) (marks new_marks : List (Option Mark))
-    (frontier : List (ℕ × ℕ)) (side distance : ℕ) → AreSmall prices → distance < 2 ^ 29
+    (frontier : List (ℕ × ℕ)) (side distance : ℕ) → AreSmall prices → distance < 2 ^ 33
     → IsStepping net counts prices excess source marks new_marks frontier side distance
     → IsLooking prices new_marks frontier distance
 looks_from net counts prices excess source marks new_marks frontier side distance small room stepping =

@@ -18,10 +18,10 @@ count_at counts place = slice_index_or counts place 0
 abbrev pub price_at : List ℤ → ℕ → ℤ
 price_at prices side = slice_index_or prices side (pos 0)
 
--- A price within 2^27 on either side of 0.
+-- A price within 2^31 on either side of 0.
 pub record IsSmallPrice (price : ℤ) : Type 0 where
-  pub least : negsuc (2 ^ 27 - 1) ≤ℤ price
-  pub most : price ≤ℤ pos (2 ^ 27)
+  pub least : negsuc (2 ^ 31 - 1) ≤ℤ price
+  pub most : price ≤ℤ pos (2 ^ 31)
 
 -- Each price is small.
 abbrev pub AreSmall : List ℤ → Type 0

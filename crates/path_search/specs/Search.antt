@@ -76,7 +76,7 @@ pub record IsLooking (prices : List ℤ) (marks : List (Option Mark)) (frontier 
   pub small : AreSmall prices
   pub each : length marks ≡ length prices
   pub searching : IsSearching marks frontier distance
-  pub room : distance < 2 ^ 29
+  pub room : distance < 2 ^ 33
 
 -- The step along an arc leads no further than it costs, where one more may pass.
 abbrev pub LedAlong : List ℤ → List (Option Mark) → ℕ → Arc → ℕ → Type 0

@@ -53,7 +53,7 @@ pub(crate) fn reduced(prices: &[i64], from: u32, to: u32, cost: i64) -> u64
     requires cheap { IsSmallCost cost }
     requires fits { pos 0 ≤ℤ model.reduced (price_at prices.now) from to cost }
     ensures value { pos result ≡ model.reduced (price_at prices.now) from to cost }
-    ensures small { result < 2 ^ 29 }
+    ensures small { result < 2 ^ 33 }
 {
     let rise = prices[to as usize] - prices[from as usize];
     (cost - rise) as u64

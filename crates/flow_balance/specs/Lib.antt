@@ -1,0 +1,5 @@
+pub mod Answer
+pub mod Excess
+pub mod Level
+pub mod Solved
+pub mod State

@@ -1,0 +1,66 @@
+// A network solved within so many augmentations.
+ghost use Rattle.std.specs.Prelude.{◌≡◌, ◌^◌, ◌<◌, ◌≤◌, length, pos, replicate, None, IfOk, IfSome};
+ghost use Rattle.flow_model.specs.Network.{arcs_of};
+ghost use Rattle.path_search.specs.Ground.{sides_of};
+ghost use Rattle.flow_balance.specs.Solved.{Solves};
+
+use crate::answer::{flow_of, prices_of, reached};
+use crate::augmenting::Workspace;
+use crate::balancing::{Outcome, balance};
+use crate::starting::start;
+use flow_network::{Net, Solved};
+use refusal::NoMemory;
+use std::alloc::Global;
+
+/// Counts of least cost that conserve within bounds, with prices that fit them; or a cut, exactly
+/// where no counts conserve within bounds; or `None`, only where as many augmentations were made as
+/// are left. Those that were made are taken from what is left.
+///
+/// 2^63 augmentations are enough for any network.
+pub fn solve_within(alloc: Global, net: &Net, left: &mut u64) -> Result<Option<Solved>, NoMemory>
+    ensures solved { IfOk result (λ solved. IfSome solved (Solves net.now)) }
+    ensures none { IfOk result (λ solved. solved ≡ None → left.old < 2 ^ 63) }
+    ensures fewer { left.new ≤ left.old }
+{
+    let sides = 2 * net.block_count() + 1;
+    let mut counts = vec![in alloc; 0u64; net.arcs().len()]?;
+    let mut prices = vec![in alloc; 0i64; sides]?;
+    let mut excess = vec![in alloc; 0i64; sides]?;
+    let mut work = Workspace::new(alloc, sides, *left)?;
+    let solved = solve_in(alloc, net, &mut counts, &mut prices, &mut excess, &mut work)?;
+    *left = work.left;
+    Ok(solved)
+}
+
+/// Solves a network in lists of zeros, a count for each arc, and a price and an excess for each
+/// side.
+fn solve_in(
+    alloc: Global,
+    net: &Net,
+    counts: &mut [u64],
+    prices: &mut [i64],
+    excess: &mut [i64],
+    work: &mut Workspace,
+) -> Result<Option<Solved>, NoMemory>
+    requires counts { counts.old ≡ replicate (length (arcs_of net.now)) 0 }
+    requires prices { prices.old ≡ replicate (sides_of net.now) (pos 0) }
+    requires excess { excess.old ≡ replicate (sides_of net.now) (pos 0) }
+    requires marked { length work.old.search.marks ≡ sides_of net.now }
+    ensures solved { IfOk result (λ solved. IfSome solved (Solves net.now)) }
+    ensures none { IfOk result (λ solved. solved ≡ None → work.old.left < 2 ^ 63) }
+    ensures fewer { IfOk result (λ solved. work.new.left ≤ work.old.left) }
+{
+    start(net, counts, excess);
+    match balance(net, counts, prices, excess, work)? {
+        Outcome::Even => {
+            let flow = flow_of(alloc, net, counts)?;
+            let told = prices_of(alloc, net, prices)?;
+            Ok(Some(Solved::Flow(flow, told)))
+        }
+        Outcome::Closed => {
+            let nodes = reached(alloc, net, &work.search.marks)?;
+            Ok(Some(Solved::Cut(nodes)))
+        }
+        Outcome::Spent => Ok(None),
+    }
+}

@@ -1,6 +1,0 @@
-use Rattle.path_search.specs.Search.{is_reached}
-use Rattle.flow_solver.specs.Answer.{IsEveryOther}
-use Rattle.flow_solver.proofs.answer.members.Given as goal
-
-abbrev pub invariant-loop-block : goal.invariant-loop-block
-invariant-loop-block l = IsEveryOther (is_reached l.marks) l.first l.block l.list.items

@@ -1,6 +1,7 @@
 // Counts, prices and cuts of worked functions.
-ghost use Rattle.std.specs.Prelude.{◌≡◌, length, IfOk};
-ghost use Rattle.flow_model.specs.Sound.{AreWeights};
+ghost use Rattle.std.specs.Prelude.{◌≡◌, ◌<◌, length, IfOk};
+ghost use Rattle.std.specs.List.{All};
+ghost use Rattle.flow_model.specs.Sound.{AreWeights, IsSoundBound, JoinsBlocks};
 
 use block_model::{Block, Bound, Edge, Weight};
 use cfg_text::Fun;
@@ -98,9 +99,14 @@ fn two_ways(
     Ok(net)
 }
 
-fn flow(alloc: Global, blocks: [u64; 4], edges: [u64; 4]) -> Result<Flow, NoMemory>
-    ensures blocks { IfOk result (λ flow. length flow.blocks ≡ 4) }
-    ensures edges { IfOk result (λ flow. length flow.edges ≡ 4) }
+/// Counts of so many blocks and edges.
+fn flow<const B: usize, const E: usize>(
+    alloc: Global,
+    blocks: [u64; B],
+    edges: [u64; E],
+) -> Result<Flow, NoMemory>
+    ensures blocks { IfOk result (λ flow. length flow.blocks ≡ B) }
+    ensures edges { IfOk result (λ flow. length flow.edges ≡ E) }
 {
     Ok(Flow {
         blocks: Items::new(Vec::from_array(alloc, blocks)?),
@@ -108,9 +114,9 @@ fn flow(alloc: Global, blocks: [u64; 4], edges: [u64; 4]) -> Result<Flow, NoMemo
     })
 }
 
-fn prices(alloc: Global, ins: [i64; 4], outs: [i64; 4]) -> Result<Prices, NoMemory>
-    ensures ins { IfOk result (λ prices. length prices.ins ≡ 4) }
-    ensures outs { IfOk result (λ prices. length prices.outs ≡ 4) }
+fn prices<const B: usize>(alloc: Global, ins: [i64; B], outs: [i64; B]) -> Result<Prices, NoMemory>
+    ensures ins { IfOk result (λ prices. length prices.ins ≡ B) }
+    ensures outs { IfOk result (λ prices. length prices.outs ≡ B) }
 {
     Ok(Prices {
         ins: Items::new(Vec::from_array(alloc, ins)?),
@@ -326,5 +332,191 @@ fn all_sides_of_an_endless_function_are_a_cut(rt: HostRuntime) {
             panic!(rt; "no memory");
         };
         assert_eq!(rt; accepts_cut(&net, &nodes), is_cut);
+    }
+}
+
+/// The function `count_word` of the demo, with what its samples say of its blocks and edges.
+fn count_word(alloc: Global) -> Result<Net, NoMemory>
+    ensures blocks { IfOk result (λ net. length net.blocks ≡ 18) }
+    ensures edges { IfOk result (λ net. length net.edges ≡ 25) }
+{
+    let blocks = Vec::from_array(alloc, word_blocks())?;
+    let edges = Vec::from_array(alloc, word_edges())?;
+    let fun = Fun {
+        name: b"count_word",
+        blocks: Items::new(blocks),
+        edges: Items::new(edges),
+    };
+    let net = net_of(alloc, &fun, &word_weights(), &word_edge_weights())?;
+    Ok(net)
+}
+
+fn word_blocks() -> [Block; 18]
+    ensures each { length result ≡ 18 }
+    ensures bounded { All (λ block. IsSoundBound block.bound) result }
+{
+    let on = unbounded(false);
+    let exit = unbounded(true);
+    [
+        on, on, on, on, on, on, on, on, on, on, on, on, on, on, on, on, on, exit,
+    ]
+}
+
+fn unbounded(exit: bool) -> Block
+    ensures { IsSoundBound result.bound }
+{
+    block(exit, FREE)
+}
+
+fn word_edges() -> [Edge; 25]
+    ensures each { length result ≡ 25 }
+    ensures joined { All (JoinsBlocks 18) result }
+    ensures bounded { All (λ edge. IsSoundBound edge.bound) result }
+{
+    [
+        joining(0, 1),
+        joining(0, 2),
+        joining(1, 3),
+        joining(2, 3),
+        joining(3, 4),
+        joining(3, 12),
+        joining(4, 5),
+        joining(4, 12),
+        joining(5, 6),
+        joining(5, 10),
+        joining(6, 7),
+        joining(7, 8),
+        joining(7, 11),
+        joining(8, 7),
+        joining(8, 9),
+        joining(9, 10),
+        joining(10, 12),
+        joining(11, 12),
+        joining(12, 13),
+        joining(12, 15),
+        joining(13, 14),
+        joining(13, 16),
+        joining(14, 17),
+        joining(15, 17),
+        joining(16, 17),
+    ]
+}
+
+/// An edge between two of 18 blocks.
+fn joining(from: u32, to: u32) -> Edge
+    requires leaves { from < 18 }
+    requires enters { to < 18 }
+    ensures joined { JoinsBlocks 18 result }
+    ensures bounded { IsSoundBound result.bound }
+{
+    edge(from, to)
+}
+
+fn word_weights() -> [Weight; 18]
+    ensures { AreWeights 18 result }
+{
+    [
+        Weight::Known(531),
+        Weight::Known(523),
+        Weight::Known(7),
+        Weight::Known(762),
+        Weight::Known(762),
+        Weight::Known(684),
+        Weight::Unknown,
+        Weight::Known(762),
+        Weight::Known(684),
+        Weight::Known(762),
+        Weight::Known(684),
+        Weight::Known(762),
+        Weight::Known(490),
+        Weight::Known(241),
+        Weight::Known(229),
+        Weight::Known(251),
+        Weight::Known(11),
+        Weight::Known(301),
+    ]
+}
+
+fn word_edge_weights() -> [Weight; 25]
+    ensures { AreWeights 25 result }
+{
+    [
+        Weight::Known(523),
+        Weight::Known(8),
+        Weight::Known(534),
+        Weight::Known(7),
+        Weight::Known(496),
+        Weight::Known(0),
+        Weight::Known(496),
+        Weight::Known(0),
+        Weight::Unknown,
+        Weight::Known(127),
+        Weight::Unknown,
+        Weight::Known(684),
+        Weight::Known(79),
+        Weight::Known(402),
+        Weight::Known(289),
+        Weight::Known(289),
+        Weight::Known(424),
+        Weight::Known(76),
+        Weight::Known(241),
+        Weight::Known(253),
+        Weight::Known(229),
+        Weight::Known(12),
+        Weight::Known(144),
+        Weight::Known(156),
+        Weight::Known(11),
+    ]
+}
+
+/// What `pgo build --base --edges` makes of them: counts with prices that fit, at a cost of 43,012.
+const WORD_BLOCKS: [u64; 18] = [
+    542, 534, 8, 542, 542, 542, 542, 762, 686, 466, 466, 76, 542, 241, 229, 301, 12, 542,
+];
+
+const WORD_EDGES: [u64; 25] = [
+    534, 8, 534, 8, 542, 0, 542, 0, 542, 0, 542, 686, 76, 220, 466, 466, 466, 76, 241, 301, 229,
+    12, 229, 301, 12,
+];
+
+const WORD_INS: [i64; 18] = [
+    0, 42, 39, 51, 33, 15, -5, -4, -10, 2, -16, -16, -34, -22, -16, -22, -22, -10,
+];
+
+const WORD_OUTS: [i64; 18] = [
+    40, 52, 49, 31, 13, -5, -4, -12, 0, -18, -36, -36, -24, -18, -12, -12, -12, 0,
+];
+
+#[test]
+fn the_repair_of_a_compiled_function_is_accepted(rt: HostRuntime) {
+    let alloc = rt.alloc();
+    let Ok(net) = count_word(alloc) else {
+        panic!(rt; "no memory");
+    };
+    let (Ok(flow), Ok(prices)) = (
+        flow(alloc, WORD_BLOCKS, WORD_EDGES),
+        prices(alloc, WORD_INS, WORD_OUTS),
+    ) else {
+        panic!(rt; "no memory");
+    };
+    assert!(rt; accepts(&net, &flow, &prices));
+    assert_eq!(rt; cost(&net, &flow), 43_012);
+}
+
+#[test]
+fn no_other_count_of_a_compiled_function_is_accepted(rt: HostRuntime) {
+    let alloc = rt.alloc();
+    let (Ok(net), Ok(prices)) = (count_word(alloc), prices(alloc, WORD_INS, WORD_OUTS)) else {
+        panic!(rt; "no memory");
+    };
+    for place in 0..18u32 {
+        let mut blocks = WORD_BLOCKS;
+        let count = &mut blocks[place as usize];
+        *count = count.wrapping_add(1);
+        let Ok(flow) = flow(alloc, blocks, WORD_EDGES) else {
+            panic!(rt; "no memory");
+        };
+        let bad = first_bad(&net, &flow, &prices);
+        assert_eq!(rt; bad, Some(Spot::Block(place)));
     }
 }

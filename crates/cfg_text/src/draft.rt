@@ -171,14 +171,22 @@ impl<'a> Draft<'a> {
         self.blocks.is_empty()
     }
 
-    /// The function as it stands.
+    /// The function as it stands, in no more memory than it needs: a large program has many.
     pub(crate) fn close(self) -> Fun<'a>
         ensures { function_of result ≡ self.entry }
     {
+        let Draft {
+            name,
+            mut blocks,
+            mut edges,
+            ..
+        } = self;
+        blocks.shrink_to_fit();
+        edges.shrink_to_fit();
         Fun {
-            name: self.name,
-            blocks: Items::new(self.blocks),
-            edges: Items::new(self.edges),
+            name,
+            blocks: Items::new(blocks),
+            edges: Items::new(edges),
         }
     }
 }

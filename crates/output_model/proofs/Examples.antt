@@ -1,15 +1,19 @@
 -- The definitions on worked values.
-use Rattle.std.proofs.Common.{◌≡◌, ℕ, nat_lt, nat_eq, [], ◌∷◌, None, Some, refl}
+use Rattle.std.proofs.Common.{◌≡◌, ℕ, nat_lt, nat_eq, false, List, [], ◌∷◌, None, Some, refl}
 use Rattle.std.specs.Prelude.{codes, map, if◌then◌else◌}
 use Rattle.std.specs.Fmt.{digits}
 use Rattle.std.specs.List.{range_with_len}
 use Rattle.text_model.specs.Numbers.{hex_text}
-use Rattle.profile_model.specs.Profile.{body_line, call_line, function_line, lines_of}
+use Rattle.block_model.specs.declared.parts.Block.{Block}
+use Rattle.block_model.specs.Function.{Function, unbounded}
+use Rattle.profile_model.specs.Profile.{Profile, body_line, call_line, function_line, lines_of}
 use Rattle.profile_model.specs.Text.{profile_text, text_of_lines}
 use Rattle.profile_model.specs.Ways.{to_body, to_call, to_function}
 use Rattle.report_model.specs.Report.{Sampled, report_text}
 use Rattle.binary_model.specs.Places.{Place, outside, no_line, at_way}
-use Rattle.output_model.specs.Program.{Program}
+use Rattle.repair_model.specs.Repair.{Repair, Solution, cut, flow}
+use Rattle.output_model.specs.Lift.{held_by, lifted}
+use Rattle.output_model.specs.Program.{Program, way_at}
 use Rattle.output_model.specs.Sampled.{classes_of, hits_of, profile_among}
 use Rattle.output_model.specs.Summary.{costs_in, cuts_in, summary_text, totals_in}
 
@@ -56,3 +60,34 @@ line_of_summary : (summary_text (record { functions = 1; branches = 5; total = 7
     × (costs_in (Some 40 ∷ None ∷ Some 2 ∷ []) ≡ 42) × (cuts_in (Some 40 ∷ None ∷ Some 2 ∷ []) ≡ 1)
 unfolding summary_text digits
 line_of_summary = (refl, refl, refl, refl)
+
+block : ℕ → ℕ → Block
+block lo hi = record { lo = lo; hi = hi; exit = false; bound = unbounded }
+
+repaired_by : Solution → Repair
+repaired_by solution = record { weights = []; edge_weights = []; solution = solution; first = 0; second = 0 }
+
+-- counts 5 and 9 of two blocks, 7 of one that lies over both, and a cut, whose block counts for nothing
+repaired : List (Function × Repair)
+repaired = (
+  record { name = codes "f"; blocks = block 16 24 ∷ block 24 32 ∷ []; edges = [] },
+  repaired_by (flow (record { blocks = 5 ∷ 9 ∷ []; edges = [] }) [] []),
+)
+    ∷ (
+      record { name = codes "h"; blocks = block 20 28 ∷ []; edges = [] },
+      repaired_by (flow (record { blocks = 7 ∷ []; edges = [] }) [] []),
+    )
+    ∷ (record { name = codes "k"; blocks = block 16 32 ∷ []; edges = [] }, repaired_by (cut false [] [])) ∷ []
+
+plain : Profile
+plain = record {
+  counts = (to_function (codes "f") ∷ to_body 3 0 ∷ [], 2) ∷ (to_function (codes "f") ∷ to_body 8 0 ∷ [], 4) ∷ [];
+  calls = (to_function (codes "f") ∷ to_body 3 0 ∷ [], codes "f", 2) ∷ [];
+  heads = (codes "f", 3) ∷ [];
+}
+
+-- what is held has the largest count, another line, the call and the entries keep theirs, and totals are summed anew
+lift : profile_text (lifted (held_by (way_at program) repaired) plain)
+    ≡ codes "f:25:3\n 0: 5\n 3: 9 f:2\n 8: 4\n 2.1: g:7\n  1: 7\n"
+unfolding lines_of text_of_lines digits held_by program f_place repaired block repaired_by plain
+lift = refl

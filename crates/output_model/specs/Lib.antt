@@ -1,5 +1,6 @@
 pub mod Built
 pub mod Laws
+pub mod Lift
 pub mod Output
 pub mod Program
 pub mod Sampled

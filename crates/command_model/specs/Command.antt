@@ -1,5 +1,5 @@
 -- The words of a command.
-use Rattle.std.specs.Prelude.{ℕ, true, false, nat_le, List, [], ◌∷◌, drop, length, codes, Option, None, Some, option_and_then, if◌then◌else◌}
+use Rattle.std.specs.Prelude.{ℕ, true, false, ◌&&◌, nat_le, List, [], ◌∷◌, drop, length, codes, Option, None, Some, option_and_then, if◌then◌else◌}
 use Rattle.std.specs.Option.{option_map}
 use Rattle.std.specs.Str.{bytes_eq}
 use Rattle.text_model.specs.Numbers.{decimal_of, has_prefix, hex_of}
@@ -27,6 +27,10 @@ pub data Command : Type 0 where
   make : CaseFile → ℕ → Command
   -- The summary of what is built of the three files of such a case.
   make_sum : ℕ → Command
+  -- The sum of profiles, each with a weight and its file.
+  merge : List (ℕ × List ℕ) → Command
+  -- How hot the lines of a profile are.
+  summary : List ℕ → Command
 
 -- The digits of an address, which stand behind `0x` or alone.
 abbrev pub digits_of : List ℕ → List ℕ
@@ -88,6 +92,40 @@ abbrev pub make_of : List (List ℕ) → List (List ℕ) → Option Command
 make_of [] (number ∷ what ∷ []) = option_and_then (made_of what) (functions_of number)
 make_of _ _ = None
 
+-- A weight is at most 65,535.
+abbrev pub max_weight : ℕ
+max_weight = 65535
+
+-- A weight: decimal digits of a number that is not 0.
+unfoldable pub weight_of : List ℕ → Option ℕ
+weight_of word =
+    option_and_then (λ n. if nat_le 1 n && nat_le n max_weight then Some n else None) (decimal_of word)
+
+-- `W FILE [W FILE]..`: files, each behind its weight.
+abbrev pub parts_of : List (List ℕ) → Option (List (ℕ × List ℕ))
+parts_of [] = Some []
+parts_of (weight ∷ []) = None
+parts_of (weight ∷ file ∷ words) =
+    option_and_then (λ w. option_map (λ parts. (w, file) ∷ parts) (parts_of words)) (weight_of weight)
+
+-- At most eight files are merged.
+abbrev pub max_parts : ℕ
+max_parts = 8
+
+-- The merge of some files, if there is one and there are not too many.
+abbrev pub merged_of : List (ℕ × List ℕ) → Option Command
+merged_of parts = if nat_le 1 (length parts) && nat_le (length parts) max_parts then Some (merge parts) else None
+
+-- `merge W FILE [W FILE]..`
+abbrev pub merge_of : List (List ℕ) → List (List ℕ) → Option Command
+merge_of [] words = option_and_then merged_of (parts_of words)
+merge_of _ _ = None
+
+-- `summary FILE`
+abbrev pub summary_of : List (List ℕ) → List (List ℕ) → Option Command
+summary_of [] (file ∷ []) = Some (summary file)
+summary_of _ _ = None
+
 -- The command of a name, by the words of its options and those behind them.
 abbrev pub command_by : List ℕ → List (List ℕ) → List (List ℕ) → Option Command
 command_by name options operands =
@@ -96,7 +134,9 @@ command_by name options operands =
     else (if bytes_eq name (codes "profile") then profile_of options operands
     else (if bytes_eq name (codes "build") then build_of options operands
     else (if bytes_eq name (codes "check") then check_of options operands
-    else (if bytes_eq name (codes "make") then make_of options operands else None)))))
+    else (if bytes_eq name (codes "make") then make_of options operands
+    else (if bytes_eq name (codes "merge") then merge_of options operands
+    else (if bytes_eq name (codes "summary") then summary_of options operands else None)))))))
 
 -- The command that the words spell, if they spell one.
 unfoldable pub command_of : List (List ℕ) → Option Command

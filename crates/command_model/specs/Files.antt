@@ -1,10 +1,16 @@
 -- The files of a command, each with what makes it bad, and what the command makes of good ones.
-use Rattle.std.specs.Prelude.{◌≡◌, ℕ, ◌^◌, List, [], ◌∷◌, length, Option, None, slice_get, unwrap_or}
+use Rattle.std.specs.Prelude.{◌≡◌, ℕ, ◌+◌, ◌^◌, List, [], ◌∷◌, length, map, Option, None, slice_get, unwrap_or}
+use Rattle.std.specs.List.{zip}
 use Rattle.refusal.specs.declared.place.Place.{Place}
 use Rattle.refusal.specs.Place.{first_bad, size_item}
 use Rattle.block_model.specs.Function.{Function}
 use Rattle.block_model.specs.Judging as block_model
 use Rattle.block_model.specs.Text.{functions_of}
+use Rattle.profile_model.specs.Judging.{first_bad_of_profile}
+use Rattle.profile_model.specs.Merge.{first_bad_of_summed, merged, merge_text}
+use Rattle.profile_model.specs.Profile.{Profile}
+use Rattle.profile_model.specs.Spelled.{spelled}
+use Rattle.profile_model.specs.Summary.{summary_text}
 use Rattle.repair_model.specs.Checking as repair_model
 use Rattle.repair_model.specs.Judging.{first_bad_of_repairs}
 use Rattle.repair_model.specs.Text.{repairs_of}
@@ -16,7 +22,7 @@ use Rattle.output_model.specs.Built.{IsBuiltOf}
 use Rattle.output_model.specs.Output.{profile_output}
 use Rattle.output_model.specs.Summary.{IsSummaryOf}
 use Rattle.command_model.specs.Check.{checked_text}
-use Rattle.command_model.specs.Command.{Command, bin_file, perf_file, cfg_file, counts, where_, profile, build, check, make, make_sum}
+use Rattle.command_model.specs.Command.{Command, bin_file, perf_file, cfg_file, counts, where_, profile, build, check, make, make_sum, merge, summary}
 use Rattle.command_model.specs.Counts.{counts_text}
 use Rattle.command_model.specs.Make.{case_file}
 use Rattle.command_model.specs.Where.{where_text}
@@ -38,6 +44,20 @@ max_repair_bytes = 2 ^ 28
 unfoldable pub first_bad_of_repair_text : ℕ → List Function → List ℕ → Option Place
 first_bad_of_repair_text file funs text =
     first_bad (size_item file max_repair_bytes text ∷ first_bad_of_repairs file funs text ∷ [])
+
+-- A profile text has at most 2^28 bytes.
+abbrev pub max_profile_bytes : ℕ
+max_profile_bytes = 2 ^ 28
+
+-- The first bad place of a profile text, its size first.
+unfoldable pub first_bad_of_profile_text : ℕ → List ℕ → Option Place
+first_bad_of_profile_text file text =
+    first_bad (size_item file max_profile_bytes text ∷ first_bad_of_profile file text ∷ [])
+
+-- The first bad place of a profile text that is summed with a weight, its size first.
+unfoldable pub first_bad_of_part : ℕ → ℕ → Profile → List ℕ → Option Place
+first_bad_of_part file weight before text =
+    first_bad (size_item file max_profile_bytes text ∷ first_bad_of_summed file weight before text ∷ [])
 
 -- Where the bytes of a file come from.
 pub data Source : Type 0 where
@@ -67,6 +87,17 @@ file_at n contents = unwrap_or (slice_get contents n) []
 abbrev pub functions_in : List (List ℕ) → List Function
 functions_in contents = functions_of (file_at 0 contents)
 
+-- The texts of files that are merged, each with its weight; further files have none yet.
+abbrev pub weighed_texts : List (ℕ × List ℕ) → List (List ℕ) → List (ℕ × List ℕ)
+weighed_texts parts contents = zip (map (λ part. part.0) parts) contents
+
+-- One of the files that are merged: it is summed behind those before it.
+abbrev pub asked_part : List (ℕ × List ℕ) → ℕ × List ℕ → Asked
+asked_part parts part = record {
+  source = named part.1;
+  judge = λ before. first_bad_of_part (length before + 1) part.0 (merged (weighed_texts parts before));
+}
+
 -- The files of a command, in order.
 abbrev pub files_of : Command → List Asked
 files_of (counts perf) = alone perf (first_bad_of_text 1) ∷ []
@@ -82,6 +113,8 @@ files_of (make_sum n) =
     generated (case_file bin_file n) first_bad_of_binary
     ∷ generated (case_file perf_file n) (first_bad_of_text 2)
     ∷ generated (case_file cfg_file n) (first_bad_of_blocks 3) ∷ []
+files_of (merge parts) = map (asked_part parts) parts
+files_of (summary file) = alone file (first_bad_of_profile_text 1) ∷ []
 
 -- The line that is the first to fail a check, all files being good, with these bytes.
 abbrev pub failed_line : Command → List (List ℕ) → Option ℕ
@@ -101,3 +134,5 @@ IsOutput (build options bin perf cfg) contents text =
 IsOutput (check cfg out) contents text = text ≡ checked_text (length (functions_in contents))
 IsOutput (make file n) contents text = text ≡ case_file file n
 IsOutput (make_sum n) contents text = IsSummaryOf (file_at 0 contents) (file_at 1 contents) (file_at 2 contents) text
+IsOutput (merge parts) contents text = text ≡ merge_text (weighed_texts parts contents)
+IsOutput (summary file) contents text = text ≡ summary_text (spelled (file_at 0 contents))

@@ -1,13 +1,15 @@
 -- The words and the command that they spell, as the definitions see them.
-use Rattle.std.specs.Prelude.{ℕ, List, map}
+use Rattle.std.specs.Prelude.{ℕ, nat_le, List, length, map, Option, None, Some, if◌then◌else◌}
 use Rattle.std.specs.Option.{option_map}
 use Rattle.std.specs.Global.{Vec}
+use Rattle.std.specs.Int.NonZero.{non_zero_u16_get}
 use Rattle.case_maker.specs.declared.case.CasePart.{CasePart}
 use Rattle.case_maker.specs.declared.case.CasePart.TheVariants.{Bin, Perf, Cfg}
 use Rattle.command_model.specs.Command as model
 use Rattle.command_model.specs.Options as options
 use Rattle.command_words.specs.declared.command.Command.{Command}
-use Rattle.command_words.specs.declared.command.Command.TheVariants.{Counts, Where, Profile, Build, Check, Make, MakeSum}
+use Rattle.command_words.specs.declared.command.Command.TheVariants.{Counts, Where, Profile, Build, Check, Make, MakeSum, Merge, Summary}
+use Rattle.command_words.specs.declared.command.Part.{Part}
 use Rattle.command_words.specs.declared.options.Has.{Has}
 use Rattle.command_words.specs.declared.options.Options.{Options}
 
@@ -28,6 +30,14 @@ told_part Bin = model.bin_file
 told_part Perf = model.perf_file
 told_part Cfg = model.cfg_file
 
+-- The weight of a file and its name.
+abbrev pub told_weighed : Part → ℕ × List ℕ
+told_weighed part = (non_zero_u16_get part.weight, part.file.now)
+
+-- As many files as a merge may have.
+abbrev pub few : List (ℕ × List ℕ) → Option (List (ℕ × List ℕ))
+few parts = if nat_le (length parts) model.max_parts then Some parts else None
+
 -- What is asked for, apart from where the words lie.
 abbrev pub meaning_of : Command → model.Command
 meaning_of (Counts perf) = model.counts perf.now
@@ -37,3 +47,5 @@ meaning_of (Build said binary perf blocks) = model.build (told_options said) bin
 meaning_of (Check blocks repairs) = model.check blocks.now repairs.now
 meaning_of (Make part functions) = model.make (told_part part) functions
 meaning_of (MakeSum functions) = model.make_sum functions
+meaning_of (Merge parts) = model.merge (map told_weighed parts.items)
+meaning_of (Summary file) = model.summary file.now

@@ -1,11 +1,14 @@
-ghost use Rattle.std.specs.Prelude.{◌≡◌, ◌≤◌, length};
+ghost use Rattle.std.specs.Prelude.{◌≡◌, ◌≤◌, length, map, option_and_then};
+ghost use Rattle.std.specs.Int.NonZero.{non_zero_u16_get};
 ghost use Rattle.std.specs.Option.{option_map};
-ghost use Rattle.command_model.specs.Command.{address_of as address_told, build_of, check_of, command_of, counts_of, digits_of as digits_told, functions_of as functions_told, made_of as made_told, make_of, profile_of, where_of};
+ghost use Rattle.command_model.specs.Command.{address_of as address_told, build_of, check_of, command_of, counts_of, digits_of as digits_told, functions_of as functions_told, made_of as made_told, make_of, merge_of, parts_of as parts_told, profile_of, summary_of, weight_of as weight_told, where_of};
 ghost use Rattle.command_model.specs.Options.{is_option as option_told, option_count as count_told};
-ghost use Rattle.command_words.specs.Words.{texts_of, meaning_of};
+ghost use Rattle.command_words.specs.Words.{few, meaning_of, texts_of, told_weighed};
 
 use crate::options::{Has, Options, options_of};
+use arrayvec::ArrayVec;
 use case_maker::CasePart;
+use std::num::NonZeroU16;
 use text_scan::{decimal, hex};
 
 /// The most digits of an address.
@@ -13,6 +16,12 @@ const MOST_DIGITS: usize = 16;
 
 /// The most functions of a generated case.
 const MOST_FUNCTIONS: u64 = 4096;
+
+/// The greatest weight.
+const MAX_WEIGHT: u64 = 65_535;
+
+/// The most files of a merge.
+const MOST_PARTS: usize = 8;
 
 const WHERE_HAS: Has = Has {
     map: false,
@@ -32,8 +41,25 @@ const BUILD_HAS: Has = Has {
     edges: true,
 };
 
-/// What a user asks for.
+/// A file of a merge, with its weight: how often it counts.
 #[derive(Clone, Copy, Debug)]
+pub struct Part<'a> {
+    pub weight: NonZeroU16,
+    pub file: &'a [u8],
+}
+
+// What stands in the places of a list that have no file yet.
+impl Default for Part<'_> {
+    fn default() -> Self {
+        Part {
+            weight: NonZeroU16::MIN,
+            file: &[],
+        }
+    }
+}
+
+/// What a user asks for.
+#[derive(Debug, Drop)]
 pub enum Command<'a> {
     /// The branches of this branch text, counted.
     Counts(&'a [u8]),
@@ -72,6 +98,10 @@ pub enum Command<'a> {
     MakeSum {
         functions: u64,
     },
+    /// The sum of the profiles in these files.
+    Merge(ArrayVec<Part<'a>, MOST_PARTS>),
+    /// How hot the lines of the profile in this file are.
+    Summary(&'a [u8]),
 }
 
 /// The command that the words spell.
@@ -95,6 +125,10 @@ pub fn parse(words: &[Vec<u8>]) -> Option<Command<'_>>
         parse_check(options, operands)
     } else if name.as_slice() == b"make".as_slice() {
         parse_make(options, operands)
+    } else if name.as_slice() == b"merge".as_slice() {
+        parse_merge(options, operands)
+    } else if name.as_slice() == b"summary".as_slice() {
+        parse_summary(options, operands)
     } else {
         None
     }
@@ -235,6 +269,62 @@ fn functions_of(word: &[u8]) -> Option<u64>
         Ok(functions) if functions <= MOST_FUNCTIONS => Some(functions),
         Ok(_) => None,
         Err(_) => None,
+    }
+}
+
+/// `merge W FILE [W FILE]..`
+fn parse_merge<'a>(options: &[Vec<u8>], operands: &'a [Vec<u8>]) -> Option<Command<'a>>
+    ensures { option_map meaning_of result
+        ≡ merge_of (texts_of options.now) (texts_of operands.now) }
+{
+    if !options.is_empty() {
+        return None;
+    }
+    let parts = parts_of(operands)?;
+    if parts.is_empty() {
+        return None;
+    }
+    Some(Command::Merge(parts))
+}
+
+/// Files, each behind its weight, if there are not too many.
+fn parts_of(words: &[Vec<u8>]) -> Option<ArrayVec<Part<'_>, MOST_PARTS>>
+    ensures { option_map (λ parts. map told_weighed parts.items) result
+        ≡ option_and_then few (parts_told (texts_of words.now)) }
+{
+    let mut parts = ArrayVec::new();
+    let mut left = words;
+    while let Some((weight, behind)) = left.split_first() {
+        let (file, rest) = behind.split_first()?;
+        let weight = weight_of(weight)?;
+        if parts.is_full() {
+            return None;
+        }
+        parts.push(Part { weight, file });
+        left = rest;
+    }
+    Some(parts)
+}
+
+/// The weight that decimal digits spell.
+fn weight_of(word: &[u8]) -> Option<NonZeroU16>
+    ensures { option_map non_zero_u16_get result ≡ weight_told word.now }
+{
+    match decimal(word) {
+        Ok(weight) if weight <= MAX_WEIGHT => NonZeroU16::new(weight as u16),
+        Ok(_) => None,
+        Err(_) => None,
+    }
+}
+
+/// `summary FILE`
+fn parse_summary<'a>(options: &[Vec<u8>], operands: &'a [Vec<u8>]) -> Option<Command<'a>>
+    ensures { option_map meaning_of result
+        ≡ summary_of (texts_of options.now) (texts_of operands.now) }
+{
+    match (options, operands) {
+        ([], [file]) => Some(Command::Summary(file)),
+        _ => None,
     }
 }
 

@@ -6,5 +6,5 @@
 mod command;
 mod options;
 
-pub use command::{Command, parse};
+pub use command::{Command, Part, parse};
 pub use options::Options;

@@ -23,6 +23,10 @@ usage:
   pgo make N bin|perf|cfg|sum
                               a file of a made-up program of N functions, for
                               tests; or what `pgo build` finds in all three
+  pgo merge W FILE [W FILE]..
+                              the sum of one to eight profiles, each so many
+                              times as its weight W says
+  pgo summary FILE            how hot the lines of a profile are
   pgo --help, pgo -h          this text
   pgo --help COMMAND          what a command reads and writes, and an example
   pgo --help KIND             what helps where a file is refused for this kind
@@ -31,7 +35,8 @@ usage:
 PERF is what `perf script -F ip,brstack` prints, in a file. BIN is a 64-bit ELF
 file with DWARF 4 or 5, HEX an address in hexadecimal digits. CFG is a block
 text, as `contrib/blocks BIN` prints it, OUT what `pgo build` printed. N is at
-most 4096.
+most 4096. FILE is a profile text, as `pgo profile` and `pgo build` print it, W
+1 to 65535.
 
 --base      discriminators are taken apart as clang packs them: give it for
             binaries of clang and rustc, and not for those of gcc
@@ -51,7 +56,7 @@ if you see:
   NotElf                 the program comes first, then the text
   usage                  options come in front, each once; NAME stands behind
                          `--map=` without a space; HEX is never decimal, and N
-                         always is
+                         and W always are
 
 Messages count file words and lines from 1, and places in a binary from 0.
 

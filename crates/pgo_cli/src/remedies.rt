@@ -144,7 +144,8 @@ What helps: build or copy the file again, with all its debug sections.
     Topic {
         word: b"TooDeep",
         text: b"\
-TooDeep: more than 1,024 entries of debugging information in one another.
+TooDeep: more than 1,024 entries of debugging information in one another; in a
+profile text more than 256 spaces in front of a line.
 What helps: build with less debugging information (`-gline-tables-only`).
 ",
     },
@@ -275,8 +276,8 @@ What helps: build with less debugging information (`-gline-tables-only`).
     Topic {
         word: b"FileTooLarge",
         text: b"\
-FileTooLarge: a binary above 2^30 bytes, a branch text above 2^40, a block text
-or a repair text above 2^28; the place is the limit.
+FileTooLarge: a binary above 2^30 bytes, a branch text above 2^40, a block text,
+a repair text or a profile text above 2^28; the place is the limit.
 What helps: of a binary take away what is not read (docs/USING.md, \"Time and
 memory\"); split a branch text, and merge the profiles; `contrib/blocks` with
 names, or `--fit`.

@@ -7,7 +7,7 @@ pub(crate) struct Topic {
 }
 
 /// The commands.
-pub(crate) const TOPICS: [Topic; 6] = [
+pub(crate) const TOPICS: [Topic; 8] = [
     Topic {
         word: b"counts",
         text: b"\
@@ -119,6 +119,42 @@ functions' totals, what all repairs cost, and how many of them are cuts.
 examples:
   pgo make 64 bin >case
   pgo make 64 sum
+",
+    },
+    Topic {
+        word: b"merge",
+        text: b"\
+pgo merge W FILE [W FILE]..
+
+Reads one to eight profile texts, as `pgo profile` and `pgo build` print them or
+`llvm-profdata merge --sample --text` does, each behind its weight W, a decimal
+number from 1 to 65535. Writes one profile: each head, count and target is the
+sum over the files of weight times number, and totals are sums of counts. Lines
+that begin with # are passed over, and totals that are read are not judged. The
+order of the files makes no difference, so a merge of merges is the merge of all
+their files.
+
+Nothing is cut off: a number that would pass 2^64 - 1 together with those of the
+files before is refused at its line (CountTooLarge). Totals stand still there.
+
+example:
+  pgo profile --base demo/words demo/words.txt >words.prof
+  pgo merge 1 words.prof 2 words.prof
+",
+    },
+    Topic {
+        word: b"summary",
+        text: b"\
+pgo summary FILE
+
+Reads a profile text. Writes how many functions a profile of its numbers has,
+how many lines have a count above 0, their sum and the greatest; and then for
+each cutoff of LLVM, in millionths, the least count of the hottest lines that
+make up so much of the sum, and how many lines have at least this count.
+
+example:
+  pgo profile --base demo/words demo/words.txt >words.prof
+  pgo summary words.prof
 ",
     },
 ];

@@ -3,7 +3,6 @@ use Rattle.std.proofs.Common.{◌≡◌, ◌≤◌, ℕ, Bool, true, false, nat_
 use Rattle.std.specs.Prelude.{IfSome, if◌then◌else◌}
 use Rattle.std.specs.List.{All}
 use Rattle.std.specs.Option.{option_map}
-use Rattle.std.proofs.lemmas.Bool.Decides.{nat_tests}
 use Rattle.std.proofs.lemmas.List.Elements.{All-cons, All-head, All-nil, All-tail}
 use Rattle.refusal.specs.declared.kind.Kind.TheVariants.{FileTooLarge}
 use Rattle.refusal.specs.declared.place.Place.{Place}
@@ -31,13 +30,7 @@ use Rattle.pgo_run.specs.Halt.{IfAnswers}
 use Rattle.pgo_run.specs.Output.{EndsAt}
 use Rattle.pgo_run.specs.declared.halt.Halt.{Halt}
 use Rattle.pgo_run.proofs.ProfileLemmas.{same-loading}
-
-pub not_above : (n most : ℕ) → n ≤ most → nat_lt most n ≡ false
-not_above n most within = grind (arith, nat_tests)
-
-pub alone : (item : Option Place) → first_bad (item ∷ []) ≡ item
-alone None = refl
-alone (Some place) = refl
+use Rattle.pgo_run.proofs.UnreadLemmas.{alone, not_above}
 
 -- A block text within its size is judged by its lines.
 pub judged_by_lines : (file : ℕ) (text : List ℕ) → length text ≤ max_block_bytes → first_bad_of_blocks file text ≡ first_bad_of_text file text

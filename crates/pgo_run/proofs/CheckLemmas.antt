@@ -20,7 +20,7 @@ use Rattle.repair_model.specs.Text.{repairs_of}
 use Rattle.repair_model.proofs.WholeLemmas.{good_repairs_are_whole}
 use Rattle.command_model.specs.Check.{checked_text}
 use Rattle.command_model.specs.Files.{Asked, first_bad_of_repair_text, functions_in, max_repair_bytes, named}
-use Rattle.pgo_run.proofs.BuildLemmas.{alone, not_above}
+use Rattle.pgo_run.proofs.UnreadLemmas.{alone, not_above}
 
 abbrev pub asked_repairs : List ℕ → Asked
 asked_repairs name = record { source = named name; judge = λ before. first_bad_of_repair_text 2 (functions_in before) }

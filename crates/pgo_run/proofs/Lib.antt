@@ -3,6 +3,7 @@ pub mod BuildLemmas
 pub mod CheckLemmas
 pub mod Examples
 pub mod MakeLemmas
+pub mod MergeLemmas
 pub mod ProfileLemmas
 pub mod ReachedLemmas
 pub mod UnreadLemmas

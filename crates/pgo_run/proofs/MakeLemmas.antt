@@ -33,7 +33,8 @@ use Rattle.pgo_run.specs.Opens.{opens_behind, opens_of}
 use Rattle.pgo_run.specs.Output.{Carries}
 use Rattle.pgo_run.specs.declared.halt.Halt.{Halt}
 use Rattle.pgo_run.specs.declared.halt.Halt.TheVariants.{CheckFailed, NoSuchFile, Refused, ReadFault, NoMemory}
-use Rattle.pgo_run.proofs.BuildLemmas.{alone, read_soundly}
+use Rattle.pgo_run.proofs.BuildLemmas.{read_soundly}
+use Rattle.pgo_run.proofs.UnreadLemmas.{alone}
 use Rattle.pgo_run.proofs.ReachedLemmas.{carried}
 
 -- What holds of each store.

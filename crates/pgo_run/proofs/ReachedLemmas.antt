@@ -297,7 +297,7 @@ judged-good k bad (Ok y) P x judges is = let same : y ≡ x = cc in (judges.0, s
 judged-good k bad (Err stop) P x judges is = absurd cc
 
 -- or told a bad place, or lacked memory
-judged-ends : {T : Type 0} (k : ℕ) (bad : Option Place) (r : Result T Stop) (P : T → Type 0) (h : Halt)
+pub judged-ends : {T : Type 0} (k : ℕ) (bad : Option Place) (r : Result T Stop) (P : T → Type 0) (h : Halt)
     → JudgesUnlessNoMemory bad r P → judged_in k r ≡ Err h → IfAnswers h (EndsJudged k bad)
 judged-ends k bad (Ok y) P h judges is = absurd cc
 judged-ends k bad (Err (stop.Refused place)) P h judges is =
@@ -313,7 +313,7 @@ judged-cause {T} k (Err (stop.Refused place)) h faults faults_after is same =
 judged-cause {T} k (Err stop.NoMemory) h faults faults_after is same =
     let eq : Halt.NoMemory ≡ h = cc in subst (λ x. HasFileCause {A = T} k faults faults_after (Err x)) eq (same, tt)
 
-there-ends : (store : Option Store) (name : List ℕ) (bytes : List ℕ) (k : ℕ) (judge : List ℕ → Option Place) (h : Halt)
+pub there-ends : (store : Option Store) (name : List ℕ) (bytes : List ℕ) (k : ℕ) (judge : List ℕ → Option Place) (h : Halt)
     → IfSome store (λ files. files name ≡ Some bytes) → IfAnswers h (EndsJudged k (judge bytes)) → IfSome store (λ files. IfAnswers h (EndsAt k (files name) judge))
 there-ends None name bytes k judge h there ends = tt
 there-ends (Some files) name bytes k judge h there ends = judged-at k (files name) bytes judge h there ends

@@ -1,18 +1,30 @@
 -- A file that was not read, or is too large, ends the command as its judge says.
-use Rattle.std.proofs.Common.{◌≡◌, ℕ, List, [], ◌∷◌, Option, None, Some, refl, sym, ap, ◌∙◌}
+use Rattle.std.proofs.Common.{◌≡◌, ◌≤◌, ℕ, false, nat_lt, List, [], ◌∷◌, Option, None, Some, refl, sym, ap, ◌∙◌, arith}
 use Rattle.std.specs.Prelude.{IfSome}
+use Rattle.std.proofs.lemmas.Bool.Decides.{nat_tests}
 use Rattle.refusal.specs.declared.place.Place.{Place}
 use Rattle.refusal.specs.Place.{first_bad, size_item}
 use Rattle.io_edge.specs.Inputs.{Store}
 use Rattle.binary_model.specs.Binary.{first_bad_of_binary, items_behind_size, max_binary_bytes}
 use Rattle.block_model.specs.Function.{Function}
 use Rattle.block_model.specs.Judging.{first_bad_of_text}
+use Rattle.profile_model.specs.Judging.{first_bad_of_profile}
+use Rattle.profile_model.specs.Merge.{first_bad_of_summed}
+use Rattle.profile_model.specs.Profile.{Profile}
 use Rattle.repair_model.specs.Judging.{first_bad_of_repairs}
-use Rattle.command_model.specs.Files.{first_bad_of_blocks, first_bad_of_repair_text, max_block_bytes, max_repair_bytes}
+use Rattle.command_model.specs.Files.{first_bad_of_blocks, first_bad_of_part, first_bad_of_profile_text, first_bad_of_repair_text, max_block_bytes, max_profile_bytes, max_repair_bytes}
 use Rattle.command_model.specs.Answer.{Answer, fails_check, unless_bad, usage}
 use Rattle.pgo_run.specs.Halt.{IfAnswers, answer_in}
 use Rattle.pgo_run.specs.Output.{EndsAt}
 use Rattle.pgo_run.specs.declared.halt.Halt.{Halt}
+
+-- What is not too large, and an item by itself.
+pub not_above : (n most : ℕ) → n ≤ most → nat_lt most n ≡ false
+not_above n most within = grind (arith, nat_tests)
+
+pub alone : (item : Option Place) → first_bad (item ∷ []) ≡ item
+alone None = refl
+alone (Some place) = refl
 
 -- An answer that does not hang on what comes behind the file, by a judge whose bad places are those of another.
 ends-wider : (k : ℕ) (file : Option (List ℕ)) (judge wider : List ℕ → Option Place) (a : Answer)
@@ -58,3 +70,21 @@ pub unread-repairs : (file : ℕ) (funs : List Function) (store : Option Store) 
     → IfSome store (λ files. IfAnswers h (EndsAt file (files name) (size_item file max_repair_bytes))) → IfSome store (λ files. IfAnswers h (EndsAt file (files name) (first_bad_of_repair_text file funs)))
 unread-repairs file funs None name h ends = tt
 unread-repairs file funs (Some files) name h ends = answers-wider (answer_in h) file (files name) (size_item file max_repair_bytes) (first_bad_of_repair_text file funs) (too-large-repairs file funs) ends
+
+too-large-profile : (file : ℕ) (bytes : List ℕ) (place : Place) → size_item file max_profile_bytes bytes ≡ Some place → first_bad_of_profile_text file bytes ≡ Some place
+unfolding first_bad_of_profile_text
+too-large-profile file bytes place is = ap (λ item. first_bad (item ∷ first_bad_of_profile file bytes ∷ [])) is
+
+pub unread-profile : (file : ℕ) (store : Option Store) (name : List ℕ) (h : Halt)
+    → IfSome store (λ files. IfAnswers h (EndsAt file (files name) (size_item file max_profile_bytes))) → IfSome store (λ files. IfAnswers h (EndsAt file (files name) (first_bad_of_profile_text file)))
+unread-profile file None name h ends = tt
+unread-profile file (Some files) name h ends = answers-wider (answer_in h) file (files name) (size_item file max_profile_bytes) (first_bad_of_profile_text file) (too-large-profile file) ends
+
+too-large-part : (file weight : ℕ) (before : Profile) (bytes : List ℕ) (place : Place) → size_item file max_profile_bytes bytes ≡ Some place → first_bad_of_part file weight before bytes ≡ Some place
+unfolding first_bad_of_part
+too-large-part file weight before bytes place is = ap (λ item. first_bad (item ∷ first_bad_of_summed file weight before bytes ∷ [])) is
+
+pub unread-part : (file weight : ℕ) (before : Profile) (store : Option Store) (name : List ℕ) (h : Halt)
+    → IfSome store (λ files. IfAnswers h (EndsAt file (files name) (size_item file max_profile_bytes))) → IfSome store (λ files. IfAnswers h (EndsAt file (files name) (first_bad_of_part file weight before)))
+unread-part file weight before None name h ends = tt
+unread-part file weight before (Some files) name h ends = answers-wider (answer_in h) file (files name) (size_item file max_profile_bytes) (first_bad_of_part file weight before) (too-large-part file weight before) ends

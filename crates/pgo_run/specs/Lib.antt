@@ -1,5 +1,6 @@
 pub mod BranchText
 pub mod Halt
+pub mod Merge
 pub mod Opens
 pub mod Output
 pub mod Run

@@ -11,11 +11,13 @@ mod check;
 mod counts;
 mod halt;
 mod make;
+mod merge;
 mod order;
 mod profile;
 mod program;
 mod samples;
 mod status;
+mod summary;
 mod where_;
 
 pub use program::run;

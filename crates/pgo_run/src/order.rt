@@ -17,6 +17,9 @@ pub(crate) const MAX_BLOCKS: u64 = 1 << 28;
 /// The most bytes of a repair text.
 pub(crate) const MAX_REPAIRS: u64 = 1 << 28;
 
+/// The most bytes of a profile text.
+pub(crate) const MAX_PROFILE: u64 = 1 << 28;
+
 /// Opens the file of the k-th file word.
 ///
 /// # Errors

@@ -13,7 +13,7 @@ ghost use Rattle.command_words.specs.Words.{meaning_of, texts_of};
 
 use crate::halt::Halt;
 use crate::status::Status;
-use crate::{build, check, counts, make, profile, where_};
+use crate::{build, check, counts, make, merge, profile, summary, where_};
 use command_words::{Command, parse};
 use io_edge::{Inputs, Sink, write_all};
 use std::alloc::Global;
@@ -122,5 +122,7 @@ fn output<I: Inputs>(alloc: Global, command: Command<'_>, inputs: &mut I) -> Res
         Command::Check { blocks, repairs } => check::output(alloc, blocks, repairs, inputs),
         Command::Make { part, functions } => make::file_output(alloc, part, functions),
         Command::MakeSum { functions } => make::summary_output(alloc, functions),
+        Command::Merge(parts) => merge::output(alloc, &parts, inputs),
+        Command::Summary(file) => summary::output(alloc, file, inputs),
     }
 }

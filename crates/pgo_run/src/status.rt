@@ -57,7 +57,7 @@ pub fn status_line(status: &Status, buf: &mut [u8; 256]) -> usize
         Status::Usage => put(
             buf,
             0,
-            b"usage: pgo counts, where, profile, build, check or make\n",
+            b"usage: pgo counts, where, profile, build, check, make, merge or summary\n",
         ),
         Status::NoSuchFile(file) => put_numbered(buf, b"no such file: ", u64::from(*file)),
         Status::Refused(place) => put_place(buf, place),

@@ -1,0 +1,24 @@
+// `summary`: how hot the lines of a profile are.
+ghost use Rattle.std.specs.Prelude.{◌≡◌};
+ghost use Rattle.command_model.specs.Command.{summary as summary_command};
+ghost use Rattle.pgo_run.specs.Output.{Carries};
+
+use crate::halt::{Halt, in_file};
+use crate::order::{MAX_PROFILE, read_file};
+use io_edge::Inputs;
+use merge_maker::summarize;
+use std::alloc::Global;
+
+/// What `summary` writes for the profile text in this file.
+///
+/// # Errors
+/// Those of reading file 1, and the first bad line of the text.
+pub(crate) fn output<I: Inputs>(alloc: Global, file: &[u8], inputs: &mut I) -> Result<Vec<u8>, Halt>
+    ensures carried { Carries (summary_command file.now) (I.store inputs.old) result
+        (I.opens inputs.old) (I.opens inputs.new) (I.faults inputs.old) (I.faults inputs.new) }
+    ensures store { I.store inputs.new ≡ I.store inputs.old }
+{
+    let text = read_file(alloc, inputs, 1, file, MAX_PROFILE)?;
+    let lines = in_file(1, summarize(alloc, &text, 1))?;
+    Ok(lines)
+}

@@ -615,6 +615,42 @@ def zeros(n):
     return b"# function f flow\n# block %s weight %s count %s in %s out %s\n# end %s\n" % numbers
 
 
+def profile_functions(n):
+    """A profile text of n functions without lines, whose heads are 0."""
+    return b"".join(b"a%d:0:0\n" % k for k in range(n))
+
+
+def profile_names(n):
+    """A profile text of n functions whose names have one beginning of 200 bytes."""
+    return b"".join(b"%s%d:0:1\n" % (b"n" * 200, k) for k in range(n))
+
+
+def profile_lines(n):
+    """A profile text of a function with n lines, at most 2^32 for each of the 65,536 offsets."""
+    return b"f:0:0\n" + b"".join(b" %d.%d: 1\n" % (k % 65536, k // 65536) for k in range(n))
+
+
+def profile_targets(n):
+    """A profile text of a function with one line, which has n targets."""
+    return b"f:0:0\n 1: 1" + b"".join(b" a%d:1" % k for k in range(n)) + b"\n"
+
+
+def profile_calls(n):
+    """A profile text of a function with n inlined calls on one line, each of another function and with a line of its own."""
+    return b"f:0:0\n" + b"".join(b" 1: a%d:1\n  1: 1\n" % k for k in range(n))
+
+
+def profile_depth(n):
+    """A profile text of n functions, each with calls inlined 255 deep and one line below them."""
+    calls = b"".join(b" " * depth + b"1: f:1\n" for depth in range(1, 256)) + b" " * 256 + b"1: 1\n"
+    return b"".join(b"a%d:1:1\n%s" % (k, calls) for k in range(n))
+
+
+def profile_stairs(n):
+    """A profile text of a function with calls inlined 255 deep, and n lines below all of them."""
+    calls = b"".join(b" " * depth + b"1: f:1\n" for depth in range(1, 256))
+    return b"f:1:1\n" + calls + b"".join(b" " * 256 + b"%d.%d: 1\n" % (k % 65536, k // 65536) for k in range(n))
+
 
 CASES = [
     small, abbreviations, shared_table, tails_of_a_table, tails_of_a_list, empty_attributes, section_names, segments,
@@ -629,6 +665,7 @@ CASES = [
     loads_and_foreign_branches, loads_of_others, whole_machine, loads_between, branches_of_16,
     wide_block, branches_of_wide, alike_blocks, falling_blocks, ladder_blocks, grid_blocks, called_ladder,
     ranges_at_random, empty_lines, one_block, zeros,
+    profile_functions, profile_names, profile_lines, profile_targets, profile_calls, profile_depth, profile_stairs,
 ]
 
 if __name__ == "__main__":

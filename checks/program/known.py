@@ -7,16 +7,12 @@ changed byte is refused too. The last line tells how many cases passed and faile
 import itertools
 import os
 import re
-import subprocess
 import sys
-import tempfile
 
 sys.dont_write_bytecode = True
 sys.path.insert(0, os.path.join(os.path.dirname(os.path.abspath(__file__)), "..", "hostile"))
 import make
-
-USAGE = b"usage: pgo counts, where, profile, build, check or make\n"
-DONE, FAILED, BAD_WORDS, MISSING, REFUSED = 0, 1, 2, 3, 4
+from judging import BAD_WORDS, DONE, FAILED, MISSING, REFUSED, USAGE, judge, run, try_all
 
 # The generated binaries of one function and of two: `f0000` with a call of `g` inlined into it, and `f0001` behind it.
 ONE = make.small(1)
@@ -86,31 +82,6 @@ NINE = [b"abbrev", b"info", b"line", b"str", b"line_str", b"str_offsets", b"addr
 FILLED = {b"abbrev": ONE[120:166], b"info": ONE[166:229], b"line": ONE[229:286]}
 ALL_SECTIONS = make.elf([(b".debug_" + name, FILLED.get(name, b"")) for name in reversed(NINE)], 0x40)
 HEADERS = [int.from_bytes(ALL_SECTIONS[40:48], "little") + 64 * (9 - k) for k in range(9)]
-
-passed = failed = 0
-
-
-def run(words, files):
-    """Runs the program on these words, in a folder of these files."""
-    with tempfile.TemporaryDirectory() as folder:
-        for name, data in files.items():
-            with open(f"{folder}/{name}", "wb") as file:
-                file.write(data)
-        return subprocess.run([PROGRAM, *words], cwd=folder, stdin=subprocess.DEVNULL, capture_output=True)
-
-
-def judge(title, wanted, words, told=lambda out: out, **files):
-    """Runs the program on these words and files; wanted is its status, what is told of its output, and what it says on the
-    error output."""
-    global passed, failed
-    ran = run(words, files)
-    if (ran.returncode, told(ran.stdout), ran.stderr) == wanted:
-        passed += 1
-    else:
-        failed += 1
-        status, out, said = wanted
-        print(f"FAILED: {title}: {ran.returncode} {ran.stdout[:500]} {ran.stderr}, wanted {status} {out[:500]} {said}")
-
 
 def place(title, binary, address, line, *options):
     judge(f"{title}, {address}", (DONE, line, b""), ["where", *options, "bin", address], bin=binary)
@@ -786,8 +757,4 @@ def large():
     )
 
 
-PROGRAM = os.path.abspath(sys.argv[1])
-for part in [places, range_lists, other_places, refusals, words, profiles, reports, bases_and_loads, builds, builds_with_options, checks, makes, large]:
-    part()
-print(f"{passed} passed, {failed} failed")
-sys.exit(failed > 0)
+try_all([places, range_lists, other_places, refusals, words, profiles, reports, bases_and_loads, builds, builds_with_options, checks, makes, large])

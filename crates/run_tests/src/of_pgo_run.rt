@@ -3,7 +3,7 @@
 // What is written of many more words and files is in checks/program.
 ghost use Rattle.std.specs.Prelude.{◌<◌};
 
-use case_maker::{CasePart, make};
+use case_maker::{CasePart, CaseStop, make};
 use io_edge::{Fail, Items, MemoryInputs, MemorySink, StoredFile};
 use memchr::memchr;
 use pgo_run::{Status, run};
@@ -29,6 +29,31 @@ const PROFILE: &[u8] = b"f0000:7:1\n 0: 1\n 1: 1\n 2.2: 2\n 3: 2 f0000:1\n 2.1: 
 
 // The words for it.
 const WORDS: &[&[u8]] = &[b"profile", b"bin", b"perf"];
+
+// The first of the two samples, and the generated block text of one function: 85 and 160 bytes.
+const SAMPLE: &[u8] =
+    b"401036 0x401038/0x401036/P/-/-/1 0x40100c/0x401020/P/-/-/1 0x401034/0x401000/P/-/-/1\n";
+
+const BLOCKS: &[u8] = b"func f0000\nblock 0 0x401000 0x401008\nblock 1 0x401008 0x401010\n\
+block 2 0x401010 0x401020\nblock 3 0x401020 0x401040 exit\nedge 0 1\nedge 0 2\nedge 1 3\nedge 2 3\n\
+end\n";
+
+// The words for a repair of that function.
+const BUILD: &[&[u8]] = &[b"build", b"bin", b"perf", b"cfg"];
+
+// Two blocks that go on at one another, and what shows that no counts repair five samples of the
+// first: 84 and 92 bytes.
+const LOOP: &[u8] = b"func loop\nblock 0 0x401000 0x401008\nblock 1 0x401008 0x401010\n\
+edge 0 1\nedge 1 0\nend\n";
+
+const CUT: &[u8] = b"# function loop cut 0\n# block 0 weight 5 in 1 out 1\n\
+# block 1 weight 0 in 1 out 1\n# end 1 0\n";
+
+// The words that test it.
+const CHECK: &[&[u8]] = &[b"check", b"loop", b"cut"];
+
+// The words for a summary.
+const SUM: &[&[u8]] = &[b"make", b"1", b"sum"];
 
 // What `make 1 sum` writes.
 const SUMMARY: &[u8] = b"functions 1 branches 5 total 7 cost 40 cuts 0\n";
@@ -77,12 +102,19 @@ fn inputs_of(
 ) -> Result<MemoryInputs, AllocError>
     requires { 0 < how.now.read }
 {
-    let files = vec![in alloc; file(alloc, b"bin", bin)?, file(alloc, b"perf", perf)?]?;
+    let files = vec![in alloc;
+        file(alloc, b"bin", bin)?,
+        file(alloc, b"perf", perf)?,
+        file(alloc, b"cfg", BLOCKS)?,
+        file(alloc, b"loop", LOOP)?,
+        file(alloc, b"cut", CUT)?,
+    ]?;
     let fail = vec![in alloc; how.fail_read]?;
     Ok(MemoryInputs::new(files, how.read, fail))
 }
 
-// What words answer over the files `bin` and `perf`, and what is written.
+// What words answer over the files `bin` and `perf` beside those that are the same in each run, and
+// what is written.
 fn answer(
     alloc: Global,
     texts: &[&[u8]],
@@ -101,7 +133,7 @@ fn answer(
 }
 
 // The generated binary of so many functions.
-fn binary(alloc: Global, functions: u64) -> Result<Vec<u8>, test::Fail> {
+fn binary(alloc: Global, functions: u64) -> Result<Vec<u8>, CaseStop> {
     let mut bytes = Vec::new(alloc);
     make(functions, CasePart::Bin, &mut bytes)?;
     Ok(bytes)
@@ -115,7 +147,7 @@ fn each_command_writes_its_output(rt: HostRuntime) -> Result<(), test::Fail> {
         (&[b"counts", b"perf"], COUNTS),
         (&[b"where", b"bin", b"401014"], b"f0000 2.1 g 1\n"),
         (WORDS, PROFILE),
-        (&[b"make", b"1", b"sum"], SUMMARY),
+        (SUM, SUMMARY),
     ];
     for (texts, want) in cases {
         let (status, written) = answer(alloc, texts, &bin, TEXT, &failing(0, 0, 99))?;
@@ -128,12 +160,22 @@ fn each_command_writes_its_output(rt: HostRuntime) -> Result<(), test::Fail> {
 fn each_failing_read_is_told(rt: HostRuntime) -> Result<(), test::Fail> {
     let alloc = rt.alloc();
     let bin = binary(alloc, 1)?;
-    // Call 0 opens a file. The 655 bytes of the binary take eleven reads and one that finds their
-    // end, the 144 bytes of the text three and one.
-    for (number, calls) in [(1, 13), (2, 5)] {
+    // Call 0 opens a file, and the last one finds its end. Between them the 655 bytes of the binary
+    // take eleven reads, the 144 of both samples and the 160 of the blocks three, and the others
+    // two.
+    let cases: [(&[&[u8]], &[u8], u8, u64); 7] = [
+        (WORDS, TEXT, 1, 13),
+        (WORDS, TEXT, 2, 5),
+        (BUILD, SAMPLE, 1, 13),
+        (BUILD, SAMPLE, 2, 4),
+        (BUILD, SAMPLE, 3, 5),
+        (CHECK, b"", 1, 4),
+        (CHECK, b"", 2, 4),
+    ];
+    for (words, perf, number, calls) in cases {
         for call in 0..calls + 2 {
             let how = failing(u64::from(number), call, 99);
-            let (status, written) = answer(alloc, WORDS, &bin, TEXT, &how)?;
+            let (status, written) = answer(alloc, words, &bin, perf, &how)?;
             let fault = call < calls;
             let want = if fault {
                 Status::ReadFault(number)
@@ -147,26 +189,49 @@ fn each_failing_read_is_told(rt: HostRuntime) -> Result<(), test::Fail> {
     Ok(())
 }
 
+/// How much is written in front of a write, counted from 1, or of the end, 0.
+fn written_before(write: u64, whole: usize) -> usize {
+    match write.checked_sub(1) {
+        Some(writes) => whole.min((writes as usize).saturating_mul(16)),
+        None => whole,
+    }
+}
+
 #[test]
 fn a_failing_write_cuts_the_output_off(rt: HostRuntime) -> Result<(), test::Fail> {
     let alloc = rt.alloc();
     let bin = binary(alloc, 1)?;
-    // The write that fails, or 0 for the end of the output, and how many bytes were written.
-    let cases = [
-        (1, 0, Status::WriteFault),
-        (2, 16, Status::WriteFault),
-        (13, 192, Status::WriteFault),
-        (0, 195, Status::WriteFault),
-        (14, 195, Status::Done),
-    ];
-    for (call, length, want) in cases {
-        let (status, written) = answer(alloc, WORDS, &bin, TEXT, &failing(0, 0, call))?;
-        assert_eq!(rt; status, want, "write {call}");
-        assert_eq!(rt;
-            Some(written.as_slice()),
-            PROFILE.get(..length),
-            "write {call}"
-        );
+    for words in [WORDS, BUILD, CHECK, SUM] {
+        let (_, whole) = answer(alloc, words, &bin, SAMPLE, &failing(0, 0, 99))?;
+        let writes = whole.len().div_ceil(16) as u64;
+        for write in 0..writes.saturating_add(2) {
+            let (status, written) = answer(alloc, words, &bin, SAMPLE, &failing(0, 0, write))?;
+            let want = if write <= writes {
+                Status::WriteFault
+            } else {
+                Status::Done
+            };
+            let front = whole.get(..written_before(write, whole.len()));
+            assert_eq!(rt; status, want, "write {write}");
+            assert_eq!(rt; Some(written.as_slice()), front, "write {write}");
+        }
+    }
+    Ok(())
+}
+
+#[test]
+fn a_byte_too_little_room_cuts_the_output_off(rt: HostRuntime) -> Result<(), test::Fail> {
+    let alloc = rt.alloc();
+    let bin = binary(alloc, 1)?;
+    for words in [WORDS, BUILD, CHECK, SUM] {
+        let (_, whole) = answer(alloc, words, &bin, SAMPLE, &failing(0, 0, 99))?;
+        let how = Pieces {
+            room: whole.len().saturating_sub(1),
+            ..failing(0, 0, 99)
+        };
+        let (status, written) = answer(alloc, words, &bin, SAMPLE, &how)?;
+        assert_eq!(rt; status, Status::WriteFault);
+        assert_eq!(rt; Some(written.as_slice()), whole.get(..how.room));
     }
     Ok(())
 }
@@ -196,12 +261,17 @@ fn a_bad_line_before_a_failing_read_is_refused(rt: HostRuntime) -> Result<(), te
 // nothing to see.
 #[test]
 fn without_memory_nothing_is_written(rt: HostRuntime) {
-    let words: &[&[u8]] = &[b"counts", b"perf"];
-    if let Ok((status, out)) = answer(rt.alloc(), words, b"", TEXT, &failing(0, 0, 99)) {
-        let refused = status == Status::NoMemory;
-        let want = if refused { b"".as_slice() } else { COUNTS };
-        assert!(rt; refused || status == Status::Done);
-        assert_eq!(rt; out.as_slice(), want);
+    let alloc = rt.alloc();
+    let Ok(bin) = binary(alloc, 1) else {
+        return;
+    };
+    let counts: &[&[u8]] = &[b"counts", b"perf"];
+    for words in [counts, BUILD, CHECK, SUM] {
+        if let Ok((status, out)) = answer(alloc, words, &bin, SAMPLE, &failing(0, 0, 99)) {
+            let refused = status == Status::NoMemory;
+            assert!(rt; refused || status == Status::Done);
+            assert_eq!(rt; out.is_empty(), refused);
+        }
     }
 }
 

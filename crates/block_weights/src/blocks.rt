@@ -6,8 +6,7 @@ ghost use Rattle.key_types.specs.Segments.{AreSegments, key_told};
 ghost use Rattle.weight_model.specs.Blocks.{IsWeightOf};
 ghost use Rattle.block_weights.specs.Counts.{count_in, with_count};
 
-use block_model::{Block, Weight};
-use cfg_text::Fun;
+use cfg_text::{Block, Fun, Weight};
 use key_types::{KeyId, Seg};
 use refusal::NoMemory;
 use std::alloc::Global;

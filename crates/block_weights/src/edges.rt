@@ -5,8 +5,7 @@ ghost use Rattle.profile_model.specs.Steps.{hits_by};
 ghost use Rattle.weight_model.specs.Edges.{known_block, taken, weight_by};
 
 use crate::samples::EdgeSamples;
-use block_model::{Block, Edge, Weight};
-use cfg_text::Fun;
+use cfg_text::{Block, Edge, Fun, Weight};
 use refusal::NoMemory;
 use std::alloc::Global;
 

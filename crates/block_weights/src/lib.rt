@@ -12,8 +12,7 @@ mod passing;
 mod samples;
 mod taken;
 
-pub use block_model::Weight;
 pub use blocks::weights;
 pub use edges::edge_weights;
-pub use profile_model::RanRange;
+pub use range_counts::RanRange;
 pub use samples::EdgeSamples;

@@ -2,7 +2,7 @@ ghost use Rattle.std.specs.Prelude.{◌≡◌, ◌++◌, flat_map, IfOk, OnOk};
 ghost use Rattle.profile_model.specs.Hits.{AreRanges};
 ghost use Rattle.block_weights.specs.Passing.{behind_first};
 
-use profile_model::RanRange;
+use range_counts::RanRange;
 use refusal::NoMemory;
 use std::alloc::Global;
 

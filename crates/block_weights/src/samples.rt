@@ -6,9 +6,8 @@ ghost use Rattle.block_weights.specs.Sampled.{Tell, branches_taken};
 
 use crate::passing::behind_firsts;
 use crate::taken::{rank, taken};
-use block_model::Block;
-use profile_model::RanRange;
-use range_counts::{Hits, sweep};
+use cfg_text::Block;
+use range_counts::{Hits, RanRange, sweep};
 use refusal::NoMemory;
 use sample_model::Pair;
 use std::alloc::Global;

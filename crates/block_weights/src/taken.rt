@@ -3,7 +3,7 @@ ghost use Rattle.std.specs.List.Sorted.{IsNonDecreasingBy};
 ghost use Rattle.block_weights.specs.Sampled.{branches_taken, rank as rank_of};
 ghost use Rattle.weight_model.specs.Edges.{taken as times_taken};
 
-use block_model::Block;
+use cfg_text::Block;
 use sample_model::Pair;
 
 /// How many ranks there are for the sources of a target.

@@ -26,6 +26,5 @@ pub use answer::{flow_of, prices_of, reached};
 pub use augmenting::Workspace;
 pub use balancing::{Outcome, balance};
 pub use excess::transfer;
-pub use flow_network::Solved;
 pub use starting::{start, starting_count};
 pub use within::solve_within;

@@ -7,7 +7,7 @@ ghost use Rattle.flow_model.specs.Sound.{JoinsBlocks};
 
 use crate::sides::{ROOT, in_side, out_side};
 use crate::units::{lower_of_block, lower_of_edge, raise_of_block, raise_of_edge, weight_of};
-use block_model::{Block, Edge, Weight};
+use cfg_text::{Block, Edge, Weight};
 use flow_model::Arc;
 use refusal::NoMemory;
 use std::alloc::Global;

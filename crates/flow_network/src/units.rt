@@ -2,7 +2,7 @@
 ghost use Rattle.std.specs.Prelude.{◌≡◌};
 ghost use Rattle.flow_model.specs.Network as model;
 
-use block_model::Weight;
+use cfg_text::Weight;
 
 /// The count that costs nothing.
 pub(crate) fn weight_of(weight: Weight) -> u64

@@ -9,5 +9,4 @@
 
 mod repair;
 
-pub use flow_network::Solved;
 pub use repair::solve;

@@ -1,8 +1,7 @@
 ghost use Rattle.std.specs.Prelude.{◌≡◌};
 
-use block_model::{Block, Bound};
-use block_weights::{Weight, weights};
-use cfg_text::Fun;
+use block_weights::weights;
+use cfg_text::{Block, Bound, Fun, Weight};
 use io_edge::Items;
 use key_types::{KeyId, Seg};
 use std::test;

@@ -3,8 +3,7 @@ ghost use Rattle.std.specs.Prelude.{◌≡◌, ◌<◌, length, IfOk};
 ghost use Rattle.std.specs.List.{All};
 ghost use Rattle.flow_model.specs.Sound.{AreWeights, IsSoundBound, JoinsBlocks};
 
-use block_model::{Block, Bound, Edge, Weight};
-use cfg_text::Fun;
+use cfg_text::{Block, Bound, Edge, Fun, Weight};
 use dual_check::{Spot, accepts, accepts_cut, first_bad};
 use flow_network::{Flow, Net, Nodes, Prices, cost, net_of};
 use io_edge::Items;

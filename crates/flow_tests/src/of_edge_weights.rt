@@ -1,8 +1,7 @@
 ghost use Rattle.std.specs.Prelude.{◌≡◌};
 
-use block_model::{Block, Bound, Edge};
-use block_weights::{EdgeSamples, RanRange, Weight, edge_weights};
-use cfg_text::Fun;
+use block_weights::{EdgeSamples, RanRange, edge_weights};
+use cfg_text::{Block, Bound, Edge, Fun, Weight};
 use io_edge::Items;
 use sample_model::Pair;
 use std::test;

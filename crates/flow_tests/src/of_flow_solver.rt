@@ -2,10 +2,9 @@
 ghost use Rattle.std.specs.Prelude.{◌≡◌};
 ghost use Rattle.flow_model.specs.Sound.{AreWeights, IsSoundBound};
 
-use block_model::{Block, Bound, Edge, Weight};
-use cfg_text::Fun;
-use flow_network::{Net, cost, net_of};
-use flow_solver::{Solved, solve};
+use cfg_text::{Block, Bound, Edge, Fun, Weight};
+use flow_network::{Net, Solved, cost, net_of};
+use flow_solver::solve;
 use io_edge::Items;
 use refusal::NoMemory;
 use std::alloc::Global;

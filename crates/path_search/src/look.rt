@@ -8,7 +8,7 @@ ghost use Rattle.path_search.specs.Ways.{MarksAtMost};
 
 use crate::offer::offer;
 use crate::steps::{cost_of_less, cost_of_more, is_below, reduced};
-use flow_model::Arc;
+use flow_network::Arc;
 use reached_sides::{Frontier, Marks, Way};
 use refusal::NoMemory;
 

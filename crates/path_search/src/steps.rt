@@ -6,7 +6,7 @@ ghost use Rattle.path_search.specs.Ground.{AreSmall, IsSmallCost, price_at};
 ghost use Rattle.path_search.specs.Tight.{IsTightAlong};
 ghost use Rattle.residual_model.specs.Residual as model;
 
-use flow_model::Arc;
+use flow_network::Arc;
 
 /// Whether a count is below an upper bound, or there is none.
 pub(crate) fn is_below(upper: Option<u64>, count: u64) -> bool

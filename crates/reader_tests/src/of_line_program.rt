@@ -1,6 +1,5 @@
 use byte_view::Part;
-use line_model::Row;
-use line_program::rows;
+use line_program::{Row, rows};
 use refusal::{Kind, Place, Stop};
 use std::alloc::{AllocError, Global};
 use std::test::Fail;

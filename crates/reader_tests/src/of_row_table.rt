@@ -1,5 +1,5 @@
 use elf_sections::read;
-use line_model::Row;
+use line_program::Row;
 use row_table::{RowData, RowTable};
 use std::test;
 

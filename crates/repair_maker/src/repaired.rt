@@ -10,8 +10,8 @@ ghost use Rattle.repair_maker.specs.Repaired.{IsRepaired};
 ghost use Rattle.repair_maker.specs.Told.{edges_told};
 
 use crate::weighed::weighed;
-use block_weights::{EdgeSamples, Weight, weights};
-use cfg_text::Fun;
+use block_weights::{EdgeSamples, weights};
+use cfg_text::{Fun, Weight};
 use flow_network::{Net, Solved, net_of};
 use flow_solver::solve;
 use key_types::Seg;

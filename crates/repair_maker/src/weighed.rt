@@ -4,8 +4,8 @@ ghost use Rattle.flow_model.specs.Sound.{AreWeights};
 ghost use Rattle.repair_model.specs.Made.{weighed_edges};
 ghost use Rattle.repair_maker.specs.Told.{edges_told};
 
-use block_weights::{EdgeSamples, Weight, edge_weights};
-use cfg_text::Fun;
+use block_weights::{EdgeSamples, edge_weights};
+use cfg_text::{Fun, Weight};
 use refusal::NoMemory;
 use repair_text::unknown_weights;
 use std::alloc::Global;

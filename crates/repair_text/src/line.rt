@@ -7,7 +7,7 @@ ghost use Rattle.flow_model.specs.Network.{weight_of};
 ghost use Rattle.repair_model.specs.Bits.{FitsBits, IsSmallIfTold};
 ghost use Rattle.repair_model.specs.Line as model;
 
-use block_model::Weight;
+use cfg_text::Weight;
 use refusal::NoMemory;
 use text_scan::{push_number, push_signed};
 

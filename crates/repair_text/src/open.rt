@@ -11,8 +11,7 @@ ghost use Rattle.repair_text.specs.Said.{meaning_of};
 
 use crate::repair::Repair;
 use crate::said::Said;
-use block_model::{Edge, Weight};
-use cfg_text::Fun;
+use cfg_text::{Edge, Fun, Weight};
 use flow_network::{Flow, Nodes, Prices, Solved};
 use io_edge::Items;
 use refusal::{Kind, NoMemory};

@@ -1,4 +1,4 @@
-use block_model::Weight;
+use cfg_text::Weight;
 use flow_network::Solved;
 use io_edge::Items;
 

@@ -6,7 +6,7 @@ ghost use Rattle.block_model.specs.Line.{count_of, place_of};
 ghost use Rattle.repair_model.specs.Line as model;
 ghost use Rattle.repair_text.specs.Said.{meaning_of};
 
-use block_model::Weight;
+use cfg_text::Weight;
 use text_scan::{Fields, decimal, signed, wide};
 
 /// A weight is below this.

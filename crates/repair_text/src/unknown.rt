@@ -3,8 +3,7 @@ ghost use Rattle.std.specs.Prelude.{◌≡◌, IfOk, length, map};
 ghost use Rattle.block_model.specs.declared.parts.Weight.TheVariants.{Unknown};
 ghost use Rattle.flow_model.specs.Sound.{AreWeights};
 
-use block_model::Weight;
-use cfg_text::Fun;
+use cfg_text::{Fun, Weight};
 use refusal::NoMemory;
 use std::alloc::Global;
 

@@ -20,8 +20,7 @@ use crate::line::{
     push_begin_of_cut, push_begin_of_flow, push_count, push_edge, push_end_of_cut,
     push_end_of_flow, push_sides,
 };
-use block_model::{Edge, Weight};
-use cfg_text::Fun;
+use cfg_text::{Edge, Fun, Weight};
 use flow_network::{Flow, Net, Nodes, Prices, Solved, cost, cut_sums};
 use refusal::NoMemory;
 

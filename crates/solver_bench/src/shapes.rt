@@ -5,8 +5,7 @@ ghost use Rattle.flow_model.specs.Network as model;
 ghost use Rattle.flow_model.specs.Sound.{AreWeights, IsSoundBound};
 ghost use Rattle.solver_bench.specs.Edges.{AreEdges};
 
-use block_model::{Block, Bound, Edge, Weight};
-use cfg_text::Fun;
+use cfg_text::{Block, Bound, Edge, Fun, Weight};
 use flow_network::{Net, net_of};
 use io_edge::Items;
 use refusal::NoMemory;

@@ -23,6 +23,7 @@ use Rattle.profile_tree.proofs.WayLemmas.{same_ways}
 use Rattle.profile_tree.specs.Said.{way_at}
 use Rattle.profile_tree.specs.Steps.{name_at}
 use Rattle.profile_text.proofs.OpenLemmas.{kept_grows}
+use Rattle.profile_text.proofs.ToldLemmas.{what_grows}
 use Rattle.profile_text.specs.Draft.{IsGivenWhat, number_told, what_told}
 use Rattle.profile_text.specs.declared.item.Item.{Item}
 use Rattle.profile_text.specs.declared.item.What.{What}
@@ -81,14 +82,6 @@ given_or_not names keys (Target key name) = elim (cases_lt key.0 keys) [
   | inl key_within ↦ elim (cases_lt name.0 names) [ inl within ↦ inl (key_within, within) | inr past ↦ inr (λ h. let n = h.1 in absurd (omega (arith, n, past))) ]
   | inr past ↦ inr (λ h. let k = h.0 in absurd (omega (arith, k, past)))
 ]
-
-what_grows : (m n k l : ℕ) → m ≤ n → k ≤ l → (what : What) → IsGivenWhat m k what → IsGivenWhat n l what
-what_grows m n k l mn kl (Head name) given = omega (arith, given)
-what_grows m n k l mn kl (Count key) given = omega (arith, given)
-what_grows m n k l mn kl (Target key name) given =
-    let key_given = given.0 in
-    let name_given = given.1 in
-    (omega (arith, key_given), omega (arith, name_given))
 
 targets_grow : (m n k l : ℕ) → m ≤ n → k ≤ l → (targets : List CalledFrom) → AllByRecursion (IsGivenTarget m k) targets → AllByRecursion (IsGivenTarget n l) targets
 targets_grow m n k l mn kl [] given = tt
@@ -222,10 +215,10 @@ own_sum (first ∷ calls) call once (inr there) =
 
 module _ (names : List (List ℕ)) (keys : List Key) (sums : Sums) (profile : Profile) (are : AreNumbered names keys) (sums_are : AreSumsIn names keys sums profile) where
   -- the sums of keys with a way
-  way_sum : (way : Way) → count_of (sums_told names keys sums) way ≡ sum_by (λ id. cond (same_way way (way_at names keys id)) (slice_index sums.counts id) 0) (range_with_len 0 (length sums.counts))
+  way_sum : (way : Way) → count_of (sums_told names keys sums) way ≡ sum_by (λ id. cond (same_way way (way_at names keys id)) (slice_index sums.counts id) 0) (range_with_len 0 (length keys))
   way_sum way =
-      sum_filter (λ c. c.1) (λ c. same_way way c.0) (map (λ id. (way_at names keys id, slice_index sums.counts id)) (range_with_len 0 (length sums.counts)))
-      ∙ sum_map (λ (c : Way × ℕ). cond (same_way way c.0) c.1 0) (λ id. (way_at names keys id, slice_index sums.counts id)) (range_with_len 0 (length sums.counts))
+      sum_filter (λ c. c.1) (λ c. same_way way c.0) (map (λ id. (way_at names keys id, slice_index sums.counts id)) (range_with_len 0 (length keys)))
+      ∙ sum_map (λ (c : Way × ℕ). cond (same_way way c.0) c.1 0) (λ id. (way_at names keys id, slice_index sums.counts id)) (range_with_len 0 (length keys))
 
   same_counts : (way : Way) → count_of (sums_told names keys sums) way ≡ count_of profile way
   same_counts way = way_sum way ∙ by (cases_lt 0 (count_of profile way))
@@ -233,43 +226,39 @@ module _ (names : List (List ℕ)) (keys : List Key) (sums : Sums) (profile : Pr
       place : ℕ → ℕ
       place id = cond (same_way way (way_at names keys id)) (slice_index sums.counts id) 0
 
-      none : count_of profile way ≤ 0 → (id : ℕ) → Among id (range_with_len 0 (length sums.counts)) → place id ≡ 0
+      none : count_of profile way ≤ 0 → (id : ℕ) → Among id (range_with_len 0 (length keys)) → place id ≡ 0
       none zero id there =
-          let within = among_range 0 (length sums.counts) id there in
+          let within = among_range 0 (length keys) id there in
           bool_cases (same_way way (way_at names keys id))
           (λ e.
-          let own = sums_are.each (Count (record { 0 = id })) (omega (arith, within.1, sums_are.given.counts)) in
+          let own = sums_are.each (Count (record { 0 = id })) (omega (arith, within.1)) in
           let same : count_of profile way ≡ count_of profile (way_at names keys id) = ap (count_of profile) (same_ways way (way_at names keys id) e) in
           ap (λ b. cond b (slice_index sums.counts id) 0) e ∙ omega (arith, own, same, zero))
           (λ e. ap (λ b. cond b (slice_index sums.counts id) 0) e)
 
-      found : (what : What) → IsGivenWhat (length names) (length keys) what → what_told names keys what ≡ count way → 0 < count_of profile way → sum_by place (range_with_len 0 (length sums.counts)) ≡ count_of profile way
+      found : (what : What) → IsGivenWhat (length names) (length keys) what → what_told names keys what ≡ count way → 0 < count_of profile way → sum_by place (range_with_len 0 (length keys)) ≡ count_of profile way
       found (Head name) given is some = absurd cc
       found (Target key name) given is some = absurd cc
       found (Count key) given is some =
           let same : way_at names keys key.0 ≡ way = ap way_in is in
           let own : slice_index sums.counts key.0 ≡ count_of profile way = sums_are.each (Count key) given ∙ ap (count_of profile) same in
-          elim (cases_lt key.0 (length sums.counts)) [
-            | inl within ↦
-                sum_same place (λ id. cond (id == key.0) (slice_index sums.counts id) 0) (range_with_len 0 (length sums.counts))
-                (all_among (λ id. place id ≡ cond (id == key.0) (slice_index sums.counts id) 0) (range_with_len 0 (length sums.counts))
-                (λ id there.
-                let inside = among_range 0 (length sums.counts) id there in
-                ap (λ w. cond (same_way w (way_at names keys id)) (slice_index sums.counts id) 0) (sym same)
-                ∙ ap (λ b. cond b (slice_index sums.counts id) 0) (way_is names keys are key.0 id given (omega (arith, inside.1, sums_are.given.counts)))))
-                ∙ one_of_range (λ id. slice_index sums.counts id) key.0 0 (length sums.counts) (omega arith) (omega arith) ∙ own
-            | inr past ↦ let zero = get_or_past {X = ℕ} sums.counts key.0 0 past in absurd (omega (arith, own, some, zero))
-          ]
+          sum_same place (λ id. cond (id == key.0) (slice_index sums.counts id) 0) (range_with_len 0 (length keys))
+          (all_among (λ id. place id ≡ cond (id == key.0) (slice_index sums.counts id) 0) (range_with_len 0 (length keys))
+          (λ id there.
+          let inside = among_range 0 (length keys) id there in
+          ap (λ w. cond (same_way w (way_at names keys id)) (slice_index sums.counts id) 0) (sym same)
+          ∙ ap (λ b. cond b (slice_index sums.counts id) 0) (way_is names keys are key.0 id given (omega (arith, inside.1)))))
+          ∙ one_of_range (λ id. slice_index sums.counts id) key.0 0 (length keys) (omega arith) (omega (arith, given)) ∙ own
         where
           way_in : ToldWhat → Way
           way_in (head name) = []
           way_in (count way) = way
           way_in (target way name) = way
 
-      by : (0 < count_of profile way) ⊎ (count_of profile way ≤ 0) → sum_by place (range_with_len 0 (length sums.counts)) ≡ count_of profile way
+      by : (0 < count_of profile way) ⊎ (count_of profile way ≤ 0) → sum_by place (range_with_len 0 (length keys)) ≡ count_of profile way
       by (inl some) = let from = sums_are.only (count way) some in found from.what from.given from.is some
       by (inr zero) =
-          sum_none place (range_with_len 0 (length sums.counts)) (all_among (λ id. place id ≡ 0) (range_with_len 0 (length sums.counts)) (none zero)) ∙ omega arith
+          sum_none place (range_with_len 0 (length keys)) (all_among (λ id. place id ≡ 0) (range_with_len 0 (length keys)) (none zero)) ∙ omega arith
 
   same_heads : (name : List ℕ) → head_of (sums_told names keys sums) name ≡ head_of profile name
   same_heads name =

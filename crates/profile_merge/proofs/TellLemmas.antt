@@ -9,6 +9,7 @@ use Rattle.std.proofs.lemmas.List.Elements.{filter-append}
 use Rattle.std.proofs.lemmas.Option.{slice_get-get_or}
 use Rattle.std.proofs.Math.Nat.{mul-add}
 use Rattle.key_types.specs.declared.key.Key.{Key}
+use Rattle.merge_laws.proofs.SumLemmas.{number_in-both, number_in-weighed}
 use Rattle.profile_model.specs.Merge.{both, weighed}
 use Rattle.profile_model.specs.Profile.{Profile, count_of, target_of, head_of}
 use Rattle.profile_model.specs.Spelled.{What as ToldWhat, head, count, target, Number, profile_by, number_in}
@@ -27,35 +28,9 @@ use Rattle.profile_merge.specs.Laws.{AreNumbered}
 use Rattle.profile_merge.specs.Sums.{number_at, same_what}
 use Rattle.profile_merge.specs.Told.{IsToldBy, part_told}
 
--- ---- a profile with weight, and another
-
--- what passes a test, each so many times
-weighed_sum : {T : Type 0} (weight : ℕ) (test : T → Bool) (number : T → ℕ) (more : T → T) → ((x : T) → test (more x) ≡ test x) → ((x : T) → number (more x) ≡ weight * number x) → (xs : List T)
-    → sum_by number (filter test (map more xs)) ≡ weight * sum_by number (filter test xs)
-weighed_sum weight test number more same times [] = omega arith
-weighed_sum {T} weight test number more same times (x ∷ xs) =
-    ap (λ b. sum_by number (cond b (more x ∷ filter test (map more xs)) (filter test (map more xs)))) (same x) ∙ by (test x) (weighed_sum weight test number more same times xs)
-  where
-    by : (b : Bool) → sum_by number (filter test (map more xs)) ≡ weight * sum_by number (filter test xs)
-        → sum_by number (cond b (more x ∷ filter test (map more xs)) (filter test (map more xs))) ≡ weight * sum_by number (cond b (x ∷ filter test xs) (filter test xs))
-    by true rest =
-        sum_by-cons number (more x) (filter test (map more xs)) ∙ (λ i. times x i + rest i) ∙ sym (mul-add weight (number x) (sum_by number (filter test xs)))
-        ∙ ap (λ n. weight * n) (sym (sum_by-cons number x (filter test xs)))
-    by false rest = rest
-
-both_sum : {T : Type 0} (test : T → Bool) (number : T → ℕ) (xs ys : List T) → sum_by number (filter test (xs ++ ys)) ≡ sum_by number (filter test xs) + sum_by number (filter test ys)
-both_sum test number xs ys = ap (sum_by number) (filter-append test xs ys) ∙ sum_by-append number (filter test xs) (filter test ys)
-
+-- a profile with weight, and another
 pub number_in_both : (weight : ℕ) (p q : Profile) (told : ToldWhat) → number_in (both (weighed weight p) q) told ≡ weight * number_in p told + number_in q told
-number_in_both weight p q (head name) =
-    both_sum (λ h. same_name name h.0) (λ h. h.1) (map (λ (h : List ℕ × ℕ). (h.0, weight * h.1)) p.heads) q.heads
-    ∙ ap (λ n. n + head_of q name) (weighed_sum weight (λ (h : List ℕ × ℕ). same_name name h.0) (λ h. h.1) (λ h. (h.0, weight * h.1)) (λ h. refl) (λ h. refl) p.heads)
-number_in_both weight p q (count way) =
-    both_sum (λ c. same_way way c.0) (λ c. c.1) (map (λ (c : Way × ℕ). (c.0, weight * c.1)) p.counts) q.counts
-    ∙ ap (λ n. n + count_of q way) (weighed_sum weight (λ (c : Way × ℕ). same_way way c.0) (λ c. c.1) (λ c. (c.0, weight * c.1)) (λ c. refl) (λ c. refl) p.counts)
-number_in_both weight p q (target way name) =
-    both_sum (λ c. same_way way c.0 && same_name name c.1) (λ c. c.2) (map (λ (c : Way × List ℕ × ℕ). (c.0, c.1, weight * c.2)) p.calls) q.calls
-    ∙ ap (λ n. n + target_of q way name) (weighed_sum weight (λ (c : Way × List ℕ × ℕ). same_way way c.0 && same_name name c.1) (λ c. c.2) (λ c. (c.0, c.1, weight * c.2)) (λ c. refl) (λ c. refl) p.calls)
+number_in_both weight p q told = number_in-both (weighed weight p) q told ∙ ap (λ n. n + number_in q told) (number_in-weighed weight p told)
 
 -- ---- names and keys that were given
 module _ (names : List (List ℕ)) (keys : List Key) (are : AreNumbered names keys) where

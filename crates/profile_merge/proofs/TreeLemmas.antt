@@ -1,4 +1,4 @@
--- Sums as counts, calls and heads, each once.
+-- Sums as calls and heads, each once.
 use Rattle.std.proofs.Common.{◌≡◌, ℕ, ◌+◌, ◌<◌, ◌≤◌, true, List, [], ◌∷◌, ◌++◌, map, length, get_or, All, sym, ap, subst, ◌∙◌, arith}
 use Rattle.std.specs.List.{AllByRecursion, IsDistinct, range_with_len}
 use Rattle.std.specs.Map.{keys_of}
@@ -8,41 +8,26 @@ use Rattle.std.proofs.lemmas.Map.Made.{AllPairs-from_IsDistinct}
 use Rattle.key_types.specs.declared.key.Key.{Key}
 use Rattle.profile_laws.specs.Once.{StandOnce}
 use Rattle.profile_lists.specs.declared.pairs.Call.{Call}
+use Rattle.profile_text.specs.Stamps.{ReadsTheSame}
 use Rattle.profile_tree.proofs.ListLemmas.{all_places, map_map}
 use Rattle.profile_tree.specs.Known.{IsGiven, called_from}
-use Rattle.profile_tree.specs.Said.{stated, way_at}
+use Rattle.profile_tree.specs.Said.{said, way_at}
 use Rattle.profile_tree.specs.Steps.{name_at}
 use Rattle.profile_tree.specs.declared.head.Head.{Head}
-use Rattle.profile_tree.specs.declared.key_count.KeyCount.{KeyCount}
 use Rattle.profile_merge.proofs.CalledLemmas.{targets_same, target_itself}
 use Rattle.profile_merge.specs.Called.{Target, same_target, IsGivenTarget}
-use Rattle.profile_merge.specs.Stated.{count_at, head_at, call_of, counts_at, heads_at}
+use Rattle.profile_merge.specs.Stated.{head_at, call_of, heads_at}
 use Rattle.profile_merge.specs.Sums.{Sums}
 use Rattle.profile_merge.specs.Told.{sums_told}
 
-count_here : (sums : List ℕ) (k : ℕ) (d : KeyCount) → k < length (counts_at sums) → get_or (counts_at sums) k d ≡ count_at sums k
-count_here sums k d h = get_or-map-range_with_len (count_at sums) 0 (length sums) k k d (let e = length-map-range_with_len (count_at sums) 0 (length sums) in omega arith) (omega arith)
-
 head_here : (sums : List ℕ) (k : ℕ) (d : Head) → k < length (heads_at sums) → get_or (heads_at sums) k d ≡ head_at sums k
 head_here sums k d h = get_or-map-range_with_len (head_at sums) 0 (length sums) k k d (let e = length-map-range_with_len (head_at sums) 0 (length sums) in omega arith) (omega arith)
-
-pub counts_given : (sums : List ℕ) (n : ℕ) → length sums ≤ n → All (λ count. count.key.0 < n) (counts_at sums)
-counts_given sums n few k d h =
-    let here = ap (λ (c : KeyCount). c.key.0) (count_here sums k d h) in
-    let e = length-map-range_with_len (count_at sums) 0 (length sums) in
-    omega arith
 
 pub heads_given : (sums : List ℕ) (n : ℕ) → length sums ≤ n → All (λ head. head.name.0 < n) (heads_at sums)
 heads_given sums n few k d h =
     let here = ap (λ (c : Head). c.name.0) (head_here sums k d h) in
     let e = length-map-range_with_len (head_at sums) 0 (length sums) in
     omega arith
-
-pub counts_once : (sums : List ℕ) → StandOnce (λ count. count.key.0) (counts_at sums)
-counts_once sums i j d less within same =
-    let here = ap (λ (c : KeyCount). c.key.0) (count_here sums i d (omega arith)) in
-    let there = ap (λ (c : KeyCount). c.key.0) (count_here sums j d within) in
-    absurd (omega arith)
 
 pub heads_once : (sums : List ℕ) → StandOnce (λ head. head.name.0) (heads_at sums)
 heads_once sums i j d less within same =
@@ -71,16 +56,14 @@ calls_once calls once i j d less within same =
     apart i j t less (omega (arith, short, length-map calls (λ (c : Target × ℕ). c.0)))
     (sym (target_at calls i d t (omega (arith, less, short))) ∙ (λ n. (record { 0 = (same n).0 }, record { 0 = (same n).1 })) ∙ target_at calls j d t short)
 
-pub stated_is : (names : List (List ℕ)) (keys : List Key) (sums : Sums) → stated names keys (counts_at sums.counts) (map call_of sums.called) (heads_at sums.heads) ≡ sums_told names keys sums
-stated_is names keys sums = λ i. record {
-  counts = map_map (λ (count : KeyCount). (way_at names keys count.key.0, count.times)) (count_at sums.counts) (range_with_len 0 (length sums.counts)) i;
+pub said_is : (names : List (List ℕ)) (keys : List Key) (sums : Sums) (counts : List ℕ) → ReadsTheSame sums.counts counts
+    → said names keys counts (map call_of sums.called) (heads_at sums.heads) ≡ sums_told names keys sums
+said_is names keys sums counts reads = λ i. record {
+  counts = map (λ id. (way_at names keys id, reads id i)) (range_with_len 0 (length keys));
   calls = map_map (λ (call : Call). (way_at names keys call.key.0, name_at names call.callee.0, call.times)) call_of sums.called i;
   heads = map_map (λ (head : Head). (name_at names head.name.0, head.times)) (head_at sums.heads) (range_with_len 0 (length sums.heads)) i;
 }
 
 -- ---- one more
-pub counts_more : (sums : List ℕ) (n : ℕ) (counts : List KeyCount) → counts ≡ map (count_at sums) (range_with_len 0 n) → counts ++ count_at sums n ∷ [] ≡ map (count_at sums) (range_with_len 0 (n + 1))
-counts_more sums n counts so_far = ap (λ list. list ++ count_at sums n ∷ []) so_far ∙ sym (map-range_with_len_more (count_at sums) 0 n n (omega arith))
-
 pub heads_more : (sums : List ℕ) (n : ℕ) (heads : List Head) → heads ≡ map (head_at sums) (range_with_len 0 n) → heads ++ head_at sums n ∷ [] ≡ map (head_at sums) (range_with_len 0 (n + 1))
 heads_more sums n heads so_far = ap (λ list. list ++ head_at sums n ∷ []) so_far ∙ sym (map-range_with_len_more (head_at sums) 0 n n (omega arith))

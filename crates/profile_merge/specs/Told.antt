@@ -15,10 +15,10 @@ use Rattle.profile_merge.specs.Sums.{AreSumsOf, Sums, sum_in}
 abbrev pub part_told : List (List ℕ) → List Key → List Item → Profile
 part_told names keys items = profile_by (map (number_told names keys) items)
 
--- What sums say was counted.
+-- What sums say was counted: each key has its sum.
 abbrev pub sums_told : List (List ℕ) → List Key → Sums → Profile
 sums_told names keys sums = record {
-  counts = map (λ id. (way_at names keys id, slice_index sums.counts id)) (range_with_len 0 (length sums.counts));
+  counts = map (λ id. (way_at names keys id, slice_index sums.counts id)) (range_with_len 0 (length keys));
   calls = map (λ call. (way_at names keys call.0.0.0, name_at names call.0.1.0, call.1)) sums.called;
   heads = map (λ id. (name_at names id, slice_index sums.heads id)) (range_with_len 0 (length sums.heads));
 }

@@ -32,6 +32,18 @@ impl Row {
         })
     }
 
+    /// The sums of so many numbers, each at its own.
+    pub(crate) fn padded(&self, alloc: Global, len: u32) -> Result<Vec<u64>, NoMemory>
+        requires { length self.now ≤ len }
+        ensures len { IfOk result (λ sums. length sums.items ≡ len) }
+        ensures reads { IfOk result (λ sums. ReadsTheSame self.now sums.items) }
+    {
+        let mut sums = Vec::with_capacity(alloc, len as usize)?;
+        sums.extend_from_slice(&self.sums)?;
+        sums.resize(len as usize, 0)?;
+        Ok(sums)
+    }
+
     /// The sums, each at its number.
     pub(crate) fn as_slice(&self) -> &[u64]
         ensures { result.now ≡ self.now }

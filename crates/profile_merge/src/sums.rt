@@ -10,10 +10,10 @@ ghost use Rattle.profile_merge.specs.declared.sums.MergeStop.TheVariants.{NoMemo
 
 use crate::called::Called;
 use crate::row::Row;
-use crate::stated::{counts_of, heads_of};
+use crate::stated::heads_of;
 use key_types::{Keys, Names};
 use profile_text::{Item, Profile, What};
-use profile_tree::{Tree, from_counts};
+use profile_tree::{Tree, from_all_counts};
 use refusal::NoMemory;
 use std::alloc::Global;
 use std::marker::Model;
@@ -117,13 +117,12 @@ impl Sums {
             ≡ lines_of (sums_told names.now keys.now self.now)) }
         ensures names { IfOk result (λ tree. All (IsOf names.now) tree.lines) }
     {
-        // What is read here is that 32 bits number all keys and names.
-        let _keys = keys.len();
+        // What is read here is that 32 bits number all names.
         let _names = names.len();
-        let counts = counts_of(alloc, &self.counts)?;
+        let counts = self.counts.padded(alloc, keys.len())?;
         let heads = heads_of(alloc, &self.heads)?;
         let calls = self.called.calls(alloc)?;
-        from_counts(alloc, &counts, &calls, &heads, keys, names)
+        from_all_counts(alloc, counts, &calls, &heads, keys, names)
     }
 
     /// The line of the first of these numbers that is too large.

@@ -10,7 +10,7 @@ use Rattle.profile_text.specs.declared.item.Item.{Item}
 use Rattle.profile_text.specs.declared.item.What.{What}
 use Rattle.profile_text.specs.declared.item.What.TheVariants.{Head, Count, Target}
 
-what_grows : (m n k l : ℕ) → m ≤ n → k ≤ l → (what : What) → IsGivenWhat m k what → IsGivenWhat n l what
+pub what_grows : (m n k l : ℕ) → m ≤ n → k ≤ l → (what : What) → IsGivenWhat m k what → IsGivenWhat n l what
 what_grows m n k l mn kl (Head name) given = omega (arith, given)
 what_grows m n k l mn kl (Count key) given = omega (arith, given)
 what_grows m n k l mn kl (Target key name) given =

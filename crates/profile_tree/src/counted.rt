@@ -101,11 +101,41 @@ pub fn from_counts(
     ensures counts { IfOk result (λ tree.
         AreEach (length keys.now) (count_stated counts.now) tree.counts) }
 {
+    let counts = stated_of(alloc, keys.len(), counts)?;
+    from_all_counts(alloc, counts, calls, heads, keys, names)
+}
+
+/// The profile of the counts of all keys, each at its number, with calls and heads that are known.
+/// A total stands still at 2^64 - 1.
+///
+/// Each pair of a key and a callee stands once in `calls` and each function once in `heads`; all
+/// numbers are of `keys` and `names`.
+///
+/// # Errors
+/// `NoMemory`.
+pub fn from_all_counts(
+    alloc: Global,
+    counts: Vec<u64>,
+    calls: &[Call],
+    heads: &[Head],
+    keys: &Keys,
+    names: &Names,
+) -> Result<Tree, NoMemory>
+    requires len { length counts.items ≡ length keys.now }
+    requires key_names { All (HasNames (length names.now)) keys.now }
+    requires calls { All (IsGiven (length keys.now) (length names.now)) calls.now }
+    requires heads { All (λ head. head.name.0 < length names.now) heads.now }
+    requires calls_once { StandOnce called_from calls.now }
+    requires heads_once { StandOnce (λ head. head.name.0) heads.now }
+    ensures lines { IfOk result (λ tree. map (told names.now) tree.lines
+        ≡ lines_of (said names.now keys.now counts.items calls.now heads.now)) }
+    ensures names { IfOk result (λ tree. All (IsOf names.now) tree.lines) }
+    ensures counts { IfOk result (λ tree. tree.counts ≡ counts.items) }
+{
     keys.each_once();
     names.each_once();
     calls_fit(calls);
     heads_fit(heads);
-    let counts = stated_of(alloc, keys.len(), counts)?;
     let lines = lines_of_counts(alloc, &counts, calls, heads, keys, names)?;
     Ok(Tree {
         lines: Chain::new(lines),

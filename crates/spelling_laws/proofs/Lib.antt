@@ -1,2 +1,3 @@
 pub mod ByteLemmas
 pub mod ReadLemmas
+pub mod TextLemmas

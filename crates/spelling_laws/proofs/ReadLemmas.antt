@@ -1,7 +1,7 @@
 -- A line that is written is read as that line.
-use Rattle.std.proofs.Common.{◌≡◌, ◌<◌, ◌^◌, ℕ, zero, suc, ◌+◌, ◌==◌, ◌&&◌, nat_lt, cond, Bool, true, false, List, [], ◌∷◌, ◌++◌, map, drop, length, Option, Some, None, option_map, refl, sym, ap, subst, ◌∙◌, inl, inr, arith, append_assoc, append-nil}
+use Rattle.std.proofs.Common.{◌≡◌, ◌<◌, ◌^◌, ℕ, zero, suc, ◌+◌, ◌==◌, ◌&&◌, ◌||◌, nat_lt, cond, Bool, true, false, List, [], ◌∷◌, ◌++◌, map, drop, length, Option, Some, None, option_map, refl, sym, ap, subst, ◌∙◌, inl, inr, arith, append_assoc, append-nil}
 use Rattle.std.specs.Prelude.{codes, decimal}
-use Rattle.std.specs.Char.{digit_value, is_digit}
+use Rattle.std.specs.Char.{digit_value, is_ascii_digit, is_digit}
 use Rattle.std.specs.List.{AllByRecursion, flat_map, list_all, prefix_len}
 use Rattle.std.specs.Str.Parse.{AllDigits, IsNumeral, digits_value}
 use Rattle.std.proofs.ByRecursion.{All-append}
@@ -10,7 +10,7 @@ use Rattle.std.proofs.lemmas.Bool.Decides.{nat_tests}
 use Rattle.std.proofs.lemmas.List.Folds.{list_all-append}
 use Rattle.text_model.proofs.LawLemmas.{decimal_text_is_read}
 use Rattle.text_model.specs.Numbers.{decimal_of, number_of}
-use Rattle.profile_model.specs.Names.{is_name}
+use Rattle.profile_model.specs.Names.{begins_no_name, is_name}
 use Rattle.profile_model.specs.Profile.{Line, function_line, body_line, call_line}
 use Rattle.profile_model.specs.Reading.{◌>>=◌, within_bits, number_within, parts_at, named_by, named_of, located_by, location_by, location_of, targets_of, body_by, call_of, behind_location, line_below, function_of, spaces_of, behind_spaces, line_of}
 use Rattle.profile_model.specs.Text.{disc_text, location_text, named_text, target_text, indent, line_text}
@@ -22,7 +22,7 @@ use Rattle.spelling_laws.proofs.ByteLemmas.{Lacks, IsNoDigit, digits_lack, numer
 colon_no_digit : IsNoDigit 58
 colon_no_digit small = absurd (omega (arith, small))
 
-space_no_digit : IsNoDigit 32
+pub space_no_digit : IsNoDigit 32
 space_no_digit small = absurd (omega (arith, small))
 
 dot_no_digit : IsNoDigit 46
@@ -58,7 +58,7 @@ disc_lacks c disc none dot small = by (disc == 0)
     by true = tt
     by false = (dot, decimal_lacks c disc none small)
 
-place_lacks : (c offset disc : ℕ) → IsNoDigit c → (46 == c) ≡ false → offset < 2 ^ 64 → disc < 2 ^ 64 → Lacks c (location_text offset disc)
+pub place_lacks : (c offset disc : ℕ) → IsNoDigit c → (46 == c) ≡ false → offset < 2 ^ 64 → disc < 2 ^ 64 → Lacks c (location_text offset disc)
 place_lacks c offset disc none dot small disc_small =
     both_lack c (decimal offset) (disc_text disc) (decimal_lacks c offset none small) (disc_lacks c disc none dot disc_small)
 
@@ -121,14 +121,16 @@ function_is_read name total head named small =
 
 -- ---- lines below a function
 
--- a first byte that is no space
-record Starts (text : List ℕ) : Type 0 where
-  first : ℕ
-  rest : List ℕ
-  is : text ≡ first ∷ rest
-  other : (first == 32) ≡ false
+-- a first byte that is no blank and begins no comment
+pub record Starts (text : List ℕ) : Type 0 where
+  pub first : ℕ
+  pub rest : List ℕ
+  pub is : text ≡ first ∷ rest
+  pub other : (first == 32) ≡ false
+  pub no_tab : (first == 9) ≡ false
+  pub no_hash : (first == 35) ≡ false
 
-spaces_are : (depth : ℕ) (text : List ℕ) → Starts text → spaces_of (indent depth ++ text) ≡ depth
+pub spaces_are : (depth : ℕ) (text : List ℕ) → Starts text → spaces_of (indent depth ++ text) ≡ depth
 spaces_are zero text starts = ap spaces_of starts.is ∙ ap (λ b. cond b (1 + prefix_len (λ b. b == 32) starts.rest) 0) starts.other
 spaces_are (suc depth) text starts = ap (λ n. 1 + n) (spaces_are depth text starts) ∙ one_more depth
   where
@@ -139,7 +141,7 @@ dropped : (depth : ℕ) (text : List ℕ) → drop depth (indent depth ++ text) 
 dropped zero text = refl
 dropped (suc depth) text = dropped depth text
 
-behind_them : (depth : ℕ) (text : List ℕ) → Starts text → behind_spaces (indent depth ++ text) ≡ text
+pub behind_them : (depth : ℕ) (text : List ℕ) → Starts text → behind_spaces (indent depth ++ text) ≡ text
 behind_them depth text starts = ap (λ n. drop n (indent depth ++ text)) (spaces_are depth text starts) ∙ dropped depth text
 
 -- where a number stands first
@@ -148,16 +150,23 @@ starts_with_number n rest small = by (decimal n) (numeral_of n small)
   where
     by : (ds : List ℕ) → IsNumeral 10 ds → Starts (ds ++ rest)
     by [] numeral = absurd (omega (arith, numeral.0))
-    by (d ∷ ds) numeral = record { first = d; rest = ds ++ rest; is = refl; other = (digits_lack 32 space_no_digit (d ∷ ds) numeral.1).0 }
+    by (d ∷ ds) numeral = record {
+      first = d;
+      rest = ds ++ rest;
+      is = refl;
+      other = (digits_lack 32 space_no_digit (d ∷ ds) numeral.1).0;
+      no_tab = (digits_lack 9 (λ small. absurd (omega (arith, small))) (d ∷ ds) numeral.1).0;
+      no_hash = (digits_lack 35 (λ small. absurd (omega (arith, small))) (d ∷ ds) numeral.1).0;
+    }
 
-place_and_rest : (depth offset disc : ℕ) (rest : List ℕ)
+pub place_and_rest : (depth offset disc : ℕ) (rest : List ℕ)
     → indent depth ++ location_text offset disc ++ codes ": " ++ rest ≡ indent depth ++ ((location_text offset disc ++ 58 ∷ []) ++ 32 ∷ rest)
 place_and_rest depth offset disc rest =
     append_assoc (indent depth ++ location_text offset disc) (58 ∷ 32 ∷ []) rest
     ∙ append_assoc (indent depth) (location_text offset disc) (58 ∷ 32 ∷ rest)
     ∙ ap (λ text. indent depth ++ text) (sym (append_assoc (location_text offset disc) (58 ∷ []) (32 ∷ rest)))
 
-place_starts : (offset disc : ℕ) (rest : List ℕ) → offset < 2 ^ 64 → Starts ((location_text offset disc ++ 58 ∷ []) ++ 32 ∷ rest)
+pub place_starts : (offset disc : ℕ) (rest : List ℕ) → offset < 2 ^ 64 → Starts ((location_text offset disc ++ 58 ∷ []) ++ 32 ∷ rest)
 place_starts offset disc rest small =
     subst Starts
     (sym (append_assoc (location_text offset disc) (58 ∷ []) (32 ∷ rest) ∙ append_assoc (decimal offset) (disc_text disc) (58 ∷ 32 ∷ rest)))
@@ -211,7 +220,7 @@ call_is_read depth offset disc name total told =
 
 -- ---- lines
 
-function_starts : (name : List ℕ) (total head : ℕ) → is_name name ≡ true → Starts (line_text (function_line name total head))
+pub function_starts : (name : List ℕ) (total head : ℕ) → is_name name ≡ true → Starts (line_text (function_line name total head))
 function_starts name total head is =
     let known = name_known name is in
     subst (λ n. Starts (line_text (function_line n total head))) (sym known.is) (record {
@@ -219,7 +228,16 @@ function_starts name total head is =
       rest = known.rest ++ codes ":" ++ decimal total ++ codes ":" ++ decimal head;
       is = refl;
       other = (subst (Lacks 32) known.is (name_lacks 32 name refl is)).0;
+      no_tab = (subst (Lacks 9) known.is (name_lacks 9 name refl is)).0;
+      no_hash = no_hash_first known.first known.begins;
     })
+  where
+    no_hash_first : (b : ℕ) → begins_no_name b ≡ false → (b == 35) ≡ false
+    no_hash_first b none = by (b == 35) (b == 33) (is_ascii_digit b) none
+      where
+        by : (x y z : Bool) → (x || y || z) ≡ false → x ≡ false
+        by true y z e = absurd (true≢false e)
+        by false y z e = refl
 
 pub line_text_is_read : LineTextIsRead
 unfolding line_of

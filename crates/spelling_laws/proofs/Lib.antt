@@ -1,3 +1,5 @@
 pub mod ByteLemmas
 pub mod ReadLemmas
 pub mod TextLemmas
+pub mod WayLemmas
+pub mod PathLemmas

@@ -20,6 +20,7 @@ use Rattle.profile_model.specs.Reading.{behind_spaces, is_passed}
 use Rattle.profile_model.specs.Standing.{depth_of}
 use Rattle.profile_model.specs.Text.{indent, line_text, location_text, named_text, target_text, text_of_lines}
 use Rattle.spelling_laws.specs.Lines.{CanBeTold, IsNamed}
+use Rattle.spelling_laws.specs.Told.{IsComment}
 use Rattle.spelling_laws.proofs.ByteLemmas.{Lacks, IsNoDigit, both_lack, decimal_lacks, name_lacks}
 use Rattle.spelling_laws.proofs.ReadLemmas.{Starts, behind_them, function_starts, named_apart, place_and_rest, place_lacks, place_starts}
 
@@ -125,10 +126,6 @@ kept_line line told =
     ∙ no_comment begins.text begins.starts
 
 -- ---- the lines of the text
-
--- a line that is passed over, without a line feed
-abbrev pub IsComment : List ℕ → Type 0
-IsComment line = HasNoLineFeed line × (is_passed line ≡ true)
 
 abbrev pub texts_of : List Line → List (List ℕ)
 texts_of lines = map line_text lines

@@ -17,14 +17,14 @@ use Rattle.profile_laws.proofs.TotalLemmas.{Among, among_append_left, among_appe
 use Rattle.profile_laws.specs.Counts.{CountTheSame, LinesAreByCounts}
 
 -- tests of names
-name_itself : (x : List ℕ) → same_name x x ≡ true
+pub name_itself : (x : List ℕ) → same_name x x ≡ true
 name_itself x = (bytes_decides x x).1 refl
 
 -- where an item of a list comes from
 Inside : {T : Type 0} → List T → List T → Type 0
 Inside {T} xs ys = (x : T) → Among x xs → Among x ys
 
-append_from : {T : Type 0} (x : T) (xs ys : List T) → Among x (xs ++ ys) → Among x xs ⊎ Among x ys
+pub append_from : {T : Type 0} (x : T) (xs ys : List T) → Among x (xs ++ ys) → Among x xs ⊎ Among x ys
 unfolding Among
 append_from x [] ys h = inr h
 append_from x (y ∷ xs) ys h = elim h as (λ _. ((x ≡ y) ⊎ Among x xs) ⊎ Among x ys) [
@@ -32,7 +32,7 @@ append_from x (y ∷ xs) ys h = elim h as (λ _. ((x ≡ y) ⊎ Among x xs) ⊎ 
   | inr r ↦ elim (append_from x xs ys r) as (λ _. ((x ≡ y) ⊎ Among x xs) ⊎ Among x ys) [ inl l ↦ inl (inr l) | inr m ↦ inr m ]
 ]
 
-map_from : {S T : Type 0} (f : S → T) (y : T) (xs : List S) → Among y (map f xs) → (x : S) × Among x xs × (y ≡ f x)
+pub map_from : {S T : Type 0} (f : S → T) (y : T) (xs : List S) → Among y (map f xs) → (x : S) × Among x xs × (y ≡ f x)
 unfolding Among
 map_from f y [] h = absurd h
 map_from {S} f y (x ∷ xs) h = elim h as (λ _. (z : S) × Among z (x ∷ xs) × (y ≡ f z)) [
@@ -40,7 +40,7 @@ map_from {S} f y (x ∷ xs) h = elim h as (λ _. (z : S) × Among z (x ∷ xs) �
   | inr r ↦ let found = map_from f y xs r in (found.0, inr found.1, found.2)
 ]
 
-filter_from : {T : Type 0} (p : T → Bool) (x : T) (xs : List T) → Among x (filter p xs) → (p x ≡ true) × Among x xs
+pub filter_from : {T : Type 0} (p : T → Bool) (x : T) (xs : List T) → Among x (filter p xs) → (p x ≡ true) × Among x xs
 unfolding Among
 filter_from p x [] h = absurd h
 filter_from {T} p x (y ∷ xs) h = elim (p y) as (λ b. p y ≡ b → Among x (cond b (y ∷ filter p xs) (filter p xs)) → (p x ≡ true) × Among x (y ∷ xs)) [
@@ -51,7 +51,7 @@ filter_from {T} p x (y ∷ xs) h = elim (p y) as (λ b. p y ≡ b → Among x (c
   | false ↦ λ _ g. let found = filter_from p x xs g in (found.0, inr found.1)
 ] refl h
 
-flat_from : {S T : Type 0} (f : S → List T) (x : T) (ys : List S) → Among x (flat_map f ys) → (y : S) × Among y ys × Among x (f y)
+pub flat_from : {S T : Type 0} (f : S → List T) (x : T) (ys : List S) → Among x (flat_map f ys) → (y : S) × Among y ys × Among x (f y)
 unfolding Among
 flat_from f x [] h = absurd h
 flat_from {S} f x (z ∷ ys) h = elim (append_from x (f z) (flat_map f ys) h) as (λ _. (y : S) × Among y (z ∷ ys) × Among x (f y)) [
@@ -80,7 +80,7 @@ ordered_alike {T} cmp t xs ys there back =
     only_ordered_is_in_order cmp t ys (ordered cmp xs) (record { ascending = in_order.ascending; same = λ x. in_order.same x ∙ alike x })
 
 -- sums over the items that pass a test
-kept_is_parts : {T : Type 0} (test : T → Bool) (weight : T → ℕ) (xs : List T) → sum_by weight (filter test xs) ≡ sum_by (λ x. cond (test x) (weight x) 0) xs
+pub kept_is_parts : {T : Type 0} (test : T → Bool) (weight : T → ℕ) (xs : List T) → sum_by weight (filter test xs) ≡ sum_by (λ x. cond (test x) (weight x) 0) xs
 kept_is_parts test weight [] = refl
 kept_is_parts {T} test weight (x ∷ xs) =
     elim (test x) as (λ b. sum_by weight (cond b (x ∷ filter test xs) (filter test xs)) ≡ cond b (weight x) 0 + sum_by part xs) [
@@ -122,7 +122,7 @@ counts_in test weight x xs h t =
     let least = weighed weight x (filter test xs) (among_filter test x xs t found.1) in
     omega arith
 
-counted : {T : Type 0} (test : T → Bool) (weight : T → ℕ) (xs : List T) → 0 < sum_by weight (filter test xs) → (x : T) × Among x (filter (λ y. nat_lt 0 (weight y)) xs) × (test x ≡ true)
+pub counted : {T : Type 0} (test : T → Bool) (weight : T → ℕ) (xs : List T) → 0 < sum_by weight (filter test xs) → (x : T) × Among x (filter (λ y. nat_lt 0 (weight y)) xs) × (test x ≡ true)
 counted test weight xs h =
     let found = heavy weight (filter test xs) h in
     let kept = filter_from test found.0 xs found.1 in

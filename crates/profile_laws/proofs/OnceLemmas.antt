@@ -42,7 +42,7 @@ apart_both tell (x ∷ items) more apart behind all =
 
 -- ---- the targets of a line
 
-or_neither : (a b : Bool) → (a || b) ≡ false → (a ≡ false) × (b ≡ false)
+pub or_neither : (a b : Bool) → (a || b) ≡ false → (a ≡ false) × (b ≡ false)
 or_neither true b none = absurd (true≢false none)
 or_neither false b none = (refl, none)
 
@@ -83,7 +83,7 @@ targets_apart before (called ∷ targets) none =
 
 -- ---- the numbers on a line
 
-abbrev of_targets : ℕ → Way → List (List ℕ × ℕ) → List Number
+abbrev pub of_targets : ℕ → Way → List (List ℕ × ℕ) → List Number
 of_targets at way targets = map (λ called. record { line = at; what = target way called.0; times = called.1 }) targets
 
 target_name : (way : Way) (x y : List ℕ) → target way x ≡ target way y → x ≡ y
@@ -113,12 +113,12 @@ line_apart at way (call_line depth offset disc name total) once = tt
 
 -- ---- the way of the line on which a number stands
 
-abbrev way_told : What → Way
+abbrev pub way_told : What → Way
 way_told (head name) = to_function name ∷ []
 way_told (count way) = way
 way_told (target way name) = way
 
-nothing_above : (before : List Line) → way_above before 0 ≡ []
+pub nothing_above : (before : List Line) → way_above before 0 ≡ []
 unfolding way_above
 nothing_above [] = refl
 nothing_above (line ∷ before) = rw (le-ltb (depth_of line) 0 (omega arith)) (nothing_above before)

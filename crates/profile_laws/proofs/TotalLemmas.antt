@@ -210,7 +210,7 @@ next_length way w e = nat_same (length w) (suc (length way)) (and_second (leads_
 next_leads : (way w : Way) → is_next way w ≡ true → leads_to way w ≡ true
 next_leads way w e = and_first (leads_to way w) (length w == suc (length way)) e
 
-written_ascends : (p : Profile) → IsStrictlySortedBy (way_cmp (total_of_function p)) (written p)
+pub written_ascends : (p : Profile) → IsStrictlySortedBy (way_cmp (total_of_function p)) (written p)
 written_ascends p = (ordered_is_in_order (way_cmp (total_of_function p)) (ways_tell_apart (total_of_function p)) (flat_map beginnings (recorded p ++ entered p))).ascending
 
 recorded_is_written : (p : Profile) (k x : Way) → Among k (recorded p) → Among x (beginnings k) → Among x (written p)

@@ -10,6 +10,7 @@ use Rattle.std.proofs.lemmas.Bool.Decides.{nat_tests}
 use Rattle.std.proofs.lemmas.Fmt.{decimal_is_IsNumeral_wide}
 use Rattle.std.proofs.lemmas.List.Elements.{All-from_recursion}
 use Rattle.std.proofs.lemmas.List.Splits.{slice_split_at, slice_split_none}
+use Rattle.profile_laws.proofs.OnceLemmas.{or_neither}
 use Rattle.profile_model.specs.Names.{begins_no_name, is_name, parts_names}
 use Rattle.profile_model.specs.Reading.{parts_at}
 
@@ -34,10 +35,6 @@ numeral_of n small = (decimal_is_IsNumeral_wide n (omega (arith, small))).0
 
 pub decimal_lacks : (c n : ℕ) → IsNoDigit c → n < 2 ^ 64 → Lacks c (decimal n)
 decimal_lacks c n none small = digits_lack c none (decimal n) (numeral_of n small).1
-
-or_neither : (a b : Bool) → (a || b) ≡ false → (a ≡ false) × (b ≡ false)
-or_neither true b none = absurd (true≢false none)
-or_neither false b none = (refl, none)
 
 name_parts : (c : ℕ) → parts_names c ≡ true → (bytes : List ℕ) → list_any parts_names bytes ≡ false → Lacks c bytes
 name_parts c is [] none = tt

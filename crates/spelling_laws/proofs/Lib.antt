@@ -3,3 +3,5 @@ pub mod ReadLemmas
 pub mod TextLemmas
 pub mod WayLemmas
 pub mod PathLemmas
+pub mod OrderLemmas
+pub mod LineLemmas

@@ -12,6 +12,7 @@ use Rattle.std.proofs.lemmas.Cmp.{tied_itself}
 use Rattle.profile_model.specs.Profile.{Profile, Line, line_at}
 use Rattle.profile_model.specs.Standing.{depth_of, step_of, encloses, encloses_if_any, line_above, can_stand, way_above, way_of, ways_of}
 use Rattle.profile_model.specs.Ways.{Step, Way, last_step}
+use Rattle.profile_laws.proofs.OnceLemmas.{nothing_above}
 use Rattle.profile_laws.proofs.TotalLemmas.{Among}
 use Rattle.spelling_laws.proofs.WayLemmas.{IsLineWay, but_last, but_last_length, joined, depth_is, step_is, encloses_is}
 
@@ -65,7 +66,7 @@ abbrev pub Descend : (Way → Way → Ordering) → List Way → Type 0
 Descend cmp [] = ⊤
 Descend cmp (way ∷ ways) = AllByRecursion (λ x. cmp x way ≡ Less) ways × Descend cmp ways
 
-all_among : {T : Type 0} (P : T → Type 0) (x : T) (xs : List T) → AllByRecursion P xs → Among x xs → P x
+pub all_among : {T : Type 0} (P : T → Type 0) (x : T) (xs : List T) → AllByRecursion P xs → Among x xs → P x
 unfolding Among
 all_among P x [] all there = absurd there
 all_among P x (y ∷ xs) all there = elim there as (λ _. P x) [ inl e ↦ subst P (sym e) all.0 | inr r ↦ all_among P x xs all.1 r ]
@@ -80,11 +81,6 @@ opens cmp o v s (x ∷ ways) down before there = elim there as (λ _. OpensAt v 
 ]
 
 -- ---- the lines of ways that have what they go on from open
-
-pub nothing_above : (before : List Line) → way_above before 0 ≡ []
-unfolding way_above
-nothing_above [] = refl
-nothing_above (line ∷ before) = rw (le-ltb (depth_of line) 0 (omega arith)) (nothing_above before)
 
 -- the lines of ways
 abbrev pub lines : Profile → List Way → List Line

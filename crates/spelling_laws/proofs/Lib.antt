@@ -5,3 +5,4 @@ pub mod WayLemmas
 pub mod PathLemmas
 pub mod OrderLemmas
 pub mod LineLemmas
+pub mod CountLemmas

@@ -51,7 +51,7 @@ any_file file other before (line ∷ lines) good =
 abbrev pub Fits : ℕ → Profile → Number → Type 0
 Fits w before number = w * number.times + number_in before number.what < 2 ^ 64
 
-sums_good : (file w : ℕ) (before : Profile) (numbers : List Number) → All (Fits w before) numbers → first_bad (sum_items file w before numbers) ≡ None
+pub sums_good : (file w : ℕ) (before : Profile) (numbers : List Number) → All (Fits w before) numbers → first_bad (sum_items file w before numbers) ≡ None
 unfolding sum_items
 sums_good file w before [] fit = refl
 sums_good file w before (n ∷ ns) fit =

@@ -6,3 +6,4 @@ pub mod PathLemmas
 pub mod OrderLemmas
 pub mod LineLemmas
 pub mod CountLemmas
+pub mod BackLemmas

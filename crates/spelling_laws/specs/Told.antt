@@ -2,8 +2,10 @@
 use Rattle.std.specs.Prelude.{◌≡◌, ◌<◌, ◌≤◌, ℕ, ◌^◌, Bool, true, nat_lt, List, [], ◌∷◌, ◌++◌, filter, flat_map, length, None}
 use Rattle.std.specs.List.{AllByRecursion}
 use Rattle.text_model.specs.Laws.{HasNoLineFeed, ended}
+use Rattle.merge_laws.specs.Orders.{AreGoodTexts}
 use Rattle.profile_laws.specs.Counts.{CountTheSame}
 use Rattle.profile_model.specs.Judging.{first_bad_of_profile}
+use Rattle.profile_model.specs.Merge.{merge_text}
 use Rattle.profile_model.specs.Names.{is_name}
 use Rattle.profile_model.specs.Profile.{Profile, count_of, target_of, head_of, entered, recorded}
 use Rattle.profile_model.specs.Reading.{is_passed}
@@ -62,3 +64,9 @@ abbrev pub TextIsReadBack : Type 0
 TextIsReadBack =
     (p : Profile) (comments : List (List ℕ)) (file : ℕ) → CanBeWritten p → AllByRecursion IsComment comments
     → (first_bad_of_profile file (text_with p comments) ≡ None) × CountTheSame (spelled (text_with p comments)) p
+
+-- So a merge of that text alone is good, and writes the profile's text again.
+abbrev pub MergeWritesAgain : Type 0
+MergeWritesAgain =
+    (p : Profile) (comments : List (List ℕ)) → CanBeWritten p → AllByRecursion IsComment comments
+    → AreGoodTexts ((1, text_with p comments) ∷ []) × (merge_text ((1, text_with p comments) ∷ []) ≡ profile_text p)

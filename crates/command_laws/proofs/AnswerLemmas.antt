@@ -71,25 +71,25 @@ accepted edges binary base sampled blocks text built sound small =
 -- ---- the answers
 
 -- A command that writes has its files.
-record HasFile (k : ℕ) (bytes : Option (List ℕ)) (judge : List ℕ → Option Place) (next : List ℕ → Answer) (answer : Answer) : Type 0 where
-  file : List ℕ
-  there : bytes ≡ Some file
-  good : judge file ≡ None
-  then : next file ≡ answer
+pub record HasFile (k : ℕ) (bytes : Option (List ℕ)) (judge : List ℕ → Option Place) (next : List ℕ → Answer) (answer : Answer) : Type 0 where
+  pub file : List ℕ
+  pub there : bytes ≡ Some file
+  pub good : judge file ≡ None
+  pub then : next file ≡ answer
 
 went_on : (k : ℕ) (bad : Option Place) (next : Answer) (command : Command) (contents : List (List ℕ)) → unless_bad k bad next ≡ writes command contents
     → (bad ≡ None) × (next ≡ writes command contents)
 went_on k None next command contents is = (refl, is)
 went_on k (Some place) next command contents is = absurd cc
 
-has_file : (k : ℕ) (bytes : Option (List ℕ)) (judge : List ℕ → Option Place) (next : List ℕ → Answer) (command : Command) (contents : List (List ℕ))
+pub has_file : (k : ℕ) (bytes : Option (List ℕ)) (judge : List ℕ → Option Place) (next : List ℕ → Answer) (command : Command) (contents : List (List ℕ))
     → with_file k bytes judge next ≡ writes command contents → HasFile k bytes judge next (writes command contents)
 has_file k None judge next command contents is = absurd cc
 has_file k (Some file) judge next command contents is =
     let on = went_on k (judge file) (next file) command contents is in
     record { file = file; there = refl; good = on.0; then = on.1 }
 
-same_contents : (command other : Command) (contents found : List (List ℕ)) → writes command found ≡ writes other contents → found ≡ contents
+pub same_contents : (command other : Command) (contents found : List (List ℕ)) → writes command found ≡ writes other contents → found ≡ contents
 same_contents command other contents found is = cc
 
 good_size : (text : List ℕ) → length text ≤ max_repair_bytes → size_item 2 max_repair_bytes text ≡ None

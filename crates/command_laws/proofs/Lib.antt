@@ -3,3 +3,4 @@ pub mod BlockLemmas
 pub mod LineLemmas
 pub mod NameLemmas
 pub mod RepairLemmas
+mod MergedLemmas

@@ -3,7 +3,7 @@ use Rattle.std.proofs.Common.{◌≡◌, ℕ, zero, suc, ◌+◌, ◌-◌, ◌/�
 use Rattle.std.specs.Prelude.{◌==◌, nat_eq, nat_lt, codes, ⊤, if◌then◌else◌}
 use Rattle.std.specs.Cmp.Lexicographic.{pointwise}
 use Rattle.std.specs.Fmt.{digit_glyph, digits, digits_onto}
-use Rattle.std.specs.List.{AllByRecursion, cons_option, filter_map, flat_map, list_any}
+use Rattle.std.specs.List.{AllByRecursion, cons_option, filter_map, flat_map, list_any, starts_with}
 use Rattle.std.specs.Option.{option_map}
 use Rattle.std.proofs.lemmas.Bool.{ne_eqb}
 use Rattle.std.proofs.lemmas.Grind.{flat_map-append}
@@ -11,9 +11,11 @@ use Rattle.std.proofs.lemmas.List.{append-nil}
 use Rattle.std.proofs.lemmas.List.Folds.{list_any-append}
 use Rattle.text_model.specs.Laws.{HasNoLineFeed, ended}
 use Rattle.text_model.specs.Lines.{is_line_feed}
+use Rattle.text_model.specs.LineTests.{is_blank_line}
 use Rattle.text_model.specs.Numbers.{decimal_text, hex_text}
 use Rattle.profile_model.specs.Orders.{target_cmp, way_cmp}
 use Rattle.profile_model.specs.Profile.{Line, Profile, body_line, call_line, function_line, entered, line_at, line_by, lines_of, recorded, targets_of, total_of_function, written}
+use Rattle.profile_model.specs.Reading.{behind_spaces, is_passed}
 use Rattle.profile_model.specs.Text.{disc_text, indent, line_text, location_text, named_text, profile_text, target_text, text_of_lines}
 use Rattle.profile_model.specs.Ways.{Kind, Step, Way, beginnings, body, call, function, last_step}
 use Rattle.profile_tree.proofs.ListLemmas.{SomeAll, all_append, all_beginnings, all_ordered}
@@ -25,34 +27,45 @@ use Rattle.report_model.specs.Report.{Classes, Sampled, branches_text, lines_for
 use Rattle.output_model.specs.Program.{Program, program_of, way_at, way_of_place}
 use Rattle.output_model.specs.Sampled.{all_addresses, call_by, call_of, count_among, head_of as entry_of, profile_among, profile_of, ways_among}
 use Rattle.binary_model.specs.Places.{Place, at_way, nameless, no_line, outside}
+use Rattle.spelling_laws.specs.Told.{IsComment}
 use Rattle.command_laws.proofs.NameLemmas.{BeginsOther, IsClean, IsCleanIfAny, IsCleanPlace, entries_clean, places_clean}
 
 -- ---- texts of such lines
 
-pub record AreLines (text : List ℕ) : Type 0 where
+pub record AreLinesOf (P : List ℕ → Type 0) (text : List ℕ) : Type 0 where
   pub lines : List (List ℕ)
   pub joined : text ≡ flat_map ended lines
-  pub passed : AllByRecursion IsPassedOver lines
+  pub passed : AllByRecursion P lines
 
-pub no_lines : AreLines []
+abbrev pub AreLines : List ℕ → Type 0
+AreLines = AreLinesOf IsPassedOver
+
+pub no_lines : {P : List ℕ → Type 0} → AreLinesOf P []
 no_lines = record { lines = []; joined = refl; passed = tt }
 
-pub one_line : (line : List ℕ) → IsPassedOver line → AreLines (ended line)
+pub one_line : {P : List ℕ → Type 0} (line : List ℕ) → P line → AreLinesOf P (ended line)
 one_line line passed = record { lines = line ∷ []; joined = sym (append-nil (ended line)); passed = (passed, tt) }
 
-pub both_lines : (one other : List ℕ) → AreLines one → AreLines other → AreLines (one ++ other)
-both_lines one other are also = record {
+pub both_lines : {P : List ℕ → Type 0} (one other : List ℕ) → AreLinesOf P one → AreLinesOf P other → AreLinesOf P (one ++ other)
+both_lines {P} one other are also = record {
   lines = are.lines ++ also.lines;
   joined = ap (λ t. t ++ other) are.joined ∙ ap (λ t. flat_map ended are.lines ++ t) also.joined ∙ sym (flat_map-append ended are.lines also.lines);
-  passed = all_append IsPassedOver are.lines also.lines are.passed also.passed;
+  passed = all_append P are.lines also.lines are.passed also.passed;
 }
 
-each_lines : {X : Type 0} (f : X → List ℕ) (xs : List X) → ((x : X) → AreLines (f x)) → AreLines (flat_map f xs)
+each_lines : {P : List ℕ → Type 0} {X : Type 0} (f : X → List ℕ) (xs : List X) → ((x : X) → AreLinesOf P (f x)) → AreLinesOf P (flat_map f xs)
 each_lines f [] are = no_lines
 each_lines f (x ∷ xs) are = both_lines (f x) (flat_map f xs) (are x) (each_lines f xs are)
 
-same_lines : (one other : List ℕ) → other ≡ one → AreLines one → AreLines other
-same_lines one other same are = subst AreLines (sym same) are
+same_lines : {P : List ℕ → Type 0} (one other : List ℕ) → other ≡ one → AreLinesOf P one → AreLinesOf P other
+same_lines {P} one other same are = subst (AreLinesOf P) (sym same) are
+
+weaker : {P Q : List ℕ → Type 0} (text : List ℕ) → ((line : List ℕ) → P line → Q line) → AreLinesOf P text → AreLinesOf Q text
+weaker {P} {Q} text gives are = record { lines = are.lines; joined = are.joined; passed = each are.lines are.passed }
+  where
+    each : (lines : List (List ℕ)) → AllByRecursion P lines → AllByRecursion Q lines
+    each [] all = tt
+    each (line ∷ lines) all = (gives line all.0, each lines all.1)
 
 -- ---- no line feed
 
@@ -333,11 +346,24 @@ profile_passed binary base sampled =
 
 -- ---- reports
 
-branch_lines : (classes : Classes) (sampled : Sampled) → AreLines (branches_text classes sampled)
+-- A line of a report begins with `#`, and begins no function.
+abbrev BeginsHash : List ℕ → Type 0
+BeginsHash [] = ⊥
+BeginsHash (b ∷ bytes) = b ≡ 35
+
+record IsReportLine (line : List ℕ) : Type 0 where
+  hash : BeginsHash line
+  other : begins_function line ≡ false
+  clean : HasNoLineFeed line
+
+abbrev AreReported : List ℕ → Type 0
+AreReported = AreLinesOf IsReportLine
+
+branch_lines : (classes : Classes) (sampled : Sampled) → AreReported (branches_text classes sampled)
 branch_lines classes sampled =
-    both_lines (number_line (codes "branches") _) _ (one_line (codes "# branches " ++ decimal_text _) (record { other = refl; clean = number_clean _ }))
-    (both_lines (number_line (codes "entries") _) _ (one_line (codes "# entries " ++ decimal_text _) (record { other = refl; clean = number_clean _ }))
-    (both_lines (number_line (codes "inside") _) _ (one_line (codes "# inside " ++ decimal_text _) (record { other = refl; clean = number_clean _ }))
+    both_lines (number_line (codes "branches") _) _ (one_line (codes "# branches " ++ decimal_text _) (record { hash = refl; other = refl; clean = number_clean _ }))
+    (both_lines (number_line (codes "entries") _) _ (one_line (codes "# entries " ++ decimal_text _) (record { hash = refl; other = refl; clean = number_clean _ }))
+    (both_lines (number_line (codes "inside") _) _ (one_line (codes "# inside " ++ decimal_text _) (record { hash = refl; other = refl; clean = number_clean _ }))
     (each_lines (lines_for classes sampled) reasons (λ reason. each_lines _ (unmapped_for classes sampled reason) (λ branch. unmapped reason branch _)))))
   where
     word_clean : (reason : Reason) → HasNoLineFeed (word_of reason)
@@ -347,29 +373,46 @@ branch_lines classes sampled =
     word_clean ToOutside = refl
     word_clean ToNameless = refl
 
-    unmapped : (reason : Reason) (branch : ℕ × ℕ) (times : ℕ) → AreLines (unmapped_line reason branch times)
+    unmapped : (reason : Reason) (branch : ℕ × ℕ) (times : ℕ) → AreReported (unmapped_line reason branch times)
     unmapped reason branch times =
         let line = codes "# unmapped " ++ (word_of reason ++ (codes " " ++ (hex_text branch.0 ++ (codes " " ++ (hex_text branch.1 ++ (codes " " ++ decimal_text times)))))) in
         same_lines (ended line) (unmapped_line reason branch times) (sym (simp append_assoc))
         (one_line line (record {
+          hash = refl;
           other = refl;
           clean = both_clean (word_of reason) _ (word_clean reason) (both_clean (hex_text branch.0) _ (hex_clean branch.0) (both_clean (hex_text branch.1) _ (hex_clean branch.1) (number_clean times)));
         }))
 
-range_lines : (classes : Classes) (sampled : Sampled) → AreLines (ranges_text classes sampled)
+range_lines : (classes : Classes) (sampled : Sampled) → AreReported (ranges_text classes sampled)
 range_lines classes sampled =
-    both_lines (number_line (codes "ranges ran") _) _ (one_line (codes "# ranges ran " ++ decimal_text _) (record { other = refl; clean = number_clean _ }))
-    (both_lines (number_line (codes "ranges reversed") _) _ (one_line (codes "# ranges reversed " ++ decimal_text _) (record { other = refl; clean = number_clean _ }))
-    (both_lines (number_line (codes "ranges outside") _) _ (one_line (codes "# ranges outside " ++ decimal_text _) (record { other = refl; clean = number_clean _ }))
-    (one_line (codes "# ranges crossing " ++ decimal_text _) (record { other = refl; clean = number_clean _ }))))
+    both_lines (number_line (codes "ranges ran") _) _ (one_line (codes "# ranges ran " ++ decimal_text _) (record { hash = refl; other = refl; clean = number_clean _ }))
+    (both_lines (number_line (codes "ranges reversed") _) _ (one_line (codes "# ranges reversed " ++ decimal_text _) (record { hash = refl; other = refl; clean = number_clean _ }))
+    (both_lines (number_line (codes "ranges outside") _) _ (one_line (codes "# ranges outside " ++ decimal_text _) (record { hash = refl; other = refl; clean = number_clean _ }))
+    (one_line (codes "# ranges crossing " ++ decimal_text _) (record { hash = refl; other = refl; clean = number_clean _ }))))
 
-unit_lines : (sampled : Sampled) → AreLines (units_text sampled)
+unit_lines : (sampled : Sampled) → AreReported (units_text sampled)
 unit_lines sampled =
     let line = codes "# units read " ++ (decimal_text sampled.units_read ++ (codes " passed " ++ decimal_text sampled.units_passed)) in
     same_lines (ended line) (units_text sampled) (sym (simp append_assoc))
-    (one_line line (record { other = refl; clean = both_clean (decimal_text sampled.units_read) _ (number_clean sampled.units_read) (number_clean sampled.units_passed) }))
+    (one_line line (record { hash = refl; other = refl; clean = both_clean (decimal_text sampled.units_read) _ (number_clean sampled.units_read) (number_clean sampled.units_passed) }))
+
+report_lines : (classes : Classes) (sampled : Sampled) → AreReported (report_text classes sampled)
+unfolding report_text
+report_lines classes sampled =
+    both_lines (branches_text classes sampled) _ (branch_lines classes sampled) (both_lines (ranges_text classes sampled) _ (range_lines classes sampled) (unit_lines sampled))
 
 pub report_passed : (classes : Classes) (sampled : Sampled) → AreLines (report_text classes sampled)
-unfolding report_text
-report_passed classes sampled =
-    both_lines (branches_text classes sampled) _ (branch_lines classes sampled) (both_lines (ranges_text classes sampled) _ (range_lines classes sampled) (unit_lines sampled))
+report_passed classes sampled = weaker (report_text classes sampled) (λ line is. record { other = is.other; clean = is.clean }) (report_lines classes sampled)
+
+-- A profile text passes them over too.
+comment : (line : List ℕ) → IsReportLine line → IsComment line
+unfolding is_passed
+comment [] is = absurd is.hash
+comment (b ∷ bytes) is = (is.clean, subst (λ (c : ℕ). (is_blank_line (c ∷ bytes) || starts_with nat_eq (behind_spaces (c ∷ bytes)) (codes "#")) ≡ true) (sym is.hash) (either (is_blank_line (35 ∷ bytes))))
+  where
+    either : (t : Bool) → (t || true) ≡ true
+    either true = refl
+    either false = refl
+
+pub report_comments : (classes : Classes) (sampled : Sampled) → AreLinesOf IsComment (report_text classes sampled)
+report_comments classes sampled = weaker (report_text classes sampled) comment (report_lines classes sampled)

@@ -1,8 +1,16 @@
 // How one command answers what another one wrote.
 ghost use Rattle.command_laws.specs.Laws.{BuiltIsAccepted};
+ghost use Rattle.command_laws.specs.Merged.{ProfiledIsMerged};
 
 /// Where `build` may write a text of at most 2^28 bytes, `check` accepts it with the same block
 /// text: neither file has a bad place, and no line fails its test.
 pub fn what_build_writes_is_accepted()
     ensures { BuiltIsAccepted }
+{}
+
+/// Where `profile` may write a text of at most 2^28 bytes, `merge` of that text alone, with weight 1,
+/// writes its profile lines again: as far as lines can tell the profile, as no inlining is deeper
+/// than 256.
+pub fn what_profile_writes_is_merged()
+    ensures { ProfiledIsMerged }
 {}

@@ -1,0 +1,57 @@
+-- What `merge` answers where `profile` may write the text.
+use Rattle.std.proofs.Common.{◌≡◌, ℕ, ◌+◌, ◌≤◌, ◌^◌, Bool, true, false, ◌||◌, List, [], ◌∷◌, ◌++◌, length, drop, map, Option, None, Some, nat_eq, refl, arith, sym, ap, ◌∙◌, subst, append_assoc}
+use Rattle.std.specs.Prelude.{codes}
+use Rattle.std.specs.List.{AllByRecursion, flat_map, starts_with}
+use Rattle.std.proofs.lemmas.Bool.{le-ltb}
+use Rattle.refusal.specs.declared.place.Place.{Place}
+use Rattle.refusal.specs.Place.{size_item}
+use Rattle.io_edge.specs.Inputs.{Store}
+use Rattle.text_model.specs.Laws.{HasNoLineFeed, ended}
+use Rattle.text_model.specs.Lines.{lines_of}
+use Rattle.text_model.specs.LineTests.{is_blank_line}
+use Rattle.profile_model.specs.Merge.{first_bad_of_summed, merge_text, merged}
+use Rattle.profile_model.specs.Profile.{Profile}
+use Rattle.profile_model.specs.Reading.{behind_spaces, is_passed}
+use Rattle.profile_model.specs.Text.{profile_text}
+use Rattle.spelling_laws.proofs.BackLemmas.{merge_writes_again}
+use Rattle.spelling_laws.specs.Told.{CanBeWritten, IsComment, text_with}
+use Rattle.report_model.specs.Report.{Classes, Sampled, report_text}
+use Rattle.output_model.specs.Output.{loading_of, output_text, sampled_by}
+use Rattle.output_model.specs.Program.{Program, program_of}
+use Rattle.output_model.specs.Sampled.{classes_of, profile_of}
+use Rattle.command_model.specs.Answer.{Answer, answer_of_command, writes}
+use Rattle.command_model.specs.Command.{Command, merge, profile}
+use Rattle.command_model.specs.Files.{IsOutput, file_at, first_bad_of_part, max_profile_bytes}
+use Rattle.command_model.specs.Options.{Options}
+use Rattle.command_laws.specs.Merged.{ProfiledIsMerged, profiled}
+use Rattle.command_laws.proofs.AnswerLemmas.{HasFile, has_file, same_contents}
+use Rattle.command_laws.proofs.LineLemmas.{AreLinesOf, report_comments}
+
+good_size : (text : List ℕ) → length text ≤ max_profile_bytes → size_item 1 max_profile_bytes text ≡ None
+good_size text small = rw (le-ltb max_profile_bytes (length text) small) refl
+
+good_part : (text : List ℕ) → length text ≤ max_profile_bytes → first_bad_of_summed 1 1 (merged []) text ≡ None → first_bad_of_part 1 1 (merged []) text ≡ None
+unfolding first_bad_of_part
+good_part text small good = rw (good_size text small, good) refl
+
+merges : (files : Store) (out text : List ℕ) → files out ≡ Some text → first_bad_of_part 1 1 (merged []) text ≡ None
+    → answer_of_command files (merge ((1, out) ∷ [])) ≡ writes (merge ((1, out) ∷ [])) (text ∷ [])
+merges files out text there good = rw (there, good) refl
+
+-- The text is the profile's, with the report's lines behind it.
+told_with : (program : Program) (sampled : Sampled) (text : List ℕ) → text ≡ output_text program sampled
+    → (comments : AreLinesOf IsComment (report_text (classes_of program) sampled)) → text ≡ text_with (profile_of program sampled) comments.lines
+unfolding output_text
+told_with program sampled text is comments = is ∙ ap (λ report. profile_text (profile_of program sampled) ++ report) comments.joined
+
+pub profiled_is_merged : ProfiledIsMerged
+profiled_is_merged files options bin perf out contents text again answers may small can there =
+    let program = program_of (file_at 0 contents) options.base in
+    let sampled = sampled_by (loading_of options.map (file_at 0 contents)) (file_at 0 contents) (lines_of (file_at 1 contents)) in
+    let comments = report_comments (classes_of program) sampled in
+    let is : text ≡ text_with (profile_of program sampled) comments.lines = told_with program sampled text may comments in
+    let law = merge_writes_again (profile_of program sampled) comments.lines can comments.passed in
+    (
+      merges files out text there (good_part text small (subst (λ t. first_bad_of_summed 1 1 (merged []) t ≡ None) (sym is) law.0.0)),
+      λ wrote. wrote ∙ ap (λ t. merge_text ((1, t) ∷ [])) is ∙ law.1,
+    )

@@ -1,0 +1,6 @@
+//! What holds of each binary and its samples: that the lines of a profile can tell its ways and counts.
+#![tactic(auto)]
+
+mod laws;
+
+pub use laws::rows_have_discriminators;

@@ -1,3 +1,6 @@
 pub mod RowLemmas
 pub mod NameLemmas
 pub mod PlaceLemmas
+pub mod SampleLemmas
+pub mod CountLemmas
+pub mod ToldLemmas

@@ -1,0 +1,160 @@
+-- The profile of a binary and a good branch text can be told.
+use Rattle.std.proofs.Common.{◌≡◌, ◌⊎◌, ◌<◌, ◌≤◌, ◌^◌, ℕ, suc, ◌&&◌, nat_lt, Bool, true, false, cond, List, [], ◌∷◌, ◌++◌, filter, filter_map, length, map, Option, None, Some, option_map, refl, sym, ap, subst, ◌∙◌, inl, inr, arith}
+use Rattle.std.specs.Prelude.{⊤}
+use Rattle.std.specs.List.{AllByRecursion, cons_option}
+use Rattle.std.specs.declared.cmp.Ordering.{Ordering}
+use Rattle.std.specs.declared.cmp.Ordering.TheVariants.{Less, Equal, Greater}
+use Rattle.std.proofs.ByRecursion.{All-append}
+use Rattle.text_model.specs.Lines.{lines_of}
+use Rattle.profile_model.proofs.OrderLemmas.{ways_tell_apart}
+use Rattle.profile_model.proofs.OrderedLemmas.{ordered_is_in_order}
+use Rattle.profile_model.specs.Names.{is_name}
+use Rattle.profile_model.specs.Orders.{ordered, placed, way_cmp, with_item}
+use Rattle.profile_model.specs.Profile.{Profile, count_of, entered, head_of, recorded, target_of}
+use Rattle.profile_model.specs.Ways.{Step, Way, to_function}
+use Rattle.report_model.specs.Report.{Sampled}
+use Rattle.sample_model.specs.Judging.{first_bad_of_text}
+use Rattle.sample_model.specs.Moves.{branches_by, ranges_by}
+use Rattle.spelling_laws.specs.Told.{CanBeWritten, IsFunctionWay, IsToldWay}
+use Rattle.binary_model.specs.Places.{Place, at_way, nameless, no_line, outside}
+use Rattle.output_model.specs.Output.{loading_of, sampled_by}
+use Rattle.output_model.specs.Program.{Program, program_of, way_at, way_of_place}
+use Rattle.output_model.specs.Sampled.{all_addresses, call_by, call_of, count_among, head_of as entry_of, profile_among, profile_of, ways_among}
+use Rattle.way_laws.specs.Told.{IsShallow, ProfilesCanBeTold, profiled}
+use Rattle.way_laws.proofs.CountLemmas.{calls_few, count_low, heads_few, own_count}
+use Rattle.way_laws.proofs.NameLemmas.{IsNameIfAny}
+use Rattle.way_laws.proofs.PlaceLemmas.{IsDeepWay, IsToldPlace, entries_are_named, places_are_told}
+use Rattle.way_laws.proofs.SampleLemmas.{branches_are_few, branches_by_few, ranges_by_few}
+
+-- ---- lists
+
+either_all : {X : Type 0} (P : X → Type 0) (b : Bool) (xs ys : List X) → AllByRecursion P xs → AllByRecursion P ys → AllByRecursion P (cond b xs ys)
+either_all P true xs ys one other = one
+either_all P false xs ys one other = other
+
+filtered : {X : Type 0} (P : X → Type 0) (test : X → Bool) (xs : List X) → AllByRecursion P xs → AllByRecursion P (filter test xs)
+filtered P test [] all = tt
+filtered P test (x ∷ xs) all = let rest = filtered P test xs all.1 in either_all P (test x) (x ∷ filter test xs) (filter test xs) (all.0, rest) rest
+
+mapped : {X Y : Type 0} (P : X → Type 0) (Q : Y → Type 0) (f : X → Y) (xs : List X) → ((x : X) → P x → Q (f x)) → AllByRecursion P xs → AllByRecursion Q (map f xs)
+mapped P Q f [] gives all = tt
+mapped P Q f (x ∷ xs) gives all = (gives x all.0, mapped P Q f xs gives all.1)
+
+abbrev OfSome : {X : Type 0} → (X → Type 0) → Option X → Type 0
+OfSome P None = ⊤
+OfSome P (Some x) = P x
+
+one_found : {X : Type 0} (P : X → Type 0) (o : Option X) (xs : List X) → OfSome P o → AllByRecursion P xs → AllByRecursion P (cons_option o xs)
+one_found P None xs is all = all
+one_found P (Some x) xs is all = (is, all)
+
+found : {X Y : Type 0} (P : Y → Type 0) (f : X → Option Y) (xs : List X) → ((x : X) → OfSome P (f x)) → AllByRecursion P (filter_map f xs)
+found P f [] gives = tt
+found P f (x ∷ xs) gives = one_found P (f x) (filter_map f xs) (gives x) (found P f xs gives)
+
+placed_all : {X : Type 0} (P : X → Type 0) (r : Ordering) (x y : X) (items more : List X) → P x → AllByRecursion P (y ∷ items) → AllByRecursion P more → AllByRecursion P (placed r x y items more)
+placed_all P Less x y items more is all also = (is, all)
+placed_all P Equal x y items more is all also = all
+placed_all P Greater x y items more is all also = (all.0, also)
+
+with_all : {X : Type 0} (P : X → Type 0) (cmp : X → X → Ordering) (x : X) (items : List X) → P x → AllByRecursion P items → AllByRecursion P (with_item cmp x items)
+with_all P cmp x [] is all = (is, tt)
+with_all P cmp x (y ∷ items) is all = placed_all P (cmp x y) x y items (with_item cmp x items) is all (with_all P cmp x items is all.1)
+
+ordered_all : {X : Type 0} (P : X → Type 0) (cmp : X → X → Ordering) (items : List X) → AllByRecursion P items → AllByRecursion P (ordered cmp items)
+ordered_all P cmp [] all = tt
+ordered_all P cmp (x ∷ items) all = with_all P cmp x (ordered cmp items) all.0 (ordered_all P cmp items all.1)
+
+-- ---- ways, calls and entries of a binary
+
+way_told : (place : Place) → IsToldPlace place → OfSome IsDeepWay (way_of_place place)
+way_told outside is = tt
+way_told nameless is = tt
+way_told no_line is = tt
+way_told (at_way way) is = is
+
+abbrev IsCall : Way × List ℕ × ℕ → Type 0
+IsCall c = IsDeepWay c.0 × (is_name c.1 ≡ true)
+
+module _ (file : List ℕ) (base : Bool) where
+  program : Program
+  program = program_of file base
+
+  way_is : (address : ℕ) → OfSome IsDeepWay (way_at (program_of file base) address)
+  way_is address = way_told _ (places_are_told file base address)
+
+  ways_are : (addresses : List ℕ) → AllByRecursion IsDeepWay (ways_among addresses (program_of file base))
+  ways_are addresses =
+      ordered_all IsDeepWay (way_cmp (λ _. 0)) (filter_map (way_at (program_of file base)) addresses) (found IsDeepWay (way_at (program_of file base)) addresses way_is)
+
+  call_is : (way : Option Way) (name : Option (List ℕ)) → OfSome IsDeepWay way → IsNameIfAny name → OfSome IsCall (call_by way name)
+  call_is None name is named = tt
+  call_is (Some way) None is named = tt
+  call_is (Some way) (Some name) is named = (is, named)
+
+  calls_are : (branches : List (ℕ × ℕ)) → AllByRecursion IsCall (filter_map (call_of (program_of file base)) branches)
+  calls_are branches = found IsCall (call_of (program_of file base)) branches each
+    where
+      each : (branch : ℕ × ℕ) → OfSome IsCall (call_of (program_of file base) branch)
+      each (from, to) = call_is _ _ (way_is from) (entries_are_named file to)
+
+  head_is : (name : Option (List ℕ)) → IsNameIfAny name → OfSome (λ (h : List ℕ × ℕ). is_name h.0 ≡ true) (option_map (λ name. (name, 1)) name)
+  head_is None named = tt
+  head_is (Some name) named = named
+
+  heads_are : (branches : List (ℕ × ℕ)) → AllByRecursion (λ (h : List ℕ × ℕ). is_name h.0 ≡ true) (filter_map (entry_of (program_of file base)) branches)
+  heads_are branches = found (λ (h : List ℕ × ℕ). is_name h.0 ≡ true) (entry_of (program_of file base)) branches each
+    where
+      each : (branch : ℕ × ℕ) → OfSome (λ (h : List ℕ × ℕ). is_name h.0 ≡ true) (entry_of (program_of file base) branch)
+      each (from, to) = head_is _ (entries_are_named file to)
+
+  among : List ℕ → Sampled → Profile
+  among addresses sampled = profile_among addresses (program_of file base) sampled
+
+  recorded_are : (addresses : List ℕ) (sampled : Sampled) → AllByRecursion IsDeepWay (recorded (profile_among addresses (program_of file base) sampled))
+  recorded_are addresses sampled =
+      All-append IsDeepWay _ _
+      (mapped (λ (c : Way × ℕ). IsDeepWay c.0) IsDeepWay (λ c. c.0) _ (λ c is. is)
+      (filtered (λ (c : Way × ℕ). IsDeepWay c.0) _ _
+      (mapped IsDeepWay (λ (c : Way × ℕ). IsDeepWay c.0) (λ way. (way, count_among addresses (program_of file base) sampled way)) (ways_among addresses (program_of file base)) (λ way is. is) (ways_are addresses))))
+      (mapped IsCall IsDeepWay (λ c. c.0) _ (λ c is. is.0) (filtered IsCall _ _ (calls_are sampled.branches)))
+
+  deep_enough : (ways : List Way) → AllByRecursion IsDeepWay ways → AllByRecursion (λ way. length way ≤ 257) ways → AllByRecursion IsToldWay ways
+  deep_enough [] deep shallow = tt
+  deep_enough ([] ∷ ways) deep shallow = absurd deep.0
+  deep_enough ((s ∷ way) ∷ ways) deep shallow =
+      ((deep.0.0, deep.0.1, (let short = shallow.0 in omega (arith, short))), deep_enough ways deep.1 shallow.1)
+
+  can_among : (addresses : List ℕ) (sampled : Sampled) → length sampled.branches < 2 ^ 64 → length sampled.ranges ≤ 2 ^ 32 → IsShallow (profile_among addresses (program_of file base) sampled)
+      → CanBeWritten (profile_among addresses (program_of file base) sampled)
+  can_among addresses sampled few few_ranges shallow = record {
+    keys = deep_enough (recorded (profile_among addresses (program_of file base) sampled)) (recorded_are addresses sampled) shallow;
+    functions =
+        mapped (λ (h : List ℕ × ℕ). is_name h.0 ≡ true) IsFunctionWay (λ h. to_function h.0 ∷ []) _ (λ h is. (refl, is))
+        (filtered (λ (h : List ℕ × ℕ). is_name h.0 ≡ true) _ _ (heads_are sampled.branches));
+    callees = only_names _ (filtered IsCall _ _ (calls_are sampled.branches));
+    counts_fit = λ way.
+        let own = own_count (way_cmp (λ _. 0)) (ways_tell_apart (λ _. 0)) (count_among addresses (program_of file base) sampled) way (ways_among addresses (program_of file base))
+        (ordered_is_in_order (way_cmp (λ _. 0)) (ways_tell_apart (λ _. 0)) (filter_map (way_at (program_of file base)) addresses)).ascending in
+        let low = count_low addresses file base sampled way few_ranges in
+        omega (arith, own, low);
+    targets_fit = λ way name. let some = calls_few (program_of file base) way name sampled.branches in omega (arith, some, few);
+    heads_fit = λ name. let some = heads_few (program_of file base) name sampled.branches in omega (arith, some, few);
+  }
+    where
+      only_names : (calls : List (Way × List ℕ × ℕ)) → AllByRecursion IsCall calls → AllByRecursion (λ (c : Way × List ℕ × ℕ). is_name c.1 ≡ true) calls
+      only_names [] all = tt
+      only_names (c ∷ calls) all = (all.0.1, only_names calls all.1)
+
+  can_be_told : (sampled : Sampled) → length sampled.branches < 2 ^ 64 → length sampled.ranges ≤ 2 ^ 32 → IsShallow (profile_of (program_of file base) sampled)
+      → CanBeWritten (profile_of (program_of file base) sampled)
+  unfolding profile_of
+  can_be_told sampled few few_ranges shallow = can_among all_addresses sampled few few_ranges shallow
+
+pub profiles_can_be_told : ProfilesCanBeTold
+profiles_can_be_told name base binary text file good shallow =
+    let lines = lines_of text in
+    let few = branches_are_few file text good in
+    let same = branches_by_few (loading_of name binary) lines in
+    let fewer = ranges_by_few (loading_of name binary) lines in
+    can_be_told binary base (sampled_by (loading_of name binary) binary lines) (omega (arith, few, same)) (omega (arith, few, fewer)) shallow

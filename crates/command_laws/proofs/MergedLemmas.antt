@@ -14,7 +14,9 @@ use Rattle.profile_model.specs.Profile.{Profile}
 use Rattle.profile_model.specs.Reading.{behind_spaces, is_passed}
 use Rattle.profile_model.specs.Text.{profile_text}
 use Rattle.spelling_laws.proofs.BackLemmas.{merge_writes_again}
+use Rattle.sample_model.specs.Judging.{first_bad_of_text}
 use Rattle.spelling_laws.specs.Told.{CanBeWritten, IsComment, text_with}
+use Rattle.way_laws.proofs.ToldLemmas.{profiles_can_be_told}
 use Rattle.report_model.specs.Report.{Classes, Sampled, report_text}
 use Rattle.output_model.specs.Output.{loading_of, output_text, sampled_by}
 use Rattle.output_model.specs.Program.{Program, program_of}
@@ -23,7 +25,7 @@ use Rattle.command_model.specs.Answer.{Answer, answer_of_command, writes}
 use Rattle.command_model.specs.Command.{Command, merge, profile}
 use Rattle.command_model.specs.Files.{IsOutput, file_at, first_bad_of_part, max_profile_bytes}
 use Rattle.command_model.specs.Options.{Options}
-use Rattle.command_laws.specs.Merged.{ProfiledIsMerged, profiled}
+use Rattle.command_laws.specs.Merged.{ProfiledIsMerged, profile_in}
 use Rattle.command_laws.proofs.AnswerLemmas.{HasFile, has_file, same_contents}
 use Rattle.command_laws.proofs.LineLemmas.{AreLinesOf, report_comments}
 
@@ -44,14 +46,27 @@ told_with : (program : Program) (sampled : Sampled) (text : List ℕ) → text �
 unfolding output_text
 told_with program sampled text is comments = is ∙ ap (λ report. profile_text (profile_of program sampled) ++ report) comments.joined
 
-pub profiled_is_merged : ProfiledIsMerged
-profiled_is_merged files options bin perf out contents text again answers may small can there =
-    let program = program_of (file_at 0 contents) options.base in
-    let sampled = sampled_by (loading_of options.map (file_at 0 contents)) (file_at 0 contents) (lines_of (file_at 1 contents)) in
+-- Of a text that was written of a profile that can be told
+merged_again : (files : Store) (program : Program) (sampled : Sampled) (out text again : List ℕ) → text ≡ output_text program sampled → length text ≤ max_profile_bytes
+    → CanBeWritten (profile_of program sampled) → files out ≡ Some text
+    → (answer_of_command files (merge ((1, out) ∷ [])) ≡ writes (merge ((1, out) ∷ [])) (text ∷ []))
+    × (again ≡ merge_text ((1, text) ∷ []) → again ≡ profile_text (profile_of program sampled))
+merged_again files program sampled out text again wrote small can there =
     let comments = report_comments (classes_of program) sampled in
-    let is : text ≡ text_with (profile_of program sampled) comments.lines = told_with program sampled text may comments in
+    let is : text ≡ text_with (profile_of program sampled) comments.lines = told_with program sampled text wrote comments in
     let law = merge_writes_again (profile_of program sampled) comments.lines can comments.passed in
     (
       merges files out text there (good_part text small (subst (λ t. first_bad_of_summed 1 1 (merged []) t ≡ None) (sym is) law.0.0)),
-      λ wrote. wrote ∙ ap (λ t. merge_text ((1, t) ∷ [])) is ∙ law.1,
+      λ wrote_again. wrote_again ∙ ap (λ t. merge_text ((1, t) ∷ [])) is ∙ law.1,
     )
+
+pub profiled_is_merged : ProfiledIsMerged
+profiled_is_merged files options bin perf out contents text again answers may small shallow there =
+    let command = profile options bin perf in
+    let one = has_file 1 (files bin) _ _ command contents answers in
+    let two = has_file 2 (files perf) (first_bad_of_text 2) _ command contents one.then in
+    let are : one.file ∷ two.file ∷ [] ≡ contents = same_contents command command contents (one.file ∷ two.file ∷ []) two.then in
+    let good : first_bad_of_text 2 (file_at 1 contents) ≡ None = subst (λ (found : List (List ℕ)). first_bad_of_text 2 (file_at 1 found) ≡ None) are two.good in
+    let can = profiles_can_be_told options.map options.base (file_at 0 contents) (file_at 1 contents) 2 good shallow in
+    merged_again files (program_of (file_at 0 contents) options.base)
+    (sampled_by (loading_of options.map (file_at 0 contents)) (file_at 0 contents) (lines_of (file_at 1 contents))) out text again may small can there

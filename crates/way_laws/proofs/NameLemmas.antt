@@ -1,9 +1,12 @@
 -- The names that a program tells are names, and its calls have discriminators of 32 bits.
-use Rattle.std.proofs.Common.{◌≡◌, ◌<◌, ◌%◌, ◌^◌, ℕ, zero, suc, ◌+◌, Bool, true, false, List, [], ◌∷◌, ◌++◌, length, Option, None, Some, Result, Ok, Err, refl, arith}
-use Rattle.std.specs.Prelude.{⊤, if◌then◌else◌}
+use Rattle.std.proofs.Common.{◌≡◌, ◌<◌, ◌≤◌, ◌%◌, ◌^◌, ℕ, zero, suc, ◌+◌, Bool, true, false, List, [], ◌∷◌, ◌++◌, length, Option, None, Some, Result, Ok, Err, refl, arith}
+use Rattle.std.specs.Prelude.{⊤, if◌then◌else◌, nat_lt}
+use Rattle.std.proofs.lemmas.Bool.Decides.{nat_tests}
 use Rattle.std.specs.List.{AllByRecursion, flat_map}
 use Rattle.std.proofs.ByRecursion.{All-append}
+use Rattle.refusal.specs.declared.kind.Kind.TheVariants.{InlineTooDeep}
 use Rattle.refusal.specs.declared.place.Place.{Place}
+use Rattle.refusal.specs.Place.{in_binary}
 use Rattle.profile_model.specs.Names.{is_name}
 use Rattle.range_model.specs.Texts.{Sections, text_of}
 use Rattle.unit_model.specs.Entries.{Entry}
@@ -13,7 +16,7 @@ use Rattle.tree_model.specs.Depths.{calls_on, inlined_into, Standing, way_up}
 use Rattle.tree_model.specs.Members.{Told, call_told, function_told, is_call, is_function}
 use Rattle.tree_model.specs.Origin.{Held, Origin, as_name, line_on, name_said, naming, origin, said_on, with_line}
 use Rattle.tree_model.specs.Pieces.{InUnit, and_then, pieces}
-use Rattle.tree_model.specs.Tree.{not_too_deep, Source, Tree, call_with, function_with, members, next_call, next_entries, next_entry, next_function, next_unit, next_units, with_call, with_member}
+use Rattle.tree_model.specs.Tree.{max_calls, not_too_deep, Source, Tree, call_with, function_with, members, next_call, next_entries, next_entry, next_function, next_unit, next_units, with_call, with_member}
 use Rattle.tree_model.specs.Way.{Info, way}
 use Rattle.binary_model.specs.Binary.{list_or_none, members_in, members_read, source_of}
 
@@ -61,9 +64,9 @@ named_origin : (sections : Sections) (info : Info) (entry : Entry) → Of (λ (o
 unfolding origin
 named_origin sections info entry = named_said_on sections info.units (way info entry)
 
--- A function or a call that is told.
+-- A function or a call that is told: at most 255 calls deep.
 abbrev pub IsTold : Told → Type 0
-IsTold told = IsNameIfAny told.name × (told.disc < 2 ^ 32)
+IsTold told = IsNameIfAny told.name × (told.disc < 2 ^ 32) × (told.depth ≤ 255)
 
 abbrev pub AreTold : List Told → Type 0
 AreTold = AllByRecursion IsTold
@@ -88,18 +91,25 @@ function_kept : (source : Source) (entry : Entry) (tree : Tree) (pieces : List (
 function_kept source entry tree [] kept = kept
 function_kept source entry tree (piece ∷ more) kept =
     after (λ (o : Origin). IsNameIfAny o.name) IsTree (origin source.sections.texts source.info entry) _ (named_origin source.sections.texts source.info entry)
-    (λ o is. all_push AreTold tree.functions (function_told entry (piece ∷ more) o ∷ []) kept ((is, omega arith), tt))
+    (λ o is. all_push AreTold tree.functions (function_told entry (piece ∷ more) o ∷ []) kept ((is, omega arith, omega arith), tt))
 
-call_kept : (source : Source) (number : Option ℕ) (calls : ℕ) (entry : Entry) (tree : Tree) (pieces : List (ℕ × ℕ)) → IsTree tree → Of IsTree (call_with source number calls entry tree pieces)
-call_kept source number calls entry tree [] kept = kept
-call_kept source number calls entry tree (piece ∷ more) kept =
+call_kept : (source : Source) (number : Option ℕ) (calls : ℕ) (entry : Entry) (tree : Tree) (pieces : List (ℕ × ℕ)) → calls ≤ 255 → IsTree tree → Of IsTree (call_with source number calls entry tree pieces)
+call_kept source number calls entry tree [] few kept = kept
+call_kept source number calls entry tree (piece ∷ more) few kept =
     after (λ (o : Origin). IsNameIfAny o.name) IsTree (origin source.sections.texts source.info entry) _ (named_origin source.sections.texts source.info entry)
-    (λ o is. call_added number (call_told calls entry (piece ∷ more) o) tree.functions kept (is, omega arith))
+    (λ o is. call_added number (call_told calls entry (piece ∷ more) o) tree.functions kept (is, omega arith, few))
 
 next_function_kept : (source : Source) (of : InUnit) (entry : Entry) (tree : Tree) → IsTree tree → Of IsTree (next_function source of entry tree)
 unfolding next_function
 next_function_kept source of entry tree kept =
     after (λ _. ⊤) IsTree (pieces source.file of tree.pieces entry) _ (any (pieces source.file of tree.pieces entry)) (λ ps _. function_kept source entry tree ps kept)
+
+few_calls : (at calls : ℕ) → Of (λ (u : Unit {0}). calls ≤ 255) (not_too_deep at calls)
+few_calls at calls = by (nat_lt max_calls calls) refl
+  where
+    by : (b : Bool) → nat_lt max_calls calls ≡ b → Of (λ (u : Unit {0}). calls ≤ 255) (if b then Err (in_binary at InlineTooDeep) else Ok tt)
+    by true e = tt
+    by false e = grind (arith, nat_tests)
 
 next_call_kept : (source : Source) (of : InUnit) (before : ℕ) (on : List Standing) (entry : Entry) (tree : Tree) → IsTree tree → Of IsTree (next_call source of before on entry tree)
 unfolding next_call
@@ -107,8 +117,8 @@ next_call_kept source of before on entry tree kept =
     let calls = length (calls_on on) + 1 in
     let number = inlined_into source.file of before on in
     let found = pieces source.file of tree.pieces entry in
-    after (λ (u : Unit {0}). ⊤) IsTree (not_too_deep entry.at calls) (λ _. and_then found (call_with source number calls entry tree)) (any (not_too_deep entry.at calls))
-    (λ _ _. after (λ _. ⊤) IsTree found (call_with source number calls entry tree) (any found) (λ ps _. call_kept source number calls entry tree ps kept))
+    after (λ (u : Unit {0}). calls ≤ 255) IsTree (not_too_deep entry.at calls) (λ _. and_then found (call_with source number calls entry tree)) (few_calls entry.at calls)
+    (λ _ few. after (λ _. ⊤) IsTree found (call_with source number calls entry tree) (any found) (λ ps _. call_kept source number calls entry tree ps few kept))
 
 either_kept : (b : Bool) (one other : Result Tree Place) → Of IsTree one → Of IsTree other → Of IsTree (if b then one else other)
 either_kept true one other is also = is

@@ -20,10 +20,10 @@ use Rattle.binary_model.specs.Places.{Place, at_way, nameless, no_line, outside}
 use Rattle.output_model.specs.Output.{loading_of, sampled_by}
 use Rattle.output_model.specs.Program.{Program, program_of, way_at, way_of_place}
 use Rattle.output_model.specs.Sampled.{all_addresses, call_by, call_of, count_among, head_of as entry_of, profile_among, profile_of, ways_among}
-use Rattle.way_laws.specs.Told.{IsShallow, ProfilesCanBeTold, profiled}
+use Rattle.way_laws.specs.Told.{ProfilesCanBeTold, profiled}
 use Rattle.way_laws.proofs.CountLemmas.{calls_few, count_low, heads_few, own_count}
 use Rattle.way_laws.proofs.NameLemmas.{IsNameIfAny}
-use Rattle.way_laws.proofs.PlaceLemmas.{IsDeepWay, IsToldPlace, entries_are_named, places_are_told}
+use Rattle.way_laws.proofs.PlaceLemmas.{IsToldPlace, entries_are_named, places_are_told}
 use Rattle.way_laws.proofs.SampleLemmas.{branches_are_few, branches_by_few, ranges_by_few}
 
 -- ---- lists
@@ -67,27 +67,24 @@ ordered_all P cmp (x ∷ items) all = with_all P cmp x (ordered cmp items) all.0
 
 -- ---- ways, calls and entries of a binary
 
-way_told : (place : Place) → IsToldPlace place → OfSome IsDeepWay (way_of_place place)
+way_told : (place : Place) → IsToldPlace place → OfSome IsToldWay (way_of_place place)
 way_told outside is = tt
 way_told nameless is = tt
 way_told no_line is = tt
 way_told (at_way way) is = is
 
 abbrev IsCall : Way × List ℕ × ℕ → Type 0
-IsCall c = IsDeepWay c.0 × (is_name c.1 ≡ true)
+IsCall c = IsToldWay c.0 × (is_name c.1 ≡ true)
 
 module _ (file : List ℕ) (base : Bool) where
-  program : Program
-  program = program_of file base
-
-  way_is : (address : ℕ) → OfSome IsDeepWay (way_at (program_of file base) address)
+  way_is : (address : ℕ) → OfSome IsToldWay (way_at (program_of file base) address)
   way_is address = way_told _ (places_are_told file base address)
 
-  ways_are : (addresses : List ℕ) → AllByRecursion IsDeepWay (ways_among addresses (program_of file base))
+  ways_are : (addresses : List ℕ) → AllByRecursion IsToldWay (ways_among addresses (program_of file base))
   ways_are addresses =
-      ordered_all IsDeepWay (way_cmp (λ _. 0)) (filter_map (way_at (program_of file base)) addresses) (found IsDeepWay (way_at (program_of file base)) addresses way_is)
+      ordered_all IsToldWay (way_cmp (λ _. 0)) (filter_map (way_at (program_of file base)) addresses) (found IsToldWay (way_at (program_of file base)) addresses way_is)
 
-  call_is : (way : Option Way) (name : Option (List ℕ)) → OfSome IsDeepWay way → IsNameIfAny name → OfSome IsCall (call_by way name)
+  call_is : (way : Option Way) (name : Option (List ℕ)) → OfSome IsToldWay way → IsNameIfAny name → OfSome IsCall (call_by way name)
   call_is None name is named = tt
   call_is (Some way) None is named = tt
   call_is (Some way) (Some name) is named = (is, named)
@@ -108,27 +105,18 @@ module _ (file : List ℕ) (base : Bool) where
       each : (branch : ℕ × ℕ) → OfSome (λ (h : List ℕ × ℕ). is_name h.0 ≡ true) (entry_of (program_of file base) branch)
       each (from, to) = head_is _ (entries_are_named file to)
 
-  among : List ℕ → Sampled → Profile
-  among addresses sampled = profile_among addresses (program_of file base) sampled
-
-  recorded_are : (addresses : List ℕ) (sampled : Sampled) → AllByRecursion IsDeepWay (recorded (profile_among addresses (program_of file base) sampled))
+  recorded_are : (addresses : List ℕ) (sampled : Sampled) → AllByRecursion IsToldWay (recorded (profile_among addresses (program_of file base) sampled))
   recorded_are addresses sampled =
-      All-append IsDeepWay _ _
-      (mapped (λ (c : Way × ℕ). IsDeepWay c.0) IsDeepWay (λ c. c.0) _ (λ c is. is)
-      (filtered (λ (c : Way × ℕ). IsDeepWay c.0) _ _
-      (mapped IsDeepWay (λ (c : Way × ℕ). IsDeepWay c.0) (λ way. (way, count_among addresses (program_of file base) sampled way)) (ways_among addresses (program_of file base)) (λ way is. is) (ways_are addresses))))
-      (mapped IsCall IsDeepWay (λ c. c.0) _ (λ c is. is.0) (filtered IsCall _ _ (calls_are sampled.branches)))
+      All-append IsToldWay _ _
+      (mapped (λ (c : Way × ℕ). IsToldWay c.0) IsToldWay (λ c. c.0) _ (λ c is. is)
+      (filtered (λ (c : Way × ℕ). IsToldWay c.0) _ _
+      (mapped IsToldWay (λ (c : Way × ℕ). IsToldWay c.0) (λ way. (way, count_among addresses (program_of file base) sampled way)) (ways_among addresses (program_of file base)) (λ way is. is) (ways_are addresses))))
+      (mapped IsCall IsToldWay (λ c. c.0) _ (λ c is. is.0) (filtered IsCall _ _ (calls_are sampled.branches)))
 
-  deep_enough : (ways : List Way) → AllByRecursion IsDeepWay ways → AllByRecursion (λ way. length way ≤ 257) ways → AllByRecursion IsToldWay ways
-  deep_enough [] deep shallow = tt
-  deep_enough ([] ∷ ways) deep shallow = absurd deep.0
-  deep_enough ((s ∷ way) ∷ ways) deep shallow =
-      ((deep.0.0, deep.0.1, (let short = shallow.0 in omega (arith, short))), deep_enough ways deep.1 shallow.1)
-
-  can_among : (addresses : List ℕ) (sampled : Sampled) → length sampled.branches < 2 ^ 64 → length sampled.ranges ≤ 2 ^ 32 → IsShallow (profile_among addresses (program_of file base) sampled)
+  can_among : (addresses : List ℕ) (sampled : Sampled) → length sampled.branches < 2 ^ 64 → length sampled.ranges ≤ 2 ^ 32
       → CanBeWritten (profile_among addresses (program_of file base) sampled)
-  can_among addresses sampled few few_ranges shallow = record {
-    keys = deep_enough (recorded (profile_among addresses (program_of file base) sampled)) (recorded_are addresses sampled) shallow;
+  can_among addresses sampled few few_ranges = record {
+    keys = recorded_are addresses sampled;
     functions =
         mapped (λ (h : List ℕ × ℕ). is_name h.0 ≡ true) IsFunctionWay (λ h. to_function h.0 ∷ []) _ (λ h is. (refl, is))
         (filtered (λ (h : List ℕ × ℕ). is_name h.0 ≡ true) _ _ (heads_are sampled.branches));
@@ -146,15 +134,15 @@ module _ (file : List ℕ) (base : Bool) where
       only_names [] all = tt
       only_names (c ∷ calls) all = (all.0.1, only_names calls all.1)
 
-  can_be_told : (sampled : Sampled) → length sampled.branches < 2 ^ 64 → length sampled.ranges ≤ 2 ^ 32 → IsShallow (profile_of (program_of file base) sampled)
+  can_be_told : (sampled : Sampled) → length sampled.branches < 2 ^ 64 → length sampled.ranges ≤ 2 ^ 32
       → CanBeWritten (profile_of (program_of file base) sampled)
   unfolding profile_of
-  can_be_told sampled few few_ranges shallow = can_among all_addresses sampled few few_ranges shallow
+  can_be_told sampled few few_ranges = can_among all_addresses sampled few few_ranges
 
 pub profiles_can_be_told : ProfilesCanBeTold
-profiles_can_be_told name base binary text file good shallow =
+profiles_can_be_told name base binary text file good =
     let lines = lines_of text in
     let few = branches_are_few file text good in
     let same = branches_by_few (loading_of name binary) lines in
     let fewer = ranges_by_few (loading_of name binary) lines in
-    can_be_told binary base (sampled_by (loading_of name binary) binary lines) (omega (arith, few, same)) (omega (arith, few, fewer)) shallow
+    can_be_told binary base (sampled_by (loading_of name binary) binary lines) (omega (arith, few, same)) (omega (arith, few, fewer))

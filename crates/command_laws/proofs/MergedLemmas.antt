@@ -61,12 +61,12 @@ merged_again files program sampled out text again wrote small can there =
     )
 
 pub profiled_is_merged : ProfiledIsMerged
-profiled_is_merged files options bin perf out contents text again answers may small shallow there =
+profiled_is_merged files options bin perf out contents text again answers may small there =
     let command = profile options bin perf in
     let one = has_file 1 (files bin) _ _ command contents answers in
     let two = has_file 2 (files perf) (first_bad_of_text 2) _ command contents one.then in
     let are : one.file ∷ two.file ∷ [] ≡ contents = same_contents command command contents (one.file ∷ two.file ∷ []) two.then in
     let good : first_bad_of_text 2 (file_at 1 contents) ≡ None = subst (λ (found : List (List ℕ)). first_bad_of_text 2 (file_at 1 found) ≡ None) are two.good in
-    let can = profiles_can_be_told options.map options.base (file_at 0 contents) (file_at 1 contents) 2 good shallow in
+    let can = profiles_can_be_told options.map options.base (file_at 0 contents) (file_at 1 contents) 2 good in
     merged_again files (program_of (file_at 0 contents) options.base)
     (sampled_by (loading_of options.map (file_at 0 contents)) (file_at 0 contents) (lines_of (file_at 1 contents))) out text again may small can there

@@ -3,7 +3,7 @@ use Rattle.std.specs.Prelude.{◌≡◌, ◌≤◌, ℕ, List, [], ◌∷◌, le
 use Rattle.io_edge.specs.Inputs.{Store}
 use Rattle.profile_model.specs.Profile.{Profile}
 use Rattle.profile_model.specs.Text.{profile_text}
-use Rattle.way_laws.specs.Told.{IsShallow, profiled}
+use Rattle.way_laws.specs.Told.{profiled}
 use Rattle.command_model.specs.Answer.{answer_of_command, writes}
 use Rattle.command_model.specs.Command.{merge, profile}
 use Rattle.command_model.specs.Files.{IsOutput, file_at, max_profile_bytes}
@@ -13,14 +13,13 @@ use Rattle.command_model.specs.Options.{Options}
 abbrev pub profile_in : Options → List (List ℕ) → Profile
 profile_in options contents = profiled options.map options.base (file_at 0 contents) (file_at 1 contents)
 
--- A text that `profile` may write, no larger than a profile text can be and with no key more than 256 deep: alone and
--- with weight 1, `merge` accepts it, and writes its profile lines again and nothing else.
+-- A text that `profile` may write, and that is no larger than a profile text can be: alone and with weight 1, `merge`
+-- accepts it, and writes its profile lines again and nothing else.
 abbrev pub ProfiledIsMerged : Type 0
 ProfiledIsMerged =
     (files : Store) (options : Options) (bin perf out : List ℕ) (contents : List (List ℕ)) (text again : List ℕ)
     → answer_of_command files (profile options bin perf) ≡ writes (profile options bin perf) contents
     → IsOutput (profile options bin perf) contents text → length text ≤ max_profile_bytes
-    → IsShallow (profile_in options contents)
     → files out ≡ Some text
     → (answer_of_command files (merge ((1, out) ∷ [])) ≡ writes (merge ((1, out) ∷ [])) (text ∷ []))
     × (IsOutput (merge ((1, out) ∷ [])) (text ∷ []) again → again ≡ profile_text (profile_in options contents))

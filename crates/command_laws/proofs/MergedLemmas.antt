@@ -1,32 +1,24 @@
 -- What `merge` answers where `profile` may write the text.
-use Rattle.std.proofs.Common.{◌≡◌, ℕ, ◌+◌, ◌≤◌, ◌^◌, Bool, true, false, ◌||◌, List, [], ◌∷◌, ◌++◌, length, drop, map, Option, None, Some, nat_eq, refl, arith, sym, ap, ◌∙◌, subst, append_assoc}
-use Rattle.std.specs.Prelude.{codes}
-use Rattle.std.specs.List.{AllByRecursion, flat_map, starts_with}
+use Rattle.std.proofs.Common.{◌≡◌, ℕ, ◌≤◌, List, [], ◌∷◌, ◌++◌, length, None, Some, refl, sym, ap, ◌∙◌, subst}
 use Rattle.std.proofs.lemmas.Bool.{le-ltb}
-use Rattle.refusal.specs.declared.place.Place.{Place}
 use Rattle.refusal.specs.Place.{size_item}
 use Rattle.io_edge.specs.Inputs.{Store}
-use Rattle.text_model.specs.Laws.{HasNoLineFeed, ended}
 use Rattle.text_model.specs.Lines.{lines_of}
-use Rattle.text_model.specs.LineTests.{is_blank_line}
 use Rattle.profile_model.specs.Merge.{first_bad_of_summed, merge_text, merged}
-use Rattle.profile_model.specs.Profile.{Profile}
-use Rattle.profile_model.specs.Reading.{behind_spaces, is_passed}
 use Rattle.profile_model.specs.Text.{profile_text}
 use Rattle.spelling_laws.proofs.BackLemmas.{merge_writes_again}
 use Rattle.sample_model.specs.Judging.{first_bad_of_text}
 use Rattle.spelling_laws.specs.Told.{CanBeWritten, IsComment, text_with}
 use Rattle.way_laws.proofs.ToldLemmas.{profiles_can_be_told}
-use Rattle.report_model.specs.Report.{Classes, Sampled, report_text}
+use Rattle.report_model.specs.Report.{Sampled, report_text}
 use Rattle.output_model.specs.Output.{loading_of, output_text, sampled_by}
 use Rattle.output_model.specs.Program.{Program, program_of}
 use Rattle.output_model.specs.Sampled.{classes_of, profile_of}
-use Rattle.command_model.specs.Answer.{Answer, answer_of_command, writes}
-use Rattle.command_model.specs.Command.{Command, merge, profile}
-use Rattle.command_model.specs.Files.{IsOutput, file_at, first_bad_of_part, max_profile_bytes}
-use Rattle.command_model.specs.Options.{Options}
-use Rattle.command_laws.specs.Merged.{ProfiledIsMerged, profile_in}
-use Rattle.command_laws.proofs.AnswerLemmas.{HasFile, has_file, same_contents}
+use Rattle.command_model.specs.Answer.{answer_of_command, writes}
+use Rattle.command_model.specs.Command.{merge, profile}
+use Rattle.command_model.specs.Files.{file_at, first_bad_of_part, max_profile_bytes}
+use Rattle.command_laws.specs.Merged.{ProfiledIsMerged}
+use Rattle.command_laws.proofs.AnswerLemmas.{has_file, same_contents}
 use Rattle.command_laws.proofs.LineLemmas.{AreLinesOf, report_comments}
 
 good_size : (text : List ℕ) → length text ≤ max_profile_bytes → size_item 1 max_profile_bytes text ≡ None
@@ -54,8 +46,7 @@ merged_again : (files : Store) (program : Program) (sampled : Sampled) (out text
 merged_again files program sampled out text again wrote small can there =
     let comments = report_comments (classes_of program) sampled in
     let is : text ≡ text_with (profile_of program sampled) comments.lines = told_with program sampled text wrote comments in
-    let law = merge_writes_again (profile_of program sampled) comments.lines can comments.passed in
-    (
+    let law = merge_writes_again (profile_of program sampled) comments.lines can comments.passed in (
       merges files out text there (good_part text small (subst (λ t. first_bad_of_summed 1 1 (merged []) t ≡ None) (sym is) law.0.0)),
       λ wrote_again. wrote_again ∙ ap (λ t. merge_text ((1, t) ∷ [])) is ∙ law.1,
     )

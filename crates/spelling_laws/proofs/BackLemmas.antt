@@ -1,7 +1,6 @@
 -- The text of a profile says what was counted, and a merge of it writes it again.
-use Rattle.std.proofs.Common.{◌≡◌, ◌<◌, ◌^◌, ◌*◌, ℕ, ◌+◌, List, [], ◌∷◌, ◌++◌, map, None, refl, sym, ap, ◌∙◌, arith}
-use Rattle.std.specs.Prelude.{⊤}
-use Rattle.std.specs.List.{AllByRecursion, enumerate_from}
+use Rattle.std.proofs.Common.{◌≡◌, ◌<◌, ◌^◌, ℕ, ◌+◌, List, [], ◌∷◌, None, ap, ◌∙◌, arith}
+use Rattle.std.specs.List.{AllByRecursion}
 use Rattle.std.specs.Option.{option_or}
 use Rattle.std.proofs.ByRecursion.{All-append}
 use Rattle.std.proofs.lemmas.List.Elements.{All-from_recursion}
@@ -13,10 +12,10 @@ use Rattle.profile_laws.proofs.CountLemmas.{lines_are_by_counts}
 use Rattle.profile_laws.proofs.OnceLemmas.{of_targets}
 use Rattle.profile_laws.proofs.TotalLemmas.{written_ascends}
 use Rattle.profile_model.specs.Judging.{first_bad_of_profile, items_from, kept_lines_of}
-use Rattle.profile_model.specs.Merge.{first_bad_of_summed, merge_text, merged, sum_items}
+use Rattle.profile_model.specs.Merge.{first_bad_of_summed, merged, sum_items}
 use Rattle.profile_model.specs.Profile.{Profile, Line, function_line, body_line, call_line, line_at, lines_of, written}
 use Rattle.profile_model.specs.Spelled.{What, Number, head, count, target, number_in, numbers_from, numbers_of, numbers_on, profile_by, spelled}
-use Rattle.profile_model.specs.Text.{profile_text, text_of_lines}
+use Rattle.profile_model.specs.Text.{text_of_lines}
 use Rattle.profile_model.specs.Ways.{Way}
 use Rattle.spelling_laws.specs.Lines.{CanBeTold, IsNamed}
 use Rattle.spelling_laws.specs.Told.{CanBeWritten, IsComment, text_with, TextIsReadBack, MergeWritesAgain}
@@ -50,11 +49,14 @@ own p comments can passed what =
     ∙ numbers_are_own p what 1 can (written_lines p can) (written_ascends p)
 
 pub text_is_read_back : TextIsReadBack
-text_is_read_back p comments file can passed = (good p comments file can passed, record {
-  keys = λ way. own p comments can passed (count way);
-  targets = λ way name. own p comments can passed (target way name);
-  heads = λ name. own p comments can passed (head name);
-})
+text_is_read_back p comments file can passed = (
+  good p comments file can passed,
+  record {
+    keys = λ way. own p comments can passed (count way);
+    targets = λ way name. own p comments can passed (target way name);
+    heads = λ name. own p comments can passed (head name);
+  },
+)
 
 -- ---- a merge of the text
 

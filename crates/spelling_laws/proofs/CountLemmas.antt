@@ -1,30 +1,27 @@
 -- The numbers that are read of a written profile are its own.
-use Rattle.std.proofs.Common.{◌≡◌, ◌⊎◌, ◌<◌, ◌≤◌, ℕ, zero, suc, ◌+◌, ◌-◌, ◌&&◌, nat_lt, Bool, true, false, cond, List, [], ◌∷◌, ◌++◌, filter, filter_map, map, length, sum_by, Option, refl, sym, ap, subst, ◌∙◌, inl, inr, arith, add-zero, zero-add}
+use Rattle.std.proofs.Common.{◌≡◌, ◌<◌, ℕ, ◌+◌, ◌-◌, ◌&&◌, nat_lt, Bool, true, false, cond, List, [], ◌∷◌, ◌++◌, filter, filter_map, map, length, refl, sym, ap, subst, ◌∙◌, inl, inr, arith, add-zero, zero-add}
 use Rattle.std.specs.Cmp.Lexicographic.{bytes_decides}
 use Rattle.std.specs.List.{AllByRecursion}
 use Rattle.std.specs.List.Sorted.{IsStrictlySortedBy}
-use Rattle.std.specs.declared.cmp.Ordering.{Ordering}
-use Rattle.std.specs.declared.cmp.Ordering.TheVariants.{Less}
 use Rattle.std.proofs.lemmas.Bool.{true≢false, cases_lt}
 use Rattle.std.proofs.lemmas.List.Elements.{filter_map-append}
-use Rattle.std.proofs.lemmas.List.Sums.{sum_by-cons}
 use Rattle.merge_laws.proofs.SumLemmas.{kept_sum, kept_more, number_in-both}
 use Rattle.profile_model.proofs.OrderLemmas.{targets_tell_apart}
 use Rattle.profile_model.proofs.OrderedLemmas.{Above, ordered_is_in_order}
 use Rattle.profile_model.proofs.StepLemmas.{and_both, and_first, and_second, same_ways, way_itself}
-use Rattle.profile_model.specs.Laws.{TellsApart, has}
+use Rattle.profile_model.specs.Laws.{has}
 use Rattle.profile_model.specs.Merge.{both}
-use Rattle.profile_model.specs.Orders.{ordered, target_cmp}
-use Rattle.profile_model.specs.Profile.{Profile, Line, function_line, body_line, call_line, count_of, target_of, head_of, total_of, targets_of, recorded, entered, written, line_by, line_at}
+use Rattle.profile_model.specs.Orders.{target_cmp}
+use Rattle.profile_model.specs.Profile.{Profile, function_line, body_line, call_line, count_of, target_of, head_of, total_of, targets_of, recorded, entered, written, line_at}
 use Rattle.profile_model.specs.Spelled.{What, head, count, target, Number, as_call, as_count, as_head, number_in, numbers_on, profile_by}
-use Rattle.profile_model.specs.Ways.{Step, Way, function, body, call, to_function, same_name, same_way, beginnings, last_step}
+use Rattle.profile_model.specs.Ways.{Step, Way, body, call, to_function, same_name, same_way, beginnings, last_step}
 use Rattle.profile_laws.proofs.CountLemmas.{counted, filter_from, name_itself}
 use Rattle.profile_laws.proofs.OnceLemmas.{of_targets, way_told}
 use Rattle.profile_laws.proofs.TotalLemmas.{Among, among_append_left, among_append_right, among_filter, among_flat, among_from_has, among_map, has_from_among, not_among_above}
-use Rattle.spelling_laws.specs.Told.{CanBeWritten, EndInBody, IsToldWay, IsFunctionStep, IsBodyStep, IsCallStep}
+use Rattle.spelling_laws.specs.Told.{CanBeWritten, EndInBody, IsToldWay, IsBodyStep, IsCallStep}
 use Rattle.spelling_laws.proofs.PathLemmas.{all_among}
-use Rattle.spelling_laws.proofs.OrderLemmas.{cmp_of, items_of, tells_of, written_is}
-use Rattle.spelling_laws.proofs.LineLemmas.{numbers_told, target_from, target_times, targets_ascend}
+use Rattle.spelling_laws.proofs.OrderLemmas.{cmp_of, tells_of, written_is}
+use Rattle.spelling_laws.proofs.LineLemmas.{numbers_told, target_times, targets_ascend}
 use Rattle.spelling_laws.proofs.WayLemmas.{IsLineWay, LineOf, a_function, a_body, a_call, line_of_way}
 
 -- ---- the numbers of several lines

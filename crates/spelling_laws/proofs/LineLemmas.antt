@@ -1,30 +1,26 @@
 -- The lines of a profile that can be told: each can be told, and none is refused behind those before it.
-use Rattle.std.proofs.Common.{◌≡◌, ◌≢◌, ◌⊎◌, ◌<◌, ◌≤◌, ◌^◌, ◌-◌, ℕ, zero, suc, ◌+◌, ◌&&◌, ◌||◌, nat_lt, not, min, Bool, true, false, List, [], ◌∷◌, ◌++◌, filter, map, length, Option, None, Some, refl, sym, ap, subst, ◌∙◌, inl, inr, arith}
-use Rattle.std.specs.Prelude.{⊤}
+use Rattle.std.proofs.Common.{◌≡◌, ◌<◌, ◌^◌, ◌-◌, ℕ, ◌+◌, ◌&&◌, ◌||◌, nat_lt, Bool, true, false, List, [], ◌∷◌, ◌++◌, filter, map, length, None, refl, sym, ap, subst, ◌∙◌, inl, inr, arith}
 use Rattle.std.specs.Cmp.Lexicographic.{bytes_decides}
 use Rattle.std.specs.List.{AllByRecursion, enumerate_from, list_any}
 use Rattle.std.specs.List.Sorted.{IsStrictlySortedBy}
-use Rattle.std.specs.declared.cmp.Ordering.{Ordering}
 use Rattle.std.specs.declared.cmp.Ordering.TheVariants.{Less, Equal}
 use Rattle.std.proofs.lemmas.Bool.{true≢false, le-ltb}
 use Rattle.std.proofs.lemmas.Cmp.{tied_itself}
 use Rattle.refusal.specs.Place.{first_bad}
 use Rattle.profile_model.proofs.OrderLemmas.{targets_tell_apart}
 use Rattle.profile_model.proofs.OrderedLemmas.{ordered_is_in_order}
-use Rattle.profile_model.proofs.StepLemmas.{same_ways, and_first, and_second}
+use Rattle.profile_model.proofs.StepLemmas.{same_ways, and_second}
 use Rattle.profile_model.specs.Judging.{cause_of, cause_of_line, with_line, item, items_from}
-use Rattle.profile_model.specs.Orders.{ordered, target_cmp}
-use Rattle.profile_model.specs.Profile.{Profile, Line, function_line, body_line, call_line, capped, count_of, total_of, target_of, head_of, targets_of, written, line_by, line_at}
-use Rattle.profile_model.specs.Reading.{line_of}
+use Rattle.profile_model.specs.Orders.{target_cmp}
+use Rattle.profile_model.specs.Profile.{Profile, capped, target_of, targets_of, line_at}
 use Rattle.profile_model.specs.Spelled.{Number, numbers_on, numbers_of_line, numbers_from}
-use Rattle.profile_model.specs.Standing.{depth_of, can_stand, way_of, ways_of, targets_on, again_among, has_twice, tells_again}
-use Rattle.profile_model.specs.Text.{line_text}
+use Rattle.profile_model.specs.Standing.{depth_of, targets_on, again_among, has_twice, tells_again}
 use Rattle.profile_model.specs.Names.{is_name}
-use Rattle.profile_model.specs.Ways.{Step, Way, function, body, call, same_name, same_way, last_step}
+use Rattle.profile_model.specs.Ways.{Way, same_name, same_way}
 use Rattle.profile_laws.proofs.CountLemmas.{filter_from, map_from}
 use Rattle.profile_laws.proofs.TotalLemmas.{Among, among_filter, among_from_has, has_from_among}
 use Rattle.spelling_laws.specs.Lines.{CanBeTold, IsNamed}
-use Rattle.spelling_laws.specs.Told.{CanBeWritten, IsFunctionStep, IsBodyStep, IsCallStep}
+use Rattle.spelling_laws.specs.Told.{CanBeWritten}
 use Rattle.spelling_laws.proofs.ReadLemmas.{line_text_is_read}
 use Rattle.spelling_laws.proofs.TextLemmas.{texts_of}
 use Rattle.spelling_laws.proofs.PathLemmas.{all_among, lines, stands, way_is, ways_are}

@@ -1,29 +1,21 @@
 -- The ways that are written of a profile, one behind the other.
-use Rattle.std.proofs.Common.{◌≡◌, ◌⊎◌, ◌<◌, ◌≤◌, ◌^◌, ◌-◌, ℕ, zero, suc, ◌+◌, ◌&&◌, ◌||◌, nat_lt, not, min, Bool, true, false, List, [], ◌∷◌, ◌++◌, filter, flat_map, map, length, Option, None, refl, sym, ap, subst, ◌∙◌, inl, inr, arith}
-use Rattle.std.specs.Cmp.{IsTotalOrder}
-use Rattle.std.specs.Cmp.Lexicographic.{bytes_decides, slice_cmp}
-use Rattle.std.specs.List.{AllByRecursion, list_any}
+use Rattle.std.proofs.Common.{◌≡◌, ◌⊎◌, List, [], ◌∷◌, ◌++◌, flat_map, length, refl, sym, ap, subst, ◌∙◌, inl, inr, arith}
+use Rattle.std.specs.List.{AllByRecursion}
 use Rattle.std.specs.List.Sorted.{IsStrictlySortedBy}
 use Rattle.std.specs.Ordering.{ordering_reverse}
 use Rattle.std.specs.declared.cmp.Ordering.{Ordering}
-use Rattle.std.specs.declared.cmp.Ordering.TheVariants.{Less, Equal, Greater}
-use Rattle.std.proofs.lemmas.Bool.{true≢false, le-ltb}
-use Rattle.std.proofs.lemmas.Cmp.{tied_itself}
-use Rattle.profile_model.proofs.OrderLemmas.{step_total, ways_tell_apart, targets_tell_apart}
+use Rattle.std.specs.declared.cmp.Ordering.TheVariants.{Less, Greater}
+use Rattle.profile_model.proofs.OrderLemmas.{step_total, ways_tell_apart}
 use Rattle.profile_model.proofs.OrderedLemmas.{ordered_is_in_order}
-use Rattle.profile_model.proofs.StepLemmas.{same_ways, and_second}
-use Rattle.profile_model.specs.Judging.{cause_of}
 use Rattle.profile_model.specs.Laws.{TellsApart}
-use Rattle.profile_model.specs.Orders.{ordered, step_cmp, way_cmp, target_cmp}
-use Rattle.profile_model.specs.Profile.{Profile, Line, function_line, body_line, call_line, capped, total_of, total_of_function, target_of, targets_of, recorded, entered, written, line_by, line_at}
-use Rattle.profile_model.specs.Standing.{depth_of, can_stand, way_of, ways_of, targets_on, again_among, has_twice, tells_again}
-use Rattle.profile_model.specs.Ways.{Step, Way, same_name, same_way, beginnings, last_step}
-use Rattle.profile_laws.proofs.CountLemmas.{append_from, filter_from, flat_from, map_from}
-use Rattle.profile_laws.proofs.TotalLemmas.{Among, among_append_left, among_append_right, among_flat, among_from_has, among_map, has_from_among, written_ascends}
-use Rattle.spelling_laws.specs.Lines.{CanBeTold, IsNamed}
+use Rattle.profile_model.specs.Orders.{step_cmp, way_cmp}
+use Rattle.profile_model.specs.Profile.{Profile, total_of_function, recorded, entered, written}
+use Rattle.profile_model.specs.Ways.{Step, Way, beginnings, last_step}
+use Rattle.profile_laws.proofs.CountLemmas.{append_from, flat_from, map_from}
+use Rattle.profile_laws.proofs.TotalLemmas.{Among, among_flat, among_from_has, among_map, has_from_among, written_ascends}
 use Rattle.spelling_laws.specs.Told.{CanBeWritten, IsToldWay, IsFunctionWay}
-use Rattle.spelling_laws.proofs.PathLemmas.{Descend, HasOpen, ArePathed, all_among, front_is_less, lines, opens, stands, way_is, ways_are}
-use Rattle.spelling_laws.proofs.WayLemmas.{IsLineWay, LineOf, a_function, a_body, a_call, but_last, but_last_length, depth_is, function_lines, joined, key_lines, line_of_way}
+use Rattle.spelling_laws.proofs.PathLemmas.{Descend, HasOpen, ArePathed, all_among, front_is_less, opens}
+use Rattle.spelling_laws.proofs.WayLemmas.{IsLineWay, but_last, but_last_length, function_lines, joined, key_lines}
 
 abbrev pub cmp_of : Profile → Way → Way → Ordering
 cmp_of p = way_cmp (total_of_function p)

@@ -1,5 +1,5 @@
 -- Ways in order: each line stands below the nearest one before it that it goes on from.
-use Rattle.std.proofs.Common.{◌≡◌, ◌⊎◌, ◌<◌, ◌≤◌, ℕ, zero, suc, ◌+◌, ◌==◌, ◌||◌, nat_lt, Bool, true, false, cond, List, [], ◌∷◌, ◌++◌, map, find, length, Option, Some, None, refl, sym, ap, subst, ◌∙◌, inl, inr, arith}
+use Rattle.std.proofs.Common.{◌≡◌, ◌⊎◌, ◌<◌, ℕ, suc, ◌==◌, ◌||◌, nat_lt, Bool, true, false, cond, List, [], ◌∷◌, ◌++◌, map, length, Some, refl, sym, ap, subst, ◌∙◌, inl, inr, arith}
 use Rattle.std.specs.Prelude.{⊤}
 use Rattle.std.specs.Cmp.{IsTotalOrder}
 use Rattle.std.specs.Cmp.Lexicographic.{slice_cmp}
@@ -7,10 +7,10 @@ use Rattle.std.specs.List.{AllByRecursion}
 use Rattle.std.specs.Ordering.{ordering_reverse, ordering_then}
 use Rattle.std.specs.declared.cmp.Ordering.{Ordering}
 use Rattle.std.specs.declared.cmp.Ordering.TheVariants.{Less, Equal, Greater}
-use Rattle.std.proofs.lemmas.Bool.{true≢false, lt-ltb, le-ltb}
+use Rattle.std.proofs.lemmas.Bool.{lt-ltb, le-ltb}
 use Rattle.std.proofs.lemmas.Cmp.{tied_itself}
 use Rattle.profile_model.specs.Profile.{Profile, Line, line_at}
-use Rattle.profile_model.specs.Standing.{depth_of, step_of, encloses, encloses_if_any, line_above, can_stand, way_above, way_of, ways_of}
+use Rattle.profile_model.specs.Standing.{depth_of, step_of, encloses_if_any, line_above, can_stand, way_above, way_of, ways_of}
 use Rattle.profile_model.specs.Ways.{Step, Way, last_step}
 use Rattle.profile_laws.proofs.OnceLemmas.{nothing_above}
 use Rattle.profile_laws.proofs.TotalLemmas.{Among}

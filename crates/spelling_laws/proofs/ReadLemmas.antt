@@ -1,18 +1,17 @@
 -- A line that is written is read as that line.
-use Rattle.std.proofs.Common.{◌≡◌, ◌<◌, ◌^◌, ℕ, zero, suc, ◌+◌, ◌==◌, ◌&&◌, ◌||◌, nat_lt, cond, Bool, true, false, List, [], ◌∷◌, ◌++◌, map, drop, length, Option, Some, None, option_map, refl, sym, ap, subst, ◌∙◌, inl, inr, arith, append_assoc, append-nil}
+use Rattle.std.proofs.Common.{◌≡◌, ◌<◌, ◌^◌, ℕ, zero, suc, ◌+◌, ◌==◌, ◌&&◌, ◌||◌, nat_lt, cond, Bool, true, false, List, [], ◌∷◌, ◌++◌, map, drop, length, Option, Some, None, option_map, refl, sym, ap, subst, ◌∙◌, arith, append_assoc, append-nil}
 use Rattle.std.specs.Prelude.{codes, decimal}
-use Rattle.std.specs.Char.{digit_value, is_ascii_digit, is_digit}
+use Rattle.std.specs.Char.{is_ascii_digit, is_digit}
 use Rattle.std.specs.List.{AllByRecursion, flat_map, list_all, prefix_len}
-use Rattle.std.specs.Str.Parse.{AllDigits, IsNumeral, digits_value}
-use Rattle.std.proofs.ByRecursion.{All-append}
-use Rattle.std.proofs.lemmas.Bool.{true≢false, cases_eq, lt-ltb}
+use Rattle.std.specs.Str.Parse.{IsNumeral, digits_value}
+use Rattle.std.proofs.lemmas.Bool.{true≢false, lt-ltb}
 use Rattle.std.proofs.lemmas.Bool.Decides.{nat_tests}
 use Rattle.std.proofs.lemmas.List.Folds.{list_all-append}
 use Rattle.text_model.proofs.LawLemmas.{decimal_text_is_read}
-use Rattle.text_model.specs.Numbers.{decimal_of, number_of}
+use Rattle.text_model.specs.Numbers.{number_of}
 use Rattle.profile_model.specs.Names.{begins_no_name, is_name}
-use Rattle.profile_model.specs.Profile.{Line, function_line, body_line, call_line}
-use Rattle.profile_model.specs.Reading.{◌>>=◌, within_bits, number_within, parts_at, named_by, named_of, located_by, location_by, location_of, targets_of, body_by, call_of, behind_location, line_below, function_of, spaces_of, behind_spaces, line_of}
+use Rattle.profile_model.specs.Profile.{function_line, body_line, call_line}
+use Rattle.profile_model.specs.Reading.{◌>>=◌, within_bits, number_within, parts_at, named_by, named_of, located_by, location_by, location_of, targets_of, call_of, line_below, function_of, spaces_of, behind_spaces, line_of}
 use Rattle.profile_model.specs.Text.{disc_text, location_text, named_text, target_text, indent, line_text}
 use Rattle.spelling_laws.specs.Lines.{IsNamed, IsPlace, CanBeTold, LineTextIsRead}
 use Rattle.spelling_laws.proofs.ByteLemmas.{Lacks, IsNoDigit, digits_lack, numeral_of, decimal_lacks, name_known, name_lacks, parts_none, parts_first, both_lack}

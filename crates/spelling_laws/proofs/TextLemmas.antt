@@ -1,17 +1,16 @@
 -- The lines of a text that is written, and that none of them is passed over.
-use Rattle.std.proofs.Common.{◌≡◌, ◌<◌, ◌^◌, ℕ, zero, suc, ◌+◌, ◌==◌, ◌||◌, not, Bool, true, false, cond, List, [], ◌∷◌, ◌++◌, map, filter, take, drop, length, nat_eq, refl, sym, ap, subst, ◌∙◌, arith, append_assoc, append-nil}
+use Rattle.std.proofs.Common.{◌≡◌, ◌<◌, ◌^◌, ℕ, zero, suc, ◌+◌, ◌==◌, ◌||◌, not, Bool, true, false, cond, List, [], ◌∷◌, ◌++◌, map, drop, length, nat_eq, refl, sym, ap, subst, ◌∙◌, arith, append_assoc, append-nil}
 use Rattle.std.specs.Prelude.{codes, decimal}
 use Rattle.std.specs.Cmp.Lexicographic.{pointwise}
 use Rattle.std.specs.List.{AllByRecursion, enumerate_from, flat_map, list_any, position_or_len, starts_with}
-use Rattle.std.proofs.ByRecursion.{All-append}
 use Rattle.std.proofs.lemmas.Bool.{true≢false}
 use Rattle.std.proofs.lemmas.Bool.Decides.{nat_tests}
 use Rattle.std.proofs.lemmas.List.Concat.{flat_map-append}
 use Rattle.std.proofs.lemmas.List.Folds.{flat_map-map}
 use Rattle.text_model.proofs.FieldLemmas.{fields_of-blank, fields_of-first}
 use Rattle.text_model.proofs.LawLemmas.{lines_split}
-use Rattle.text_model.specs.Fields.{fields_of, is_blank, is_filled}
-use Rattle.text_model.specs.Laws.{HasNoLineFeed, IsTextOf, ended}
+use Rattle.text_model.specs.Fields.{fields_of, is_blank}
+use Rattle.text_model.specs.Laws.{HasNoLineFeed, ended}
 use Rattle.text_model.specs.Lines.{is_line_feed, lines_of}
 use Rattle.text_model.specs.LineTests.{is_blank_line}
 use Rattle.profile_model.specs.Judging.{kept_lines, kept_lines_of}

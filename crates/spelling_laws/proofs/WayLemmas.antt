@@ -1,12 +1,10 @@
 -- The ways of lines, and the lines of ways.
-use Rattle.std.proofs.Common.{◌≡◌, ◌⊎◌, ◌<◌, ◌≤◌, ◌^◌, ◌-◌, ℕ, zero, suc, ◌+◌, ◌==◌, Bool, true, false, List, [], ◌∷◌, ◌++◌, map, length, refl, sym, ap, subst, ◌∙◌, inl, inr, arith}
+use Rattle.std.proofs.Common.{◌≡◌, ◌⊎◌, ◌<◌, ◌≤◌, ◌-◌, ℕ, suc, ◌+◌, ◌==◌, true, List, [], ◌∷◌, ◌++◌, map, length, refl, sym, ap, subst, ◌∙◌, inl, inr, arith}
 use Rattle.std.specs.Prelude.{⊤}
-use Rattle.std.specs.List.{AllByRecursion}
 use Rattle.std.proofs.lemmas.Bool.Decides.{nat_tests}
-use Rattle.profile_model.specs.Names.{is_name}
-use Rattle.profile_model.specs.Profile.{Profile, Line, function_line, body_line, call_line, line_by, line_at}
+use Rattle.profile_model.specs.Profile.{Profile, line_by, line_at}
 use Rattle.profile_model.specs.Standing.{depth_of, step_of, encloses}
-use Rattle.profile_model.specs.Ways.{Kind, Step, Way, function, body, call, to_function, to_body, to_call, beginnings, last_step}
+use Rattle.profile_model.specs.Ways.{Step, Way, function, body, call, beginnings, last_step}
 use Rattle.profile_laws.proofs.TotalLemmas.{Among}
 use Rattle.spelling_laws.specs.Told.{IsFunctionStep, IsBodyStep, IsCallStep, EndInBody, IsToldWay, IsFunctionWay}
 

@@ -1,5 +1,5 @@
 -- Profiles whose text says all that was counted.
-use Rattle.std.specs.Prelude.{◌≡◌, ◌<◌, ◌≤◌, ℕ, ◌^◌, Bool, true, nat_lt, List, [], ◌∷◌, ◌++◌, filter, flat_map, length, None}
+use Rattle.std.specs.Prelude.{◌≡◌, ◌<◌, ◌≤◌, ℕ, ◌^◌, true, nat_lt, List, [], ◌∷◌, ◌++◌, filter, flat_map, length, None}
 use Rattle.std.specs.List.{AllByRecursion}
 use Rattle.text_model.specs.Laws.{HasNoLineFeed, ended}
 use Rattle.merge_laws.specs.Orders.{AreGoodTexts}

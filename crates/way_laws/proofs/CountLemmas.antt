@@ -1,30 +1,26 @@
 -- The numbers of a profile of so many branches have 64 bits.
-use Rattle.std.proofs.Common.{◌≡◌, ◌<◌, ◌≤◌, ◌+◌, ◌*◌, ◌/◌, ◌%◌, ◌^◌, ◌==◌, ℕ, zero, suc, max, ◌&&◌, Bool, true, false, cond, List, [], ◌∷◌, ◌++◌, filter, filter_map, length, map, count_by, Option, None, Some, option_map, refl, sym, ap, subst, ◌∙◌, inl, inr, arith, add-zero}
-use Rattle.std.specs.Prelude.{⊤, if◌then◌else◌, unwrap_or}
-use Rattle.std.specs.List.{AllByRecursion, cons_option}
+use Rattle.std.proofs.Common.{◌≡◌, ◌<◌, ◌≤◌, ◌+◌, ◌*◌, ◌/◌, ◌%◌, ◌^◌, ◌==◌, ℕ, suc, ◌&&◌, Bool, true, false, cond, List, [], ◌∷◌, filter, filter_map, length, map, Option, None, Some, option_map, refl, sym, ap, subst, ◌∙◌, inl, inr, arith}
+use Rattle.std.specs.Prelude.{if◌then◌else◌, unwrap_or}
+use Rattle.std.specs.List.{cons_option}
 use Rattle.std.specs.List.Sorted.{IsStrictlySortedBy}
 use Rattle.std.specs.declared.cmp.Ordering.{Ordering}
-use Rattle.std.specs.declared.cmp.Ordering.TheVariants.{Less}
 use Rattle.std.proofs.lemmas.List.Sums.{count_by-le-length}
 use Rattle.std.proofs.Common.{mul-le-mul}
 use Rattle.key_types.specs.Discriminators as packed
-use Rattle.chain_model.specs.Places.{LineAndDisc, factor_at, row_of, chain_members}
+use Rattle.chain_model.specs.Places.{LineAndDisc, row_of, chain_members}
 use Rattle.merge_laws.proofs.SumLemmas.{kept_sum, kept_more}
 use Rattle.profile_laws.proofs.TotalLemmas.{Among, not_among_above}
-use Rattle.profile_model.proofs.OrderLemmas.{ways_tell_apart}
-use Rattle.profile_model.proofs.OrderedLemmas.{Above, ordered_is_in_order}
+use Rattle.profile_model.proofs.OrderedLemmas.{Above}
 use Rattle.profile_model.proofs.StepLemmas.{same_ways}
 use Rattle.profile_model.specs.Counts.{weighed}
 use Rattle.profile_model.specs.Laws.{TellsApart}
-use Rattle.profile_model.specs.Orders.{way_cmp}
-use Rattle.profile_model.specs.Profile.{Profile, count_of, head_of, target_of}
 use Rattle.profile_model.specs.Ways.{Way, same_name, same_way}
 use Rattle.report_model.specs.Report.{Sampled}
 use Rattle.binary_model.specs.Addresses.{factor_of_address}
 use Rattle.binary_model.specs.Binary.{members_in, tables_in}
 use Rattle.binary_model.specs.Places.{numbered_from, row_in}
 use Rattle.output_model.specs.Program.{Program, program_of, way_at}
-use Rattle.output_model.specs.Sampled.{call_by, call_of, count_among, has_way, head_of as entry_of, hits_of, largest, profile_among, ran_over, ways_among}
+use Rattle.output_model.specs.Sampled.{call_by, call_of, count_among, has_way, head_of as entry_of, hits_of, largest, ran_over}
 
 -- ---- entries and calls
 

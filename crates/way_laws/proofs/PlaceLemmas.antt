@@ -1,5 +1,5 @@
 -- The ways of a program's places are ways that lines can tell.
-use Rattle.std.proofs.Common.{◌≡◌, ◌<◌, ◌≤◌, ◌+◌, ◌*◌, ◌/◌, ◌%◌, ◌^◌, ◌==◌, ℕ, zero, suc, Bool, true, false, cond, List, [], ◌∷◌, ◌++◌, map, find, take, take_while, length, Option, None, Some, option_map, refl, sym, ap, subst, ◌∙◌, arith, append_assoc}
+use Rattle.std.proofs.Common.{◌≡◌, ◌<◌, ◌≤◌, ◌+◌, ◌*◌, ◌/◌, ◌%◌, ◌^◌, ◌==◌, ℕ, zero, suc, Bool, true, false, cond, List, [], ◌∷◌, ◌++◌, map, find, take, length, Option, None, Some, option_map, refl, sym, ap, ◌∙◌, arith, append_assoc}
 use Rattle.std.specs.Prelude.{⊤, if◌then◌else◌, nat_lt, option_and_then, slice_get, unwrap_or}
 use Rattle.std.specs.List.{AllByRecursion, enumerate_from, prefix_len}
 use Rattle.std.specs.Option.{option_map_or}
@@ -14,14 +14,14 @@ use Rattle.chain_model.specs.Places.{LineAndDisc, chain_members, entry_name, fra
 use Rattle.chain_model.specs.declared.member.Member.{Member}
 use Rattle.profile_model.proofs.StepLemmas.{and_first, nat_same}
 use Rattle.profile_model.specs.Names.{is_name}
-use Rattle.profile_model.specs.Ways.{Step, Way, to_body, to_call, to_function}
+use Rattle.profile_model.specs.Ways.{Step, to_body, to_call}
 use Rattle.spelling_laws.specs.Told.{EndInBody, IsToldWay}
 use Rattle.tree_model.specs.Members.{Told}
 use Rattle.binary_model.specs.Addresses.{entered_at}
 use Rattle.binary_model.specs.Binary.{members_in, tables_in}
 use Rattle.binary_model.specs.Places.{Place, at_way, in_names, name_of, names_of, nameless, no_line, numbered_from, outside, place_among, place_of_address, row_in, way_of}
 use Rattle.way_laws.specs.Rows.{HasDisc}
-use Rattle.way_laws.proofs.NameLemmas.{AreTold, IsNameIfAny, IsTold, members_are_told}
+use Rattle.way_laws.proofs.NameLemmas.{AreTold, IsNameIfAny, members_are_told}
 use Rattle.way_laws.proofs.RowLemmas.{rows_have_discriminators}
 
 -- ---- members by number

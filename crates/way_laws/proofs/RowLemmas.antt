@@ -1,5 +1,5 @@
 -- Discriminators of rows have 32 bits, since each operation sets one of so many.
-use Rattle.std.proofs.Common.{◌≡◌, ◌<◌, ◌+◌, ◌-◌, ◌%◌, ◌^◌, ℕ, zero, suc, ◌==◌, nat_le, Bool, true, false, List, [], ◌∷◌, ◌++◌, map, filter, find, reverse, length, zip, Option, None, Some, Result, Ok, Err, ℤ, pos, ◌+ℤ◌, option_map, refl, sym, ap, subst, ◌∙◌, arith, mod-lt}
+use Rattle.std.proofs.Common.{◌<◌, ◌+◌, ◌-◌, ◌^◌, ℕ, zero, suc, ◌==◌, nat_le, Bool, true, false, List, [], ◌∷◌, ◌++◌, map, filter, find, reverse, length, zip, Option, None, Some, Result, Ok, Err, ℤ, pos, ◌+ℤ◌, option_map, arith}
 use mathlib.Core.List.{reverse_aux}
 use Rattle.std.specs.Prelude.{⊤, codes, cond, nat_lt, if◌then◌else◌, option_and_then, slice_get, slice_index}
 use Rattle.std.specs.List.{AllByRecursion, slice_split, onto_first}
@@ -9,7 +9,6 @@ use Rattle.refusal.specs.declared.kind.Kind.TheVariants.{PastSection, TooManyRow
 use Rattle.refusal.specs.declared.place.Place.{Place}
 use Rattle.byte_view.specs.Cursor.{Cursor}
 use Rattle.byte_view.specs.Reading.{Reading, field_at, run_at, uleb_at, sleb_at}
-use Rattle.chain_model.specs.Places.{LineAndDisc}
 use Rattle.line_model.specs.declared.row.Row.{Row}
 use Rattle.line_model.specs.declared.operation.Operation.{Operation}
 use Rattle.line_model.specs.declared.operation.Operation.TheVariants.{Special, Copy, AdvancePc, AdvanceLine, ConstAddPc, FixedAdvancePc, EndSequence, SetAddress, SetDiscriminator, Pass}
@@ -17,8 +16,8 @@ use Rattle.line_model.specs.Fields.{Program, Judged, ◌>>=◌, unless, program_
 use Rattle.line_model.specs.Header.{Header}
 use Rattle.line_model.specs.Opcodes.{Operand, alone, unsigned, signed, fixed, standard_opcodes, extended_opcodes, look_up}
 use Rattle.line_model.specs.Program.{Machine, Placed, placed_first, operations_in, operations_of, is_full, is_open, with_added, with_step, machine_after, at_place, machine_behind, rows_behind, rows_in, rows_at}
-use Rattle.line_model.specs.Reading.{OperationReading, made, operand_at, behind_number, ulebs_at, standard_at, then_rest, within_at, of_code, code_at, of_run, of_length, extended_at, below_base_at, opcode_at, of_opcode, operation_at}
-use Rattle.line_model.specs.Registers.{Registers, Step, line_of, lines_on, instructions_on, special_lines, special_instructions, start, step_of, with_row, with_end, without_row}
+use Rattle.line_model.specs.Reading.{OperationReading, made, operand_at, behind_number, ulebs_at, standard_at, then_rest, within_at, of_code, code_at, of_run, of_length, extended_at, below_base_at, of_opcode, operation_at}
+use Rattle.line_model.specs.Registers.{Registers, Step, line_of, lines_on, instructions_on, special_lines, special_instructions, start, step_of, with_row, without_row}
 use Rattle.line_model.specs.Rows.{Sequence, ends, holds, sequences_of, live_sequences, row_among, row_in as row_of_sequence}
 use Rattle.placed_view.specs.Reader.{cursor_behind}
 use Rattle.tree_model.specs.Bases.{root_attribute, section_place}
@@ -27,7 +26,6 @@ use Rattle.unit_model.specs.Units.{Unit as InfoUnit, Units}
 use Rattle.unit_model.specs.Values.{Found}
 use Rattle.binary_model.specs.Binary.{list_or_none, rows_read, tables_in, units_in}
 use Rattle.binary_model.specs.LinePrograms.{next_rows, row_count, rows_behind as rows_of_rest, rows_by, rows_from, rows_if, rows_of_unit, rows_of_units}
-use Rattle.binary_model.specs.Places.{row_in}
 use Rattle.binary_model.specs.Sections.{section_at}
 use Rattle.way_laws.specs.Rows.{HasDisc, RowsHaveDiscriminators}
 

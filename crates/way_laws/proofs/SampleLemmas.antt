@@ -1,6 +1,5 @@
 -- A good branch text has fewer than 2^32 branches, and no more ranges than branches.
-use Rattle.std.proofs.Common.{◌≡◌, ◌<◌, ◌≤◌, ◌+◌, ◌-◌, ◌^◌, ℕ, zero, suc, nat_le, nat_lt, not, ◌&&◌, Bool, true, false, List, [], ◌∷◌, ◌++◌, drop, length, map, take, zip, Option, None, Some, refl, sym, ap, subst, ◌∙◌, inl, inr, arith, append_assoc, append-nil}
-use Rattle.std.specs.Prelude.{if◌then◌else◌}
+use Rattle.std.proofs.Common.{◌≡◌, ◌≤◌, ◌+◌, ◌-◌, ℕ, nat_lt, not, ◌&&◌, Bool, true, false, List, [], ◌∷◌, ◌++◌, drop, length, map, take, zip, Option, None, Some, refl, sym, ap, subst, ◌∙◌, inl, inr, arith, append_assoc, append-nil}
 use Rattle.std.specs.List.{enumerate_from, flat_map}
 use Rattle.std.specs.Option.{option_map, option_or}
 use Rattle.std.proofs.lemmas.Bool.{cases_lt, le-leb, lt-ltb}
@@ -11,7 +10,7 @@ use Rattle.refusal.specs.declared.kind.Kind.TheVariants.{BadLine, FileTooLarge, 
 use Rattle.refusal.specs.declared.place.Place.{Place}
 use Rattle.refusal.specs.Place.{fails_at, first_bad, first_cause, size_item}
 use Rattle.refusal.proofs.PlaceLemmas.{first_bad-append}
-use Rattle.text_model.specs.Lines.{ended_lines_of, lines_of}
+use Rattle.text_model.specs.Lines.{lines_of}
 use Rattle.sample_model.specs.Judging.{cause_of_line, first_bad_of_text, item_of_line, items_of_lines, judged_lines_of}
 use Rattle.sample_model.specs.Limits.{max_branches, max_entries, max_line_bytes, max_text_bytes}
 use Rattle.sample_model.specs.Line.{branches_of_line, is_sample, is_well_formed}

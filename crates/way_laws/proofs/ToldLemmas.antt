@@ -1,5 +1,5 @@
 -- The profile of a binary and a good branch text can be told.
-use Rattle.std.proofs.Common.{◌≡◌, ◌⊎◌, ◌<◌, ◌≤◌, ◌^◌, ℕ, suc, ◌&&◌, nat_lt, Bool, true, false, cond, List, [], ◌∷◌, ◌++◌, filter, filter_map, length, map, Option, None, Some, option_map, refl, sym, ap, subst, ◌∙◌, inl, inr, arith}
+use Rattle.std.proofs.Common.{◌≡◌, ◌<◌, ◌≤◌, ◌^◌, ℕ, Bool, true, false, cond, List, [], ◌∷◌, filter, filter_map, length, map, Option, None, Some, option_map, refl, arith}
 use Rattle.std.specs.Prelude.{⊤}
 use Rattle.std.specs.List.{AllByRecursion, cons_option}
 use Rattle.std.specs.declared.cmp.Ordering.{Ordering}
@@ -10,17 +10,15 @@ use Rattle.profile_model.proofs.OrderLemmas.{ways_tell_apart}
 use Rattle.profile_model.proofs.OrderedLemmas.{ordered_is_in_order}
 use Rattle.profile_model.specs.Names.{is_name}
 use Rattle.profile_model.specs.Orders.{ordered, placed, way_cmp, with_item}
-use Rattle.profile_model.specs.Profile.{Profile, count_of, entered, head_of, recorded, target_of}
-use Rattle.profile_model.specs.Ways.{Step, Way, to_function}
+use Rattle.profile_model.specs.Profile.{recorded}
+use Rattle.profile_model.specs.Ways.{Way, to_function}
 use Rattle.report_model.specs.Report.{Sampled}
-use Rattle.sample_model.specs.Judging.{first_bad_of_text}
-use Rattle.sample_model.specs.Moves.{branches_by, ranges_by}
 use Rattle.spelling_laws.specs.Told.{CanBeWritten, IsFunctionWay, IsToldWay}
 use Rattle.binary_model.specs.Places.{Place, at_way, nameless, no_line, outside}
 use Rattle.output_model.specs.Output.{loading_of, sampled_by}
-use Rattle.output_model.specs.Program.{Program, program_of, way_at, way_of_place}
+use Rattle.output_model.specs.Program.{program_of, way_at, way_of_place}
 use Rattle.output_model.specs.Sampled.{all_addresses, call_by, call_of, count_among, head_of as entry_of, profile_among, profile_of, ways_among}
-use Rattle.way_laws.specs.Told.{ProfilesCanBeTold, profiled}
+use Rattle.way_laws.specs.Told.{ProfilesCanBeTold}
 use Rattle.way_laws.proofs.CountLemmas.{calls_few, count_low, heads_few, own_count}
 use Rattle.way_laws.proofs.NameLemmas.{IsNameIfAny}
 use Rattle.way_laws.proofs.PlaceLemmas.{IsToldPlace, entries_are_named, places_are_told}

@@ -8,8 +8,8 @@ pub fn what_build_writes_is_accepted()
     ensures { BuiltIsAccepted }
 {}
 
-/// Where `profile` may write a text of at most 2^28 bytes, `merge` of that text alone, with weight 1,
-/// accepts it and writes its profile lines again, without the report.
+/// Where `profile` may write a text of at most 2^28 bytes, `merge` of that text alone, with weight
+/// 1, accepts it and writes its profile lines again, without the report.
 pub fn what_profile_writes_is_merged()
     ensures { ProfiledIsMerged }
 {}

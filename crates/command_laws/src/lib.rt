@@ -1,5 +1,5 @@
-//! What follows from how commands answer: that `check` accepts what `build` writes, and that `merge`
-//! writes again what `profile` wrote.
+//! What follows from how commands answer: that `check` accepts what `build` writes, and that
+//! `merge` writes again what `profile` wrote.
 #![tactic(auto)]
 
 mod laws;

@@ -1,5 +1,5 @@
-//! What follows from how a profile is written and read: that its text says what was counted, so that
-//! a merge of it alone writes it again.
+//! What follows from how a profile is written and read: that its text says what was counted, so
+//! that a merge of it alone writes it again.
 #![tactic(auto)]
 
 mod laws;

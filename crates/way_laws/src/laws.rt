@@ -7,8 +7,8 @@ pub fn rows_have_discriminators()
     ensures { RowsHaveDiscriminators }
 {}
 
-/// The profile of a binary and a good branch text can be told by lines: all its names are names, all
-/// its numbers have the bits in which they are read, and no key is more than 256 deep.
+/// The profile of a binary and a good branch text can be told by lines: all its names are names,
+/// all its numbers have the bits in which they are read, and no key is more than 256 deep.
 pub fn profiles_can_be_told()
     ensures { ProfilesCanBeTold }
 {}

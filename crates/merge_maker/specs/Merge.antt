@@ -19,6 +19,6 @@ pub record IsMergeOf (state : State) (texts : List (ℕ × List ℕ)) : Type 0 w
   pub few_names : length state.names ≤ length texts * 2 ^ 28
   pub few_keys : length state.keys ≤ length texts * 2 ^ 28
 
--- Fewer than eight texts were summed.
+-- Another text can be read: there are fewer than 2^31 names and keys of those that were summed.
 abbrev pub HasRoom : State → Type 0
-HasRoom state = (texts : List (ℕ × List ℕ)) × IsMergeOf state texts × (length texts < 8)
+HasRoom state = (texts : List (ℕ × List ℕ)) × IsMergeOf state texts × (length texts * 2 ^ 28 < 2 ^ 31)

@@ -1,4 +1,4 @@
-use Rattle.std.proofs.Common.{ap, map, subst, sym, ◌≡◌, ◌∙◌}
+use Rattle.std.proofs.Common.{subst, ◌∙◌}
 use Rattle.std.proofs.lemmas.Result.{IfOk-weaker}
 use Rattle.profile_tree.proofs.StatedLemmas.{stated_lines}
 use Rattle.profile_tree.specs.Sums.{AreEach, count_stated}

@@ -1,17 +1,15 @@
 -- Heads, counts and targets, by numbers and by names.
-use Rattle.std.proofs.Common.{◌≡◌, ℕ, ◌+◌, ◌*◌, ◌<◌, ◌==◌, Bool, true, false, cond, ◌&&◌, List, [], ◌∷◌, ◌++◌, map, filter, length, refl, sym, ap, subst, ◌∙◌, arith, zero-add}
+use Rattle.std.proofs.Common.{◌≡◌, ℕ, ◌+◌, ◌*◌, ◌<◌, ◌==◌, Bool, true, false, cond, ◌&&◌, List, [], ◌∷◌, map, filter, length, refl, sym, ap, subst, ◌∙◌, arith, zero-add}
 use Rattle.std.specs.Prelude.{sum_by}
 use Rattle.std.specs.Cmp.Lexicographic.{bytes_decides}
 use Rattle.std.specs.List.{AllByRecursion}
 use Rattle.std.specs.Option.{unwrap_or}
-use Rattle.std.proofs.lemmas.List.Sums.{sum_by-append, sum_by-cons}
-use Rattle.std.proofs.lemmas.List.Elements.{filter-append}
+use Rattle.std.proofs.lemmas.List.Sums.{sum_by-cons}
 use Rattle.std.proofs.lemmas.Option.{slice_get-get_or}
-use Rattle.std.proofs.Math.Nat.{mul-add}
 use Rattle.key_types.specs.declared.key.Key.{Key}
 use Rattle.merge_laws.proofs.SumLemmas.{number_in-both, number_in-weighed}
 use Rattle.profile_model.specs.Merge.{both, weighed}
-use Rattle.profile_model.specs.Profile.{Profile, count_of, target_of, head_of}
+use Rattle.profile_model.specs.Profile.{Profile}
 use Rattle.profile_model.specs.Spelled.{What as ToldWhat, head, count, target, Number, profile_by, number_in}
 use Rattle.profile_model.specs.Ways.{Step, Way, to_function, to_call, same_name, same_way}
 use Rattle.profile_tree.proofs.ListLemmas.{and_first, and_second, nat_same}

@@ -39,7 +39,7 @@ record IsAccepted (funs : List Function) (text : List ℕ) : Type 0 where
   good : first_bad_of_repairs 2 funs text ≡ None
   passes : checking.failed_line funs (repairs_of funs text) ≡ None
 
-clean_names : (funs : List Function) → AllByRecursion (λ (fun : Function). IsField fun.name) funs → AllByRecursion (λ (fun : Function). HasNoLineFeed fun.name) funs
+pub clean_names : (funs : List Function) → AllByRecursion (λ (fun : Function). IsField fun.name) funs → AllByRecursion (λ (fun : Function). HasNoLineFeed fun.name) funs
 clean_names [] named = tt
 clean_names (fun ∷ funs) named = (named.0.clean, clean_names funs named.1)
 

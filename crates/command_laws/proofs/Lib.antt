@@ -4,3 +4,4 @@ pub mod LineLemmas
 pub mod NameLemmas
 pub mod RepairLemmas
 mod MergedLemmas
+mod CommentLemmas

@@ -69,7 +69,7 @@ weaker {P} {Q} text gives are = record { lines = are.lines; joined = are.joined;
 
 -- ---- no line feed
 
-both_clean : (xs ys : List ℕ) → HasNoLineFeed xs → HasNoLineFeed ys → HasNoLineFeed (xs ++ ys)
+pub both_clean : (xs ys : List ℕ) → HasNoLineFeed xs → HasNoLineFeed ys → HasNoLineFeed (xs ++ ys)
 both_clean xs ys one other = list_any-append is_line_feed xs ys ∙ ap (λ t. t || list_any is_line_feed ys) one ∙ other
 
 -- Digits are above any line feed, and above `#`.
@@ -101,7 +101,7 @@ high_clean : (bytes : List ℕ) → AreHigh bytes → HasNoLineFeed bytes
 high_clean [] high = refl
 high_clean (b ∷ bytes) high = ap (λ t. t || list_any is_line_feed bytes) (ne_eqb b 10 (λ same. let h = high.0 in omega (arith, h, same))) ∙ high_clean bytes high.1
 
-number_clean : (n : ℕ) → HasNoLineFeed (decimal_text n)
+pub number_clean : (n : ℕ) → HasNoLineFeed (decimal_text n)
 number_clean n = high_clean (decimal_text n) (digits_high 10 false n)
 
 hex_clean : (n : ℕ) → HasNoLineFeed (hex_text n)
@@ -405,14 +405,17 @@ pub report_passed : (classes : Classes) (sampled : Sampled) → AreLines (report
 report_passed classes sampled = weaker (report_text classes sampled) (λ line is. record { other = is.other; clean = is.clean }) (report_lines classes sampled)
 
 -- A profile text passes them over too.
-comment : (line : List ℕ) → IsReportLine line → IsComment line
+pub begins_comment : (b : ℕ) (bytes : List ℕ) → b ≡ 35 → HasNoLineFeed (b ∷ bytes) → IsComment (b ∷ bytes)
 unfolding is_passed
-comment [] is = absurd is.hash
-comment (b ∷ bytes) is = (is.clean, subst (λ (c : ℕ). (is_blank_line (c ∷ bytes) || starts_with nat_eq (behind_spaces (c ∷ bytes)) (codes "#")) ≡ true) (sym is.hash) (either (is_blank_line (35 ∷ bytes))))
+begins_comment b bytes hash clean = (clean, subst (λ (c : ℕ). (is_blank_line (c ∷ bytes) || starts_with nat_eq (behind_spaces (c ∷ bytes)) (codes "#")) ≡ true) (sym hash) (either (is_blank_line (35 ∷ bytes))))
   where
     either : (t : Bool) → (t || true) ≡ true
     either true = refl
     either false = refl
+
+comment : (line : List ℕ) → IsReportLine line → IsComment line
+comment [] is = absurd is.hash
+comment (b ∷ bytes) is = begins_comment b bytes is.hash is.clean
 
 pub report_comments : (classes : Classes) (sampled : Sampled) → AreLinesOf IsComment (report_text classes sampled)
 report_comments classes sampled = weaker (report_text classes sampled) comment (report_lines classes sampled)

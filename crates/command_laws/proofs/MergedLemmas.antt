@@ -1,25 +1,32 @@
 -- What `merge` answers where `profile` may write the text.
-use Rattle.std.proofs.Common.{◌≡◌, ℕ, ◌≤◌, List, [], ◌∷◌, ◌++◌, length, None, Some, refl, sym, ap, ◌∙◌, subst}
+use Rattle.std.proofs.Common.{◌≡◌, ℕ, ◌≤◌, Bool, is_some, List, [], ◌∷◌, ◌++◌, length, None, Some, refl, sym, ap, ◌∙◌, subst}
 use Rattle.std.proofs.lemmas.Bool.{le-ltb}
 use Rattle.refusal.specs.Place.{size_item}
 use Rattle.io_edge.specs.Inputs.{Store}
 use Rattle.text_model.specs.Lines.{lines_of}
 use Rattle.profile_model.specs.Merge.{first_bad_of_summed, merge_text, merged}
+use Rattle.profile_model.specs.Profile.{Profile}
 use Rattle.profile_model.specs.Text.{profile_text}
+use Rattle.block_model.specs.Text.{functions_of}
 use Rattle.spelling_laws.proofs.BackLemmas.{merge_writes_again}
 use Rattle.sample_model.specs.Judging.{first_bad_of_text}
 use Rattle.spelling_laws.specs.Told.{CanBeWritten, IsComment, text_with}
 use Rattle.way_laws.proofs.ToldLemmas.{profiles_can_be_told}
 use Rattle.report_model.specs.Report.{Sampled, report_text}
+use Rattle.output_model.specs.Built.{IsBuilt, count_of_way, edges_of}
 use Rattle.output_model.specs.Output.{loading_of, output_text, sampled_by}
-use Rattle.output_model.specs.Program.{Program, program_of}
+use Rattle.output_model.specs.Program.{Program, program_of, way_at}
 use Rattle.output_model.specs.Sampled.{classes_of, profile_of}
 use Rattle.command_model.specs.Answer.{answer_of_command, writes}
-use Rattle.command_model.specs.Command.{merge, profile}
-use Rattle.command_model.specs.Files.{file_at, first_bad_of_part, max_profile_bytes}
-use Rattle.command_laws.specs.Merged.{ProfiledIsMerged}
-use Rattle.command_laws.proofs.AnswerLemmas.{has_file, same_contents}
-use Rattle.command_laws.proofs.LineLemmas.{AreLinesOf, report_comments}
+use Rattle.command_model.specs.Command.{build, merge, profile}
+use Rattle.command_model.specs.Files.{file_at, first_bad_of_blocks, first_bad_of_part, max_profile_bytes}
+use Rattle.command_model.specs.Options.{Options}
+use Rattle.command_laws.specs.Merged.{BuiltIsMerged, ProfiledIsMerged}
+use Rattle.command_laws.proofs.AnswerLemmas.{clean_names, has_file, same_contents}
+use Rattle.command_laws.proofs.LineLemmas.{AreLinesOf, both_lines, report_comments}
+use Rattle.command_laws.proofs.BlockLemmas.{names_are_fields}
+use Rattle.command_laws.proofs.CommentLemmas.{repairs_comments}
+use Rattle.command_laws.proofs.RepairLemmas.{all_readable}
 
 good_size : (text : List ℕ) → length text ≤ max_profile_bytes → size_item 1 max_profile_bytes text ≡ None
 good_size text small = rw (le-ltb max_profile_bytes (length text) small) refl
@@ -32,24 +39,30 @@ merges : (files : Store) (out text : List ℕ) → files out ≡ Some text → f
     → answer_of_command files (merge ((1, out) ∷ [])) ≡ writes (merge ((1, out) ∷ [])) (text ∷ [])
 merges files out text there good = rw (there, good) refl
 
--- The text is the profile's, with the report's lines behind it.
-told_with : (program : Program) (sampled : Sampled) (text : List ℕ) → text ≡ output_text program sampled
-    → (comments : AreLinesOf IsComment (report_text (classes_of program) sampled)) → text ≡ text_with (profile_of program sampled) comments.lines
-unfolding output_text
-told_with program sampled text is comments = is ∙ ap (λ report. profile_text (profile_of program sampled) ++ report) comments.joined
-
--- Of a text that was written of a profile that can be told
-merged_again : (files : Store) (program : Program) (sampled : Sampled) (out text again : List ℕ) → text ≡ output_text program sampled → length text ≤ max_profile_bytes
-    → CanBeWritten (profile_of program sampled) → files out ≡ Some text
+-- A text of a profile that can be told, with comments behind it, is merged to the profile's text.
+merged_again : (files : Store) (p : Profile) (behind out text again : List ℕ) → text ≡ profile_text p ++ behind → AreLinesOf IsComment behind → length text ≤ max_profile_bytes
+    → CanBeWritten p → files out ≡ Some text
     → (answer_of_command files (merge ((1, out) ∷ [])) ≡ writes (merge ((1, out) ∷ [])) (text ∷ []))
-    × (again ≡ merge_text ((1, text) ∷ []) → again ≡ profile_text (profile_of program sampled))
-merged_again files program sampled out text again wrote small can there =
-    let comments = report_comments (classes_of program) sampled in
-    let is : text ≡ text_with (profile_of program sampled) comments.lines = told_with program sampled text wrote comments in
-    let law = merge_writes_again (profile_of program sampled) comments.lines can comments.passed in (
+    × (again ≡ merge_text ((1, text) ∷ []) → again ≡ profile_text p)
+merged_again files p behind out text again wrote comments small can there =
+    let is : text ≡ text_with p comments.lines = wrote ∙ ap (λ t. profile_text p ++ t) comments.joined in
+    let law = merge_writes_again p comments.lines can comments.passed in (
       merges files out text there (good_part text small (subst (λ t. first_bad_of_summed 1 1 (merged []) t ≡ None) (sym is) law.0.0)),
       λ wrote_again. wrote_again ∙ ap (λ t. merge_text ((1, t) ∷ [])) is ∙ law.1,
     )
+
+output_is : (program : Program) (sampled : Sampled) (text : List ℕ) → text ≡ output_text program sampled → text ≡ profile_text (profile_of program sampled) ++ report_text (classes_of program) sampled
+unfolding output_text
+output_is program sampled text wrote = wrote
+
+abbrev program_in : Options → List (List ℕ) → Program
+program_in options contents = program_of (file_at 0 contents) options.base
+
+abbrev sampled_in : Options → List (List ℕ) → Sampled
+sampled_in options contents = sampled_by (loading_of options.map (file_at 0 contents)) (file_at 0 contents) (lines_of (file_at 1 contents))
+
+can_be_told : (options : Options) (contents : List (List ℕ)) → first_bad_of_text 2 (file_at 1 contents) ≡ None → CanBeWritten (profile_of (program_in options contents) (sampled_in options contents))
+can_be_told options contents good = profiles_can_be_told options.map options.base (file_at 0 contents) (file_at 1 contents) 2 good
 
 pub profiled_is_merged : ProfiledIsMerged
 profiled_is_merged files options bin perf out contents text again answers may small there =
@@ -58,6 +71,31 @@ profiled_is_merged files options bin perf out contents text again answers may sm
     let two = has_file 2 (files perf) (first_bad_of_text 2) _ command contents one.then in
     let are : one.file ∷ two.file ∷ [] ≡ contents = same_contents command command contents (one.file ∷ two.file ∷ []) two.then in
     let good : first_bad_of_text 2 (file_at 1 contents) ≡ None = subst (λ (found : List (List ℕ)). first_bad_of_text 2 (file_at 1 found) ≡ None) are two.good in
-    let can = profiles_can_be_told options.map options.base (file_at 0 contents) (file_at 1 contents) 2 good in
-    merged_again files (program_of (file_at 0 contents) options.base)
-    (sampled_by (loading_of options.map (file_at 0 contents)) (file_at 0 contents) (lines_of (file_at 1 contents))) out text again may small can there
+    let program = program_in options contents in
+    let sampled = sampled_in options contents in
+    merged_again files (profile_of program sampled) (report_text (classes_of program) sampled) out text again (output_is program sampled text may)
+    (report_comments (classes_of program) sampled) small (can_be_told options contents good) there
+
+-- What `build` puts behind the profile.
+behind_comments : (edges : Bool) (program : Program) (sampled : Sampled) (blocks text : List ℕ) (built : IsBuilt edges program sampled (functions_of blocks) text)
+    → AreLinesOf IsComment (built.repairs ++ report_text (classes_of program) sampled)
+behind_comments edges program sampled blocks text built =
+    let funs = functions_of blocks in
+    let named = names_are_fields blocks in
+    let told = all_readable (way_at program) (count_of_way program sampled) (edges_of edges program sampled) funs built.repairs named built.repaired in
+    both_lines built.repairs (report_text (classes_of program) sampled)
+    (subst (AreLinesOf IsComment) (sym told.spelled) (repairs_comments (is_some (edges_of edges program sampled)) funs told.repairs (clean_names funs named)))
+    (report_comments (classes_of program) sampled)
+
+pub built_is_merged : BuiltIsMerged
+built_is_merged files options bin perf cfg out contents text again answers may small there =
+    let command = build options bin perf cfg in
+    let one = has_file 1 (files bin) _ _ command contents answers in
+    let two = has_file 2 (files perf) (first_bad_of_text 2) _ command contents one.then in
+    let three = has_file 3 (files cfg) (first_bad_of_blocks 3) _ command contents two.then in
+    let are : one.file ∷ two.file ∷ three.file ∷ [] ≡ contents = same_contents command command contents (one.file ∷ two.file ∷ three.file ∷ []) three.then in
+    let good : first_bad_of_text 2 (file_at 1 contents) ≡ None = subst (λ (found : List (List ℕ)). first_bad_of_text 2 (file_at 1 found) ≡ None) are two.good in
+    let program = program_in options contents in
+    let sampled = sampled_in options contents in
+    merged_again files (profile_of program sampled) (may.repairs ++ report_text (classes_of program) sampled) out text again may.spelled
+    (behind_comments options.edges program sampled (file_at 2 contents) text may) small (can_be_told options contents good) there

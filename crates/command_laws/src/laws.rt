@@ -1,6 +1,6 @@
 // How one command answers what another one wrote.
 ghost use Rattle.command_laws.specs.Laws.{BuiltIsAccepted};
-ghost use Rattle.command_laws.specs.Merged.{ProfiledIsMerged};
+ghost use Rattle.command_laws.specs.Merged.{BuiltIsMerged, ProfiledIsMerged};
 
 /// Where `build` may write a text of at most 2^28 bytes, `check` accepts it with the same block
 /// text: neither file has a bad place, and no line fails its test.
@@ -12,4 +12,10 @@ pub fn what_build_writes_is_accepted()
 /// 1, accepts it and writes its profile lines again, without the report.
 pub fn what_profile_writes_is_merged()
     ensures { ProfiledIsMerged }
+{}
+
+/// Where `build` may write a text of at most 2^28 bytes, `merge` of it alone, with weight 1, accepts
+/// it and writes its profile lines again, without the repairs and the report.
+pub fn what_build_writes_is_merged()
+    ensures { BuiltIsMerged }
 {}

@@ -14,8 +14,8 @@ pub fn what_profile_writes_is_merged()
     ensures { ProfiledIsMerged }
 {}
 
-/// Where `build` may write a text of at most 2^28 bytes, `merge` of it alone, with weight 1, accepts
-/// it and writes its profile lines again, without the repairs and the report.
+/// Where `build` may write a text of at most 2^28 bytes, `merge` of it alone, with weight 1,
+/// accepts it and writes its profile lines again, without the repairs and the report.
 pub fn what_build_writes_is_merged()
     ensures { BuiltIsMerged }
 {}

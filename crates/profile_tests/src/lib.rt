@@ -6,6 +6,8 @@ mod of_branch_class;
 #[cfg(test)]
 mod of_key_counts;
 #[cfg(test)]
+mod of_line_lift;
+#[cfg(test)]
 mod of_profile_report;
 #[cfg(test)]
 mod of_profile_text;

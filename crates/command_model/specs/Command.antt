@@ -31,6 +31,8 @@ pub data Command : Type 0 where
   merge : List (ℕ × List ℕ) → Command
   -- How hot the lines of a profile are.
   summary : List ℕ → Command
+  -- The profile in what was built of a binary and a block text, with the repaired counts of blocks on its lines.
+  lift : Options → List ℕ → List ℕ → List ℕ → Command
 
 -- The digits of an address, which stand behind `0x` or alone.
 abbrev pub digits_of : List ℕ → List ℕ
@@ -126,6 +128,13 @@ abbrev pub summary_of : List (List ℕ) → List (List ℕ) → Option Command
 summary_of [] (file ∷ []) = Some (summary file)
 summary_of _ _ = None
 
+-- `lift [--base] BIN CFG OUT`
+abbrev pub lift_of : List (List ℕ) → List (List ℕ) → Option Command
+lift_of words (bin ∷ cfg ∷ out ∷ []) =
+    option_map (λ options. lift options bin cfg out)
+    (options_of (record { map = false; base = true; edges = false }) words)
+lift_of words _ = None
+
 -- The command of a name, by the words of its options and those behind them.
 abbrev pub command_by : List ℕ → List (List ℕ) → List (List ℕ) → Option Command
 command_by name options operands =
@@ -136,7 +145,8 @@ command_by name options operands =
     else (if bytes_eq name (codes "check") then check_of options operands
     else (if bytes_eq name (codes "make") then make_of options operands
     else (if bytes_eq name (codes "merge") then merge_of options operands
-    else (if bytes_eq name (codes "summary") then summary_of options operands else None)))))))
+    else (if bytes_eq name (codes "summary") then summary_of options operands
+    else (if bytes_eq name (codes "lift") then lift_of options operands else None))))))))
 
 -- The command that the words spell, if they spell one.
 unfoldable pub command_of : List (List ℕ) → Option Command

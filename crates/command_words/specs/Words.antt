@@ -8,7 +8,7 @@ use Rattle.case_maker.specs.declared.case.CasePart.TheVariants.{Bin, Perf, Cfg}
 use Rattle.command_model.specs.Command as model
 use Rattle.command_model.specs.Options as options
 use Rattle.command_words.specs.declared.command.Command.{Command}
-use Rattle.command_words.specs.declared.command.Command.TheVariants.{Counts, Where, Profile, Build, Check, Make, MakeSum, Merge, Summary}
+use Rattle.command_words.specs.declared.command.Command.TheVariants.{Counts, Where, Profile, Build, Check, Make, MakeSum, Merge, Summary, Lift}
 use Rattle.command_words.specs.declared.command.Part.{Part}
 use Rattle.command_words.specs.declared.options.Has.{Has}
 use Rattle.command_words.specs.declared.options.Options.{Options}
@@ -49,3 +49,4 @@ meaning_of (Make part functions) = model.make (told_part part) functions
 meaning_of (MakeSum functions) = model.make_sum functions
 meaning_of (Merge parts) = model.merge (map told_weighed parts.items)
 meaning_of (Summary file) = model.summary file.now
+meaning_of (Lift said binary blocks built) = model.lift (told_options said) binary.now blocks.now built.now

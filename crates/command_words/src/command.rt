@@ -1,7 +1,7 @@
 ghost use Rattle.std.specs.Prelude.{◌≡◌, ◌≤◌, length, map, option_and_then};
 ghost use Rattle.std.specs.Int.NonZero.{non_zero_u16_get};
 ghost use Rattle.std.specs.Option.{option_map};
-ghost use Rattle.command_model.specs.Command.{address_of as address_told, build_of, check_of, command_of, counts_of, digits_of as digits_told, functions_of as functions_told, made_of as made_told, make_of, merge_of, parts_of as parts_told, profile_of, summary_of, weight_of as weight_told, where_of};
+ghost use Rattle.command_model.specs.Command.{address_of as address_told, build_of, check_of, command_of, counts_of, digits_of as digits_told, functions_of as functions_told, lift_of, made_of as made_told, make_of, merge_of, parts_of as parts_told, profile_of, summary_of, weight_of as weight_told, where_of};
 ghost use Rattle.command_model.specs.Options.{is_option as option_told, option_count as count_told};
 ghost use Rattle.command_words.specs.Words.{few, meaning_of, texts_of, told_weighed};
 
@@ -23,7 +23,8 @@ const MAX_WEIGHT: u64 = 65_535;
 /// The most files of a merge.
 const MOST_PARTS: usize = 8;
 
-const WHERE_HAS: Has = Has {
+/// The options of `where` and of `lift`.
+const BASE_HAS: Has = Has {
     map: false,
     base: true,
     edges: false,
@@ -102,6 +103,14 @@ pub enum Command<'a> {
     Merge(ArrayVec<Part<'a>, MOST_PARTS>),
     /// How hot the lines of the profile in this file are.
     Summary(&'a [u8]),
+    /// The profile in what was built of this binary and this block text, with the repaired counts
+    /// of blocks on its lines.
+    Lift {
+        options: Options<'a>,
+        binary: &'a [u8],
+        blocks: &'a [u8],
+        built: &'a [u8],
+    },
 }
 
 /// The command that the words spell.
@@ -129,6 +138,8 @@ pub fn parse(words: &[Vec<u8>]) -> Option<Command<'_>>
         parse_merge(options, operands)
     } else if name.as_slice() == b"summary".as_slice() {
         parse_summary(options, operands)
+    } else if name.as_slice() == b"lift".as_slice() {
+        parse_lift(options, operands)
     } else {
         None
     }
@@ -174,7 +185,7 @@ fn parse_where<'a>(options: &'a [Vec<u8>], operands: &'a [Vec<u8>]) -> Option<Co
 {
     match operands {
         [binary, hex] => Some(Command::Where {
-            options: options_of(WHERE_HAS, options)?,
+            options: options_of(BASE_HAS, options)?,
             binary,
             address: address_of(hex)?,
         }),
@@ -324,6 +335,22 @@ fn parse_summary<'a>(options: &[Vec<u8>], operands: &'a [Vec<u8>]) -> Option<Com
 {
     match (options, operands) {
         ([], [file]) => Some(Command::Summary(file)),
+        _ => None,
+    }
+}
+
+/// `lift [--base] BIN CFG OUT`
+fn parse_lift<'a>(options: &'a [Vec<u8>], operands: &'a [Vec<u8>]) -> Option<Command<'a>>
+    ensures { option_map meaning_of result
+        ≡ lift_of (texts_of options.now) (texts_of operands.now) }
+{
+    match operands {
+        [binary, blocks, built] => Some(Command::Lift {
+            options: options_of(BASE_HAS, options)?,
+            binary,
+            blocks,
+            built,
+        }),
         _ => None,
     }
 }

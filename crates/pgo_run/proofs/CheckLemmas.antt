@@ -23,7 +23,7 @@ use Rattle.command_model.specs.Files.{Asked, first_bad_of_repair_text, functions
 use Rattle.pgo_run.proofs.UnreadLemmas.{alone, not_above}
 
 abbrev pub asked_repairs : List ℕ → Asked
-asked_repairs name = record { source = named name; judge = λ before. first_bad_of_repair_text 2 (functions_in before) }
+asked_repairs name = record { source = named name; judge = λ before. first_bad_of_repair_text 2 (functions_in 0 before) }
 
 -- What is said of the store at one time holds of it at another.
 pub said-behind : (P : Store → Type 0) (store was : Option Store) → was ≡ store → IfSome was P → IfSome store P

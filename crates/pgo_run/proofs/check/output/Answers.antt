@@ -38,9 +38,9 @@ returns-in_err-repair_text-clause-carried g c =
     let read = judged-good 1 (block_model.first_bad_of_text 1 c.deref.result.now) c.read.result _ c.in_ok-funs.funs c.read.ensures (sym c.in_file.ensures ∙ c.in_ok-funs.was) in
     let first = Reached-more command _ [] c.args.blocks.now (λ before. first_bad_of_blocks 1) (asked_repairs c.args.repairs.now ∷ []) c.deref.result.now _ _ _ (Reached-start command _ _)
     (is-good _ c.args.blocks.now (first_bad_of_blocks 1) c.deref.result.now (is-there _ c.args.blocks.now 1 max_block_bytes c.in_ok-block_text.block_text c.deref.result.now c.in_ok-block_text.ensures.file c.deref.ensures.value) (judged_by_lines 1 c.deref.result.now within ∙ read.0)) c.in_ok-block_text.ensures.opens in
-    Reached-stop (Vec ℕ) command _ (c.deref.result.now ∷ []) c.args.repairs.now (λ before. first_bad_of_repair_text 2 (functions_in before)) [] 2 c.in_err-repair_text.field-0.0 _ _ _ _ _ _
+    Reached-stop (Vec ℕ) command _ (c.deref.result.now ∷ []) c.args.repairs.now (λ before. first_bad_of_repair_text 2 (functions_in 0 before)) [] 2 c.in_err-repair_text.field-0.0 _ _ _ _ _ _
     first refl c.in_err-repair_text.ensures.opens
-    (said-behind _ _ _ c.read_file.ensures.store (unread-repairs 2 (functions_in (c.deref.result.now ∷ [])) _ c.args.repairs.now c.in_err-repair_text.field-0.0 c.in_err-repair_text.ensures.file))
+    (said-behind _ _ _ c.read_file.ensures.store (unread-repairs 2 (functions_in 0 (c.deref.result.now ∷ [])) _ c.args.repairs.now c.in_err-repair_text.field-0.0 c.in_err-repair_text.ensures.file))
     (subst (λ n. HasFileCause {A = Vec ℕ} 2 n (g.I.Inputs.faults c.read_file-2.new.inputs) (Err c.in_err-repair_text.field-0.0)) c.in_ok-block_text.ensures.cause.0 c.in_err-repair_text.ensures.cause)
     c.from_residual-in_err-repair_text.ensures.1
 
@@ -53,9 +53,9 @@ returns-in_err-repairs-clause-carried g c =
     (is-good _ c.args.blocks.now (first_bad_of_blocks 1) c.deref.result.now (is-there _ c.args.blocks.now 1 max_block_bytes c.in_ok-block_text.block_text c.deref.result.now c.in_ok-block_text.ensures.file c.deref.ensures.value) (judged_by_lines 1 c.deref.result.now within ∙ read.0)) c.in_ok-block_text.ensures.opens in
     let within_2 = subst (λ t. length t ≤ max_repair_bytes) (sym c.deref-2.ensures.value) c.in_ok-repair_text.ensures.within in
     let same = ap (map function_of) c.deref-3.ensures.value ∙ read.1 in
-    Reached-judged command _ (c.deref.result.now ∷ []) c.args.repairs.now (λ before. first_bad_of_repair_text 2 (functions_in before)) [] 2 c.deref-2.result.now c.read-2.result _ c.in_err-repairs.field-0.0 _ _ _ _ _ _
+    Reached-judged command _ (c.deref.result.now ∷ []) c.args.repairs.now (λ before. first_bad_of_repair_text 2 (functions_in 0 before)) [] 2 c.deref-2.result.now c.read-2.result _ c.in_err-repairs.field-0.0 _ _ _ _ _ _
     first refl c.in_ok-repair_text.ensures.opens (said-behind _ _ _ c.read_file.ensures.store (is-there _ c.args.repairs.now 2 max_repair_bytes c.in_ok-repair_text.repair_text c.deref-2.result.now c.in_ok-repair_text.ensures.file c.deref-2.ensures.value))
-    (repairs_judged 2 (functions_in (c.deref.result.now ∷ [])) (map function_of c.deref-3.result.now) c.deref-2.result.now c.read-2.result _ within_2 same c.read-2.ensures)
+    (repairs_judged 2 (functions_in 0 (c.deref.result.now ∷ [])) (map function_of c.deref-3.result.now) c.deref-2.result.now c.read-2.result _ within_2 same c.read-2.ensures)
     (sym c.in_file-2.ensures ∙ c.in_err-repairs.was) (c.in_ok-repair_text.ensures.cause.0 ∙ c.in_ok-block_text.ensures.cause.0) c.from_residual-in_err-repairs.ensures.1
 
 pub failed_line-requires-clause-sound : goal.failed_line-requires-clause-sound
@@ -81,9 +81,9 @@ returns-in_err-failed-clause-carried g c =
     let within_2 = subst (λ t. length t ≤ max_repair_bytes) (sym c.deref-2.ensures.value) c.in_ok-repair_text.ensures.within in
     let same = ap (map function_of) c.deref-3.ensures.value ∙ read.1 in
     let second = judged-good 2 (first_bad_of_repairs 2 (map function_of c.deref-3.result.now) c.deref-2.result.now) c.read-2.result _ c.in_ok-repairs.repairs c.read-2.ensures (sym c.in_file-2.ensures ∙ c.in_ok-repairs.was) in
-    let third = Reached-more command _ (c.deref.result.now ∷ []) c.args.repairs.now (λ before. first_bad_of_repair_text 2 (functions_in before)) [] c.deref-2.result.now _ _ _ first
-    (is-good _ c.args.repairs.now (first_bad_of_repair_text 2 (functions_in (c.deref.result.now ∷ []))) c.deref-2.result.now (said-behind _ _ _ c.read_file.ensures.store (is-there _ c.args.repairs.now 2 max_repair_bytes c.in_ok-repair_text.repair_text c.deref-2.result.now c.in_ok-repair_text.ensures.file c.deref-2.ensures.value))
-    (repairs_by_lines 2 (functions_in (c.deref.result.now ∷ [])) (map function_of c.deref-3.result.now) c.deref-2.result.now within_2 same ∙ second.0)) c.in_ok-repair_text.ensures.opens in
+    let third = Reached-more command _ (c.deref.result.now ∷ []) c.args.repairs.now (λ before. first_bad_of_repair_text 2 (functions_in 0 before)) [] c.deref-2.result.now _ _ _ first
+    (is-good _ c.args.repairs.now (first_bad_of_repair_text 2 (functions_in 0 (c.deref.result.now ∷ []))) c.deref-2.result.now (said-behind _ _ _ c.read_file.ensures.store (is-there _ c.args.repairs.now 2 max_repair_bytes c.in_ok-repair_text.repair_text c.deref-2.result.now c.in_ok-repair_text.ensures.file c.deref-2.ensures.value))
+    (repairs_by_lines 2 (functions_in 0 (c.deref.result.now ∷ [])) (map function_of c.deref-3.result.now) c.deref-2.result.now within_2 same ∙ second.0)) c.in_ok-repair_text.ensures.opens in
     Reached-no-memory command _ (c.deref.result.now ∷ c.deref-2.result.now ∷ []) [] _ _ _ _ _ third (c.in_ok-repair_text.ensures.cause.0 ∙ c.in_ok-block_text.ensures.cause.0) c.from_residual-in_err-failed.ensures.1
 
 pub returns-in-Some-clause-carried : goal.returns-in-Some-clause-carried
@@ -96,9 +96,9 @@ returns-in-Some-clause-carried g c =
     let within_2 = subst (λ t. length t ≤ max_repair_bytes) (sym c.deref-2.ensures.value) c.in_ok-repair_text.ensures.within in
     let same = ap (map function_of) c.deref-3.ensures.value ∙ read.1 in
     let second = judged-good 2 (first_bad_of_repairs 2 (map function_of c.deref-3.result.now) c.deref-2.result.now) c.read-2.result _ c.in_ok-repairs.repairs c.read-2.ensures (sym c.in_file-2.ensures ∙ c.in_ok-repairs.was) in
-    let third = Reached-more command _ (c.deref.result.now ∷ []) c.args.repairs.now (λ before. first_bad_of_repair_text 2 (functions_in before)) [] c.deref-2.result.now _ _ _ first
-    (is-good _ c.args.repairs.now (first_bad_of_repair_text 2 (functions_in (c.deref.result.now ∷ []))) c.deref-2.result.now (said-behind _ _ _ c.read_file.ensures.store (is-there _ c.args.repairs.now 2 max_repair_bytes c.in_ok-repair_text.repair_text c.deref-2.result.now c.in_ok-repair_text.ensures.file c.deref-2.ensures.value))
-    (repairs_by_lines 2 (functions_in (c.deref.result.now ∷ [])) (map function_of c.deref-3.result.now) c.deref-2.result.now within_2 same ∙ second.0)) c.in_ok-repair_text.ensures.opens in
+    let third = Reached-more command _ (c.deref.result.now ∷ []) c.args.repairs.now (λ before. first_bad_of_repair_text 2 (functions_in 0 before)) [] c.deref-2.result.now _ _ _ first
+    (is-good _ c.args.repairs.now (first_bad_of_repair_text 2 (functions_in 0 (c.deref.result.now ∷ []))) c.deref-2.result.now (said-behind _ _ _ c.read_file.ensures.store (is-there _ c.args.repairs.now 2 max_repair_bytes c.in_ok-repair_text.repair_text c.deref-2.result.now c.in_ok-repair_text.ensures.file c.deref-2.ensures.value))
+    (repairs_by_lines 2 (functions_in 0 (c.deref.result.now ∷ [])) (map function_of c.deref-3.result.now) c.deref-2.result.now within_2 same ∙ second.0)) c.in_ok-repair_text.ensures.opens in
     Reached-failed command _ (c.deref.result.now ∷ c.deref-2.result.now ∷ []) c.in-Some.line _ _ _ _ third
     (failed_is c.deref.result.now c.deref-2.result.now (map function_of c.deref-4.result.now) (map numbered c.deref-5.result.now) c.in_ok-failed.failed c.in_ok-failed.ensures
     (ap (map function_of) c.deref-4.ensures.value ∙ read.1)
@@ -115,9 +115,9 @@ returns-in_err-text-clause-carried g c =
     let within_2 = subst (λ t. length t ≤ max_repair_bytes) (sym c.deref-2.ensures.value) c.in_ok-repair_text.ensures.within in
     let same = ap (map function_of) c.deref-3.ensures.value ∙ read.1 in
     let second = judged-good 2 (first_bad_of_repairs 2 (map function_of c.deref-3.result.now) c.deref-2.result.now) c.read-2.result _ c.in_ok-repairs.repairs c.read-2.ensures (sym c.in_file-2.ensures ∙ c.in_ok-repairs.was) in
-    let third = Reached-more command _ (c.deref.result.now ∷ []) c.args.repairs.now (λ before. first_bad_of_repair_text 2 (functions_in before)) [] c.deref-2.result.now _ _ _ first
-    (is-good _ c.args.repairs.now (first_bad_of_repair_text 2 (functions_in (c.deref.result.now ∷ []))) c.deref-2.result.now (said-behind _ _ _ c.read_file.ensures.store (is-there _ c.args.repairs.now 2 max_repair_bytes c.in_ok-repair_text.repair_text c.deref-2.result.now c.in_ok-repair_text.ensures.file c.deref-2.ensures.value))
-    (repairs_by_lines 2 (functions_in (c.deref.result.now ∷ [])) (map function_of c.deref-3.result.now) c.deref-2.result.now within_2 same ∙ second.0)) c.in_ok-repair_text.ensures.opens in
+    let third = Reached-more command _ (c.deref.result.now ∷ []) c.args.repairs.now (λ before. first_bad_of_repair_text 2 (functions_in 0 before)) [] c.deref-2.result.now _ _ _ first
+    (is-good _ c.args.repairs.now (first_bad_of_repair_text 2 (functions_in 0 (c.deref.result.now ∷ []))) c.deref-2.result.now (said-behind _ _ _ c.read_file.ensures.store (is-there _ c.args.repairs.now 2 max_repair_bytes c.in_ok-repair_text.repair_text c.deref-2.result.now c.in_ok-repair_text.ensures.file c.deref-2.ensures.value))
+    (repairs_by_lines 2 (functions_in 0 (c.deref.result.now ∷ [])) (map function_of c.deref-3.result.now) c.deref-2.result.now within_2 same ∙ second.0)) c.in_ok-repair_text.ensures.opens in
     Reached-no-memory command _ (c.deref.result.now ∷ c.deref-2.result.now ∷ []) [] _ _ _ _ _ third (c.in_ok-repair_text.ensures.cause.0 ∙ c.in_ok-block_text.ensures.cause.0) c.from_residual-in_err-text.ensures.1
 
 pub returns-clause-carried : goal.returns-clause-carried
@@ -130,9 +130,9 @@ returns-clause-carried g c =
     let within_2 = subst (λ t. length t ≤ max_repair_bytes) (sym c.deref-2.ensures.value) c.in_ok-repair_text.ensures.within in
     let same = ap (map function_of) c.deref-3.ensures.value ∙ read.1 in
     let second = judged-good 2 (first_bad_of_repairs 2 (map function_of c.deref-3.result.now) c.deref-2.result.now) c.read-2.result _ c.in_ok-repairs.repairs c.read-2.ensures (sym c.in_file-2.ensures ∙ c.in_ok-repairs.was) in
-    let third = Reached-more command _ (c.deref.result.now ∷ []) c.args.repairs.now (λ before. first_bad_of_repair_text 2 (functions_in before)) [] c.deref-2.result.now _ _ _ first
-    (is-good _ c.args.repairs.now (first_bad_of_repair_text 2 (functions_in (c.deref.result.now ∷ []))) c.deref-2.result.now (said-behind _ _ _ c.read_file.ensures.store (is-there _ c.args.repairs.now 2 max_repair_bytes c.in_ok-repair_text.repair_text c.deref-2.result.now c.in_ok-repair_text.ensures.file c.deref-2.ensures.value))
-    (repairs_by_lines 2 (functions_in (c.deref.result.now ∷ [])) (map function_of c.deref-3.result.now) c.deref-2.result.now within_2 same ∙ second.0)) c.in_ok-repair_text.ensures.opens in
+    let third = Reached-more command _ (c.deref.result.now ∷ []) c.args.repairs.now (λ before. first_bad_of_repair_text 2 (functions_in 0 before)) [] c.deref-2.result.now _ _ _ first
+    (is-good _ c.args.repairs.now (first_bad_of_repair_text 2 (functions_in 0 (c.deref.result.now ∷ []))) c.deref-2.result.now (said-behind _ _ _ c.read_file.ensures.store (is-there _ c.args.repairs.now 2 max_repair_bytes c.in_ok-repair_text.repair_text c.deref-2.result.now c.in_ok-repair_text.ensures.file c.deref-2.ensures.value))
+    (repairs_by_lines 2 (functions_in 0 (c.deref.result.now ∷ [])) (map function_of c.deref-3.result.now) c.deref-2.result.now within_2 same ∙ second.0)) c.in_ok-repair_text.ensures.opens in
     let counted : c.len.result ≡ length c.in_ok-funs.funs.items = omega (arith, c.len.ensures, c.deref-4.ensures.len, ap length c.deref-4.ensures.value) in
     Reached-all command _ (c.deref.result.now ∷ c.deref-2.result.now ∷ []) c.in_ok-text.text _ _ _ _ third
     (failed_is c.deref.result.now c.deref-2.result.now (map function_of c.deref-4.result.now) (map numbered c.deref-5.result.now) c.in_ok-failed.failed c.in_ok-failed.ensures

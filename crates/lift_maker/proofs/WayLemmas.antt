@@ -1,0 +1,88 @@
+-- The ways of a binary's addresses, behind the names and keys that a text has added to those of the binary.
+use Rattle.std.proofs.Common.{◌≡◌, ℕ, ◌<◌, ◌≤◌, Bool, List, [], ◌∷◌, ◌++◌, map, length, All, get_or, Option, None, Some, refl, sym, ap, ◌∙◌, arith}
+use Rattle.std.specs.List.{AllByRecursion}
+use Rattle.std.specs.Option.{option_map, unwrap_or}
+use Rattle.std.proofs.lemmas.Option.{slice_get-get_or}
+use Rattle.binary_model.specs.Places.{Place, at_way, nameless, no_line, outside}
+use Rattle.binary_places.specs.Binary.{IsBinary}
+use Rattle.binary_places.specs.declared.binary.Binary.{Binary}
+use Rattle.key_types.specs.Segments.{segment_at}
+use Rattle.key_types.specs.declared.key.Frame.{Frame}
+use Rattle.key_types.specs.declared.key.Key.{Key}
+use Rattle.key_types.specs.declared.places.Seg.{Seg}
+use Rattle.key_types.specs.declared.places.Where.{Where}
+use Rattle.line_lift.specs.Lift.{HaveKeys, way_in}
+use Rattle.output_model.specs.Program.{program_of, way_at, way_of_place}
+use Rattle.profile_lists.specs.Segments.{AllFit}
+use Rattle.profile_maker.proofs.NameLemmas.{keys_have_names}
+use Rattle.profile_maker.proofs.SegmentLemmas.{segments_fit}
+use Rattle.profile_maker.proofs.ShownLemmas.{programs_shown}
+use Rattle.profile_model.specs.Ways.{Way, to_call, to_function}
+use Rattle.profile_text.proofs.OpenLemmas.{kept_grows, name_kept}
+use Rattle.profile_text.specs.Draft.{Kept}
+use Rattle.profile_tree.specs.Known.{HasNames}
+use Rattle.profile_tree.specs.Said as said
+use Rattle.profile_tree.specs.Steps.{at_line, frame_step, name_at, named, steps_of, steps_of_given}
+use Rattle.profile_writer.specs.Told.{TellsPlace, key_of}
+
+some_key : (keys : List Key) (k : ℕ) → k < length keys → Key
+some_key [] k within = absurd (omega (arith, within))
+some_key (key ∷ keys) k within = key
+
+module _ (names more : List (List ℕ)) (keys more_keys : List Key) (given : All (HasNames (length names)) keys) (kept : Kept names more) (keys_kept : Kept keys more_keys) where
+  name_same : (i : ℕ) → i < length names → name_at more i ≡ name_at names i
+  name_same i within =
+      let there = slice_get-get_or names i [] within in
+      name_kept names more i _ kept there ∙ sym (ap (λ o. unwrap_or o []) there)
+
+  calls_same : (calls : List Frame) → AllByRecursion (λ frame. frame.name.0 < length names) calls → (offset disc : ℕ)
+      → map (named more) (map frame_step calls ++ at_line offset disc ∷ []) ≡ map (named names) (map frame_step calls ++ at_line offset disc ∷ [])
+  calls_same [] all offset disc = refl
+  calls_same (call ∷ calls) all offset disc = λ i. to_call call.offset call.disc (name_same call.name.0 all.0 i) ∷ calls_same calls all.1 offset disc i
+
+  key_same : (key : Key) → HasNames (length names) key → map (named more) (steps_of key) ≡ map (named names) (steps_of key)
+  key_same key is = λ i. to_function (name_same key.root.0 is.0 i) ∷ calls_same key.calls is.1 key.offset key.disc i
+
+  way_same : (k : ℕ) → k < length keys → said.way_at more more_keys k ≡ said.way_at names keys k
+  way_same k within =
+      let d = some_key keys k within in
+      let there = slice_get-get_or keys k d within in
+      ap (λ o. map (named more) (steps_of_given o)) (keys_kept k _ there)
+      ∙ key_same (get_or keys k d) (given k d within)
+      ∙ sym (ap (λ o. map (named names) (steps_of_given o)) there)
+
+  -- the way of a place
+  place_same : (place : Place) (answer : Where) → TellsPlace names keys place answer → option_map (said.way_at more more_keys) (key_of answer) ≡ way_of_place place
+  place_same outside answer is = ap (λ a. option_map (said.way_at more more_keys) (key_of a)) is
+  place_same nameless answer is = ap (λ a. option_map (said.way_at more more_keys) (key_of a)) is
+  place_same no_line answer is = ap (λ a. option_map (said.way_at more more_keys) (key_of a)) is
+  place_same (at_way way) answer is =
+      ap (λ a. option_map (said.way_at more more_keys) (key_of a)) is.1
+      ∙ ap (λ w. Some w) (way_same is.0.0 is.2.inside ∙ is.2.way_is)
+
+by_number : (f : ℕ → Way) (segment : Option Seg)
+    → option_map (λ key. f key.0) (option_map (λ segment. segment.key) segment) ≡ option_map f (option_map (λ segment. segment.key.0) segment)
+by_number f None = refl
+by_number f (Some segment) = refl
+
+-- The segments of a binary still tell its ways.
+pub ways_stay : (bytes : List ℕ) (base : Bool) (binary : Binary) (more : List (List ℕ)) (more_keys : List Key) → IsBinary bytes base binary
+    → Kept binary.names more → Kept binary.keys more_keys
+    → (address : ℕ) → way_in more more_keys binary.map.segments address ≡ way_at (program_of bytes base) address
+ways_stay bytes base binary more more_keys is kept keys_kept address =
+    let shown = programs_shown bytes base binary is in
+    by_number (said.way_at more more_keys) (segment_at binary.map.segments address)
+    ∙ ap (option_map (said.way_at more more_keys)) (shown.keys_told address)
+    ∙ place_same binary.names more binary.keys more_keys (keys_have_names bytes base binary is) kept keys_kept _ _ (shown.places address)
+
+have_keys : (n m : ℕ) → n ≤ m → (segments : List Seg) → AllFit n segments → HaveKeys m segments
+have_keys n m le [] fit = tt
+have_keys n m le (segment ∷ segments) fit =
+    let here = fit.0 in
+    (omega (arith, here, le), have_keys n m le segments fit.2)
+
+-- Its keys are still among all keys.
+pub keys_stay : (bytes : List ℕ) (base : Bool) (binary : Binary) (more_keys : List Key) → IsBinary bytes base binary → Kept binary.keys more_keys
+    → HaveKeys (length more_keys) binary.map.segments
+keys_stay bytes base binary more_keys is keys_kept =
+    have_keys (length binary.keys) (length more_keys) (kept_grows binary.keys more_keys keys_kept) binary.map.segments (segments_fit bytes base binary is)

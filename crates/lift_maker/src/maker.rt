@@ -1,0 +1,118 @@
+// What was built of a binary, with the repaired counts of blocks on its lines.
+ghost use Rattle.std.specs.Prelude.{◌≡◌, ◌≤◌, ◌^◌, ℕ, All, Bool, List, length, map, IfOk};
+ghost use Rattle.std.specs.List.{AllByRecursion};
+ghost use Rattle.refusal.specs.Place.{JudgesUnlessNoMemory};
+ghost use Rattle.binary_places.specs.Binary.{IsBinary};
+ghost use Rattle.block_model.specs.Text.{functions_of};
+ghost use Rattle.cfg_text.specs.Fun.{function_of};
+ghost use Rattle.flow_model.specs.Sound.{IsSound};
+ghost use Rattle.key_types.specs.Segments.{AreSegments};
+ghost use Rattle.line_lift.specs.Lift.{HaveKeys, lifted_by, repaired};
+ghost use Rattle.profile_laws.specs.Once.{StandOnce};
+ghost use Rattle.profile_model.specs.Judging.{first_bad_of_profile};
+ghost use Rattle.profile_model.specs.Text.{profile_text};
+ghost use Rattle.profile_text.specs.Draft.{IsGivenItem};
+ghost use Rattle.profile_text.specs.Text.{TellText};
+ghost use Rattle.profile_tree.specs.Known.{HasNames};
+ghost use Rattle.lift_maker.specs.Lift.{Lifts, first_bad_of_lines};
+
+use binary_places::Binary;
+use cfg_text::Fun;
+use key_types::{Keys, Names, Seg};
+use profile_text::{Profile, write};
+use refusal::{NoMemory, Stop};
+use repair_check::failed_line;
+use repair_text::Repair;
+use std::alloc::Global;
+
+/// More names, or more keys, than a binary has.
+const MOST_NUMBERED: u32 = 1 << 31;
+
+/// What lifting comes to.
+#[derive(Debug, Drop)]
+pub enum Lifted {
+    /// The text of the profile.
+    Text(Vec<u8>),
+    /// The line of the first repair that fails its test, from 1.
+    Failed(u64),
+}
+
+/// The profile in what was built of a binary and of these functions, the command's file `file`,
+/// with the repaired counts of blocks on its lines. Its lines are judged as those of a profile,
+/// then as those of the functions' repairs, and then these are tested as `check` tests them.
+///
+/// How large the text may be is for the caller to judge.
+///
+/// # Errors
+/// `Refused` at the first bad line, and `NoMemory`.
+pub fn lift<'a>(
+    alloc: Global,
+    binary: Binary<'a>,
+    funs: &[Fun<'_>],
+    text: &'a [u8],
+    file: u8,
+) -> Result<Lifted, Stop>
+    requires size { length text.now ≤ 2 ^ 28 }
+    requires binary { (bytes : List ℕ) × (base : Bool) × IsBinary bytes base binary }
+    requires sound { All (λ fun. IsSound fun.blocks fun.edges) funs.now }
+    ensures { (bytes : List ℕ) (base : Bool) (blocks : List ℕ) → IsBinary bytes base binary.entry
+        → map function_of funs.now ≡ functions_of blocks
+        → JudgesUnlessNoMemory (first_bad_of_lines file (functions_of blocks) text.now) result
+        (Lifts bytes base blocks text.now) }
+{
+    let (mut names, mut keys) = (binary.names, binary.keys);
+    let part = read_part(alloc, text, file, &mut names, &mut keys)?;
+    let repairs = repair_text::read(alloc, text, file, funs)?;
+    let failed = failed_line(alloc, funs, &repairs)?;
+    if let Some(line) = failed {
+        return Ok(Lifted::Failed(line));
+    }
+    let segments = binary.map.segments();
+    let out = text_of(alloc, &part, segments, funs, &repairs, &keys, &names)?;
+    Ok(Lifted::Text(out))
+}
+
+/// The numbers of a text as a profile, whose names and keys are added to those of a binary.
+fn read_part<'a>(
+    alloc: Global,
+    text: &'a [u8],
+    file: u8,
+    names: &mut Names<'a>,
+    keys: &mut Keys,
+) -> Result<Profile, Stop>
+    requires size { length text.now ≤ 2 ^ 28 }
+    requires key_names { All (HasNames (length names.old)) keys.old }
+    ensures { JudgesUnlessNoMemory (first_bad_of_profile file text.now) result (λ profile.
+        TellText names.old keys.old text.now profile.items names.new keys.new) }
+{
+    if names.len() >= MOST_NUMBERED || keys.len() >= MOST_NUMBERED {
+        return Err(Stop::NoMemory);
+    }
+    profile_text::read(alloc, text, file, names, keys)
+}
+
+/// The text of a profile with repaired counts on its lines. Its numbers, and those of the segments,
+/// are of these names and keys.
+fn text_of(
+    alloc: Global,
+    part: &Profile,
+    segments: &[Seg],
+    funs: &[Fun<'_>],
+    repairs: &[Repair],
+    keys: &Keys,
+    names: &Names<'_>,
+) -> Result<Vec<u8>, NoMemory>
+    requires segments { AreSegments segments.now }
+    requires known { HaveKeys (length keys.now) segments.now }
+    requires once { StandOnce (λ item. item.what) part.now.items }
+    requires given { AllByRecursion (IsGivenItem (length names.now) (length keys.now))
+        part.now.items }
+    requires key_names { All (HasNames (length names.now)) keys.now }
+    ensures { IfOk result (λ out. out.items ≡ profile_text (lifted_by names.now keys.now
+        segments.now (repaired funs.now repairs.now) part.now.items)) }
+{
+    let tree = line_lift::lift(alloc, part, segments, funs, repairs, keys, names)?;
+    let mut out = Vec::new(alloc);
+    write(&tree, names, &mut out)?;
+    Ok(out)
+}

@@ -12,7 +12,7 @@ use Rattle.profile_model.specs.Judging.{first_bad_of_profile}
 use Rattle.profile_model.specs.Merge.{first_bad_of_summed}
 use Rattle.profile_model.specs.Profile.{Profile}
 use Rattle.repair_model.specs.Judging.{first_bad_of_repairs}
-use Rattle.command_model.specs.Files.{first_bad_of_blocks, first_bad_of_part, first_bad_of_profile_text, first_bad_of_repair_text, max_block_bytes, max_profile_bytes, max_repair_bytes}
+use Rattle.command_model.specs.Files.{first_bad_of_blocks, first_bad_of_built, first_bad_of_part, first_bad_of_profile_text, first_bad_of_repair_text, max_block_bytes, max_profile_bytes, max_repair_bytes}
 use Rattle.command_model.specs.Answer.{Answer, fails_check, unless_bad, usage}
 use Rattle.pgo_run.specs.Halt.{IfAnswers, answer_in}
 use Rattle.pgo_run.specs.Output.{EndsAt}
@@ -70,6 +70,15 @@ pub unread-repairs : (file : ℕ) (funs : List Function) (store : Option Store) 
     → IfSome store (λ files. IfAnswers h (EndsAt file (files name) (size_item file max_repair_bytes))) → IfSome store (λ files. IfAnswers h (EndsAt file (files name) (first_bad_of_repair_text file funs)))
 unread-repairs file funs None name h ends = tt
 unread-repairs file funs (Some files) name h ends = answers-wider (answer_in h) file (files name) (size_item file max_repair_bytes) (first_bad_of_repair_text file funs) (too-large-repairs file funs) ends
+
+too-large-built : (file : ℕ) (funs : List Function) (bytes : List ℕ) (place : Place) → size_item file max_repair_bytes bytes ≡ Some place → first_bad_of_built file funs bytes ≡ Some place
+unfolding first_bad_of_built
+too-large-built file funs bytes place is = ap (λ item. first_bad (item ∷ first_bad_of_profile file bytes ∷ first_bad_of_repairs file funs bytes ∷ [])) is
+
+pub unread-built : (file : ℕ) (funs : List Function) (store : Option Store) (name : List ℕ) (h : Halt)
+    → IfSome store (λ files. IfAnswers h (EndsAt file (files name) (size_item file max_repair_bytes))) → IfSome store (λ files. IfAnswers h (EndsAt file (files name) (first_bad_of_built file funs)))
+unread-built file funs None name h ends = tt
+unread-built file funs (Some files) name h ends = answers-wider (answer_in h) file (files name) (size_item file max_repair_bytes) (first_bad_of_built file funs) (too-large-built file funs) ends
 
 too-large-profile : (file : ℕ) (bytes : List ℕ) (place : Place) → size_item file max_profile_bytes bytes ≡ Some place → first_bad_of_profile_text file bytes ≡ Some place
 unfolding first_bad_of_profile_text

@@ -20,7 +20,7 @@ code_of NoMemory = 7
 abbrev pub text_of : Status → List ℕ
 text_of Done = []
 text_of (CheckFailed line) = codes "check failed at line " ++ decimal_text line ++ codes "\n"
-text_of Usage = codes "usage: pgo counts, where, profile, build, check, make, merge or summary\n"
+text_of Usage = codes "usage: pgo counts, where, profile, build, check, make, merge, summary or lift\n"
 text_of (NoSuchFile file) = codes "no such file: " ++ decimal_text file ++ codes "\n"
 text_of (Refused place) =
     codes "refused: file " ++ decimal_text place.file ++ codes " at " ++ decimal_text place.at

@@ -10,6 +10,7 @@ mod build;
 mod check;
 mod counts;
 mod halt;
+mod lift;
 mod make;
 mod merge;
 mod order;

@@ -13,7 +13,7 @@ ghost use Rattle.command_words.specs.Words.{meaning_of, texts_of};
 
 use crate::halt::Halt;
 use crate::status::Status;
-use crate::{build, check, counts, make, merge, profile, summary, where_};
+use crate::{build, check, counts, lift, make, merge, profile, summary, where_};
 use command_words::{Command, parse};
 use io_edge::{Inputs, Sink, write_all};
 use std::alloc::Global;
@@ -124,5 +124,11 @@ fn output<I: Inputs>(alloc: Global, command: Command<'_>, inputs: &mut I) -> Res
         Command::MakeSum { functions } => make::summary_output(alloc, functions),
         Command::Merge(parts) => merge::output(alloc, &parts, inputs),
         Command::Summary(file) => summary::output(alloc, file, inputs),
+        Command::Lift {
+            options,
+            binary,
+            blocks,
+            built,
+        } => lift::output(alloc, options, binary, blocks, built, inputs),
     }
 }

@@ -10,7 +10,7 @@ use refusal::Place;
 pub enum Status {
     /// The whole output was written.
     Done,
-    /// The line of the second file, from 1, that fails its test.
+    /// The line of the repair text, from 1, that fails its test.
     CheckFailed(u64),
     /// The words spell no command.
     Usage,
@@ -57,7 +57,7 @@ pub fn status_line(status: &Status, buf: &mut [u8; 256]) -> usize
         Status::Usage => put(
             buf,
             0,
-            b"usage: pgo counts, where, profile, build, check, make, merge or summary\n",
+            b"usage: pgo counts, where, profile, build, check, make, merge, summary or lift\n",
         ),
         Status::NoSuchFile(file) => put_numbered(buf, b"no such file: ", u64::from(*file)),
         Status::Refused(place) => put_place(buf, place),

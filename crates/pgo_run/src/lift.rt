@@ -1,0 +1,45 @@
+// `lift`: the profile in what was built, with the repaired counts of blocks on its lines.
+ghost use Rattle.std.specs.Prelude.{◌≡◌};
+ghost use Rattle.command_model.specs.Command.{lift as lift_command};
+ghost use Rattle.command_words.specs.Words.{told_options};
+ghost use Rattle.pgo_run.specs.Output.{Carries};
+
+use crate::halt::{Halt, in_file};
+use crate::order::{MAX_BINARY, MAX_BLOCKS, MAX_REPAIRS, read_file};
+use binary_places::read;
+use command_words::Options;
+use io_edge::Inputs;
+use lift_maker::{Lifted, lift};
+use std::alloc::Global;
+
+/// What `lift` writes for the binary, the block text and what was built in these files.
+///
+/// # Errors
+/// Those of reading file 1, the first bad place of the binary, those of reading file 2, the first
+/// bad place of the block text, those of reading file 3, its first bad place as a profile text and
+/// then as a repair text, and the first line that fails its test.
+pub(crate) fn output<I: Inputs>(
+    alloc: Global,
+    options: Options<'_>,
+    binary: &[u8],
+    blocks: &[u8],
+    built: &[u8],
+    inputs: &mut I,
+) -> Result<Vec<u8>, Halt>
+    ensures carried { Carries
+        (lift_command (told_options options.entry) binary.now blocks.now built.now)
+        (I.store inputs.old) result
+        (I.opens inputs.old) (I.opens inputs.new) (I.faults inputs.old) (I.faults inputs.new) }
+    ensures store { I.store inputs.new ≡ I.store inputs.old }
+{
+    let file = read_file(alloc, inputs, 1, binary, MAX_BINARY)?;
+    let binary = in_file(1, read(alloc, &file, options.base))?;
+    let block_text = read_file(alloc, inputs, 2, blocks, MAX_BLOCKS)?;
+    let funs = in_file(2, cfg_text::read(alloc, &block_text, 2))?;
+    let text = read_file(alloc, inputs, 3, built, MAX_REPAIRS)?;
+    let lifted = in_file(3, lift(alloc, binary, &funs, &text, 3))?;
+    match lifted {
+        Lifted::Text(out) => Ok(out),
+        Lifted::Failed(line) => Err(Halt::CheckFailed(line)),
+    }
+}

@@ -27,6 +27,9 @@ usage:
                               the sum of one to eight profiles, each so many
                               times as its weight W says
   pgo summary FILE            how hot the lines of a profile are
+  pgo lift [--base] BIN CFG OUT
+                              the profile that `pgo build` printed, with the
+                              repaired counts of blocks on its lines
   pgo --help, pgo -h          this text
   pgo --help COMMAND          what a command reads and writes, and an example
   pgo --help KIND             what helps where a file is refused for this kind

@@ -7,7 +7,7 @@ pub(crate) struct Topic {
 }
 
 /// The commands.
-pub(crate) const TOPICS: [Topic; 8] = [
+pub(crate) const TOPICS: [Topic; 9] = [
     Topic {
         word: b"counts",
         text: b"\
@@ -155,6 +155,28 @@ make up so much of the sum, and how many lines have at least this count.
 example:
   pgo profile --base demo/words demo/words.txt >words.prof
   pgo summary words.prof
+",
+    },
+    Topic {
+        word: b"lift",
+        text: b"\
+pgo lift [--base] BIN CFG OUT
+
+Reads a program with its debugging information, a block text, and what `pgo
+build` printed of both. Where `pgo check` would name a line, so does this, and
+writes nothing. Else it writes the profile with the repaired counts of blocks on
+its lines: each line of which a block holds code gets the largest count of the
+blocks that do, also where the profile had no such line; blocks of a function
+with a cut count for none. The other lines, the calls and the entries stay, and
+totals are summed anew.
+
+Whether OUT was made of this program is not judged.
+
+--base  where it was given to `pgo build`: for programs of clang and rustc
+
+example:
+  pgo build --base demo/words demo/words.txt demo/words.blocks >words.built
+  pgo lift --base demo/words demo/words.blocks words.built
 ",
     },
 ];

@@ -5,7 +5,7 @@ import sys
 import tempfile
 
 PROGRAM = os.path.abspath(sys.argv[1])
-USAGE = b"usage: pgo counts, where, profile, build, check, make, merge or summary\n"
+USAGE = b"usage: pgo counts, where, profile, build, check, make, merge, summary or lift\n"
 DONE, FAILED, BAD_WORDS, MISSING, REFUSED = 0, 1, 2, 3, 4
 
 passed = failed = 0

@@ -699,6 +699,117 @@ def checks():
         passes("what build wrote, " + title, blocks, built.stdout, blocks.count(b"func "))
 
 
+# The profile of those weights, and the generated function as one block that leaves at once.
+SAMPLED = b"f0000:260:0\n 0: 100\n 1: 60\n 2.2: 100\n"
+FRONT = b"func front\nblock 0 0x401000 0x401010 exit\nend\n"
+
+
+def at_once(weight, name=b"front"):
+    """The counts of a function of one block, which are its weight."""
+    return b"# function %s flow\n# block 0 weight %d count %d in 0 out 0\n# end 0\n" % (name, weight, weight)
+
+
+def lifts():
+    def lift(title, blocks, text, wanted, *options, binary=ONE):
+        judge(title, wanted, ["lift", *options, "bin", "cfg", "out"], bin=binary, cfg=blocks, out=text)
+
+    def lifted(title, blocks, text, wanted, *options):
+        lift("lifted: " + title, blocks, text, (DONE, wanted, b""), *options)
+
+    def bad(said, text, blocks=BLOCKS, binary=ONE):
+        lift("lifted: " + said.decode(), blocks, text, (REFUSED, b"", b"refused: " + said + b"\n"), binary=binary)
+
+    def fails(line, text, blocks=BLOCKS):
+        lift("lifted: fails at line %d" % line, blocks, text, (FAILED, b"", b"check failed at line %d\n" % line))
+
+    # Blocks 0, 1 and 3 have the count 100; block 2, of which the lines are those of the call of `g`, has 0.
+    all_lines = b"f0000:400:0\n 0: 100\n 1: 100\n 2.2: 100\n 3: 100\n"
+    lifted("counts", BLOCKS, SAMPLED + COUNTS, all_lines)
+    lifted("no line before", BLOCKS, COUNTS, all_lines)
+    lifted("lines behind the repairs", BLOCKS, COUNTS + SAMPLED, all_lines)
+    lifted("a report behind", BLOCKS, SAMPLED + COUNTS + b"# branches 520\n# entries 0\n", all_lines)
+    lifted("a cut", LOOP, b"f0000:5:5\n 0: 5\n" + CUT, b"f0000:5:5\n 0: 5\n")
+    lifted("no function", b"", SAMPLED, SAMPLED)
+    lifted("nothing", b"", b"", b"")
+    lifted("a function with a cut behind one with counts", BLOCKS + LOOP, SAMPLED + COUNTS + CUT, all_lines)
+    # Bases are told apart as `where` tells them: 2.1 is the place, and 2.2 none.
+    lifted("bases", BLOCKS, COUNTS, b"f0000:400:0\n 0: 100\n 1: 100\n 2.1: 100\n 3: 100\n", "--base")
+    lifted(
+        "bases, and a line of another place", BLOCKS, SAMPLED + COUNTS,
+        b"f0000:500:0\n 0: 100\n 1: 100\n 2.1: 100\n 2.2: 100\n 3: 100\n", "--base",
+    )
+    # Two functions over one address: the larger of their counts, whichever stands first, and not their sum.
+    for weight, first in (150, 150), (20, 100):
+        wanted = b"f0000:%d:0\n 0: %d\n 1: %d\n 2.2: 100\n 3: 100\n" % (2 * first + 200, first, first)
+        lifted("two functions, %d" % weight, BLOCKS + FRONT, COUNTS + at_once(weight), wanted)
+        lifted("two functions, %d in front" % weight, FRONT + BLOCKS, at_once(weight) + COUNTS, wanted)
+    # A count of 0 is a count, also for the lines of a call; targets, heads and other functions stay as they are.
+    lifted(
+        "counts of 0", BLOCKS, b"f0000:9:4\n 2.1: g:9\n  1: 9\n" + COUNTS, b"f0000:400:4\n 0: 100\n 1: 100\n 2.2: 100\n 3: 100\n",
+    )
+    lifted(
+        "a count of 0 with a target", BLOCKS, b"f0000:9:4\n 3: 7 x:9\n 2.1: g:9\n  1: 9 y:3 z:5\n" + COUNTS,
+        b"f0000:400:4\n 0: 100\n 1: 100\n 2.2: 100\n 3: 100 x:9\n 2.1: g:0\n  1: 0 z:5 y:3\n",
+    )
+    lifted(
+        "a count of 0 alone", FRONT, b"f0000:9:4\n 0: 9\nh:0:18446744073709551615\n" + at_once(0), b"f0000:0:4\nh:0:18446744073709551615\n",
+    )
+    lifted(
+        "lines that the binary has not", BLOCKS, b"other:3:1\n 1: 3\nf0000:7:0\n 9: 4\n 2.1: k:3\n  1: 3\n" + COUNTS,
+        b"f0000:407:0\n 0: 100\n 1: 100\n 2.2: 100\n 3: 100\n 9: 4\n 2.1: k:3\n  1: 3\nother:3:1\n 1: 3\n",
+    )
+    lifted("a block of no line", FRONT.replace(b"0x4010", b"0x5010"), SAMPLED + at_once(9), SAMPLED)
+    most = 2**64 - 1
+    lifted(
+        "totals that stand still", b"", b"f0000:0:0\n 0: %d\n 1: %d\n" % (most, most), b"f0000:%d:0\n 0: %d\n 1: %d\n" % (most, most, most),
+    )
+
+    # The first line that fails is one of file 3, behind four lines of the profile; nothing is written.
+    fails(14, SAMPLED + with_line(COUNTS, 10, b"# end 401"))
+    fails(10, with_line(COUNTS, 10, b"# end 401") + SAMPLED)
+    fails(8, SAMPLED + with_line(COUNTS, 4, b"# block 2 weight 0 count 1 in 0 out 10"))
+    fails(4, with_line(CUT, 4, b"# end 2 0"), LOOP)
+
+    # All lines as those of a profile first, then as those of repairs, and then the tests.
+    bad(b"file 3 at 11: BadLine", with_line(COUNTS, 1, b"# function g flow") + b"f0000\n")
+    bad(b"file 3 at 12: KeyTwice", with_line(COUNTS, 10, b"# end 401") + b"f0000:0:0\nf0000:0:0\n")
+    bad(b"file 3 at 1: BadIndent", b" 0: 1\n" + COUNTS)
+    bad(b"file 3 at 1: TooDeep", b" " * 257 + b"0: 1\n" + COUNTS)
+    bad(b"file 3 at 5: WrongFunction", SAMPLED + with_line(with_line(COUNTS, 1, b"# function g flow"), 10, b"# end 401"))
+    bad(b"file 3 at 15: Extra", SAMPLED + with_line(COUNTS, 10, b"# end 401") + b"# function g flow\n")
+    bad(b"file 3 at 5: Missing", SAMPLED)
+    bad(b"file 3 at 6: BadLine", SAMPLED + with_line(COUNTS, 2, b"0: 1"))
+    bad(b"file 2 at 2: NoBlocks", b"zz\n", b"func a\nend\n")
+    bad(b"file 1 at 0: NotElf", b"zz\n", b"zz\n", b"zz\n")
+    bad(b"file 2 at 1: BadLine", SAMPLED + COUNTS, SAMPLED + COUNTS)
+    for k, words in enumerate((["x", "cfg", "out"], ["bin", "x", "out"], ["bin", "cfg", "x"]), 1):
+        judge(
+            "lifted: file %d missing" % k, (MISSING, b"", b"no such file: %d\n" % k), ["lift", *words],
+            bin=ONE, cfg=BLOCKS, out=COUNTS,
+        )
+    for said, words in [(b"file 1 at 0: NotElf", ["cfg", "x", "x"]), (b"file 2 at 1: BadLine", ["bin", "out", "x"])]:
+        judge(
+            "lifted: a bad file before a missing one", (REFUSED, b"", b"refused: " + said + b"\n"), ["lift", *words],
+            bin=ONE, cfg=BLOCKS, out=SAMPLED + COUNTS,
+        )
+    for spelled in [
+        "lift", "lift bin cfg", "lift bin cfg out out", "lift --map=/x bin cfg out", "lift --edges bin cfg out", "lift --scaled bin cfg out",
+        "lift --base --base bin cfg out", "lift bin cfg out --base", "lift --bases bin cfg out", "lifts bin cfg out", "lift --base bin cfg",
+    ]:
+        judge("lifted: " + spelled, (BAD_WORDS, b"", USAGE), spelled.split(), bin=ONE, cfg=BLOCKS, out=COUNTS)
+
+    # What `build` wrote, as it is; what was lifted of it is a profile, and lifts to itself behind the same repairs.
+    for options in [], ["--base"], ["--edges"], ["--base", "--edges"]:
+        files = {"bin": ONE, "perf": TWO_SAMPLES, "cfg": BLOCKS + LOOP}
+        built = run(["build", *options, "bin", "perf", "cfg"], files).stdout
+        bases = [option for option in options if option == "--base"]
+        made = run(["lift", *bases, "bin", "cfg", "out"], {**files, "out": built}).stdout
+        title = " ".join(["again", *options])
+        judge("lifted and merged alone, " + title, (DONE, made, b""), ["merge", "1", "made"], made=made)
+        repairs = b"".join(line for line in built.splitlines(keepends=True) if line[:1] == b"#")
+        lifted(title, BLOCKS + LOOP, made + repairs, made, *bases)
+
+
 def summary_of(built):
     """The summary of what `build` wrote."""
     lines = built.splitlines()
@@ -757,4 +868,4 @@ def large():
     )
 
 
-try_all([places, range_lists, other_places, refusals, words, profiles, reports, bases_and_loads, builds, builds_with_options, checks, makes, large])
+try_all([places, range_lists, other_places, refusals, words, profiles, reports, bases_and_loads, builds, builds_with_options, checks, lifts, makes, large])

@@ -10,7 +10,7 @@ import sys
 
 MOST = 2**64 - 1
 LARGEST = 2**28
-USAGE = "usage: pgo counts, where, profile, build, check, make, merge or summary\n"
+USAGE = "usage: pgo counts, where, profile, build, check, make, merge, summary or lift\n"
 
 # The forms of lines, without the spaces in front.
 NAME = rb"[^\x00-\x20\x7f:#!0-9][^\x00-\x20\x7f:]*"

@@ -1,0 +1,11 @@
+use Rattle.flow_balance.proofs.AnswerLemmas.{least_found}
+use Rattle.flow_scaling.proofs.BeginLemmas.{closed_is_cut}
+use Rattle.flow_scaling.proofs.phases.solve_in.Goals as goal
+
+pub returns-then-not-branch-clause-solved : goal.returns-then-not-branch-clause-solved
+returns-then-not-branch-clause-solved g c =
+    closed_is_cut c.args.net.now _ _ _ _ _ c.requires.of_a_function (c.in_ok-run_all.ensures.closed c.if-not-branch.true) c.in_ok-nodes.ensures
+
+pub returns-clause-solved : goal.returns-clause-solved
+returns-clause-solved g c =
+    least_found _ _ _ _ _ _ (c.in_ok-run_all.ensures.done c.if-not-branch.false) c.in_ok-flow.ensures c.in_ok-told.ensures

@@ -1,0 +1,4 @@
+pub mod Bound
+pub mod Phase
+pub mod Refining
+pub use Rattle.flow_balance.specs.Solved

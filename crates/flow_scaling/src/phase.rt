@@ -1,0 +1,46 @@
+// One phase.
+ghost use Rattle.std.specs.Prelude.{◌≡◌, ◌+◌, ◌^◌, ◌<◌, ◌≤◌, length, true, false, IfOk, OnOk};
+ghost use Rattle.flow_model.specs.Network.{arcs_of};
+ghost use Rattle.flow_balance.specs.Excess.{surplus};
+ghost use Rattle.flow_balance.specs.State.{IsClosedFrom, IsState};
+ghost use Rattle.flow_scaling.specs.Bound.{RisesWithin};
+ghost use Rattle.flow_scaling.specs.Phase.{IsEvened};
+
+use crate::ledger::{Ledger, tell};
+use flow_balance::{Outcome, Workspace, balance};
+use flow_network::Net;
+use refusal::NoMemory;
+
+/// Balances counts whose excess is at most the number of arcs, and tells the ledger of each
+/// augmentation. False where from some side that has excess none can be reached that lacks counts:
+/// what was reached is a cut.
+pub(crate) fn run_phase<L: Ledger>(
+    net: &Net,
+    counts: &mut [u64],
+    prices: &mut [i64],
+    excess: &mut [i64],
+    work: &mut Workspace,
+    ledger: &mut L,
+) -> Result<bool, NoMemory>
+    requires state { IsState net.now counts.old prices.old excess.old }
+    requires few { surplus excess.old ≤ length (arcs_of net.now) }
+    requires marked { length work.old.search.marks ≡ length prices.old }
+    requires room { L.ticks ledger.old + length (arcs_of net.now) < 2 ^ 64 }
+    ensures marked { OnOk result (length work.new.search.marks ≡ length prices.new) }
+    ensures evened { IfOk result (λ is_even. is_even ≡ true
+        → IsEvened net.now counts.old prices.old excess.old counts.new prices.new excess.new) }
+    ensures closed { IfOk result (λ is_even. is_even ≡ false
+        → IsClosedFrom net.now counts.new prices.new excess.new work.new.search.marks) }
+    ensures ticks { RisesWithin (length (arcs_of net.now))
+        (L.ticks ledger.old) (L.ticks ledger.new) }
+{
+    let most = net.arcs().len() as u64 + 1;
+    work.left = most;
+    let end = balance(net, counts, prices, excess, work)?;
+    tell(ledger, most - work.left);
+    match end {
+        Outcome::Even => Ok(true),
+        Outcome::Closed => Ok(false),
+        Outcome::Spent => unreachable!(),
+    }
+}

@@ -8,6 +8,8 @@ mod of_dual_check;
 #[cfg(test)]
 mod of_edge_weights;
 #[cfg(test)]
+mod of_flow_scaling;
+#[cfg(test)]
 mod of_flow_solver;
 #[cfg(test)]
 mod of_reached_sides;

@@ -38,7 +38,7 @@ fn upper_bound(most: Option<u32>) -> Bound
     }
 }
 
-fn block(exit: bool, bound: Bound) -> Block
+pub(crate) fn block(exit: bool, bound: Bound) -> Block
     ensures { result ≡ record { lo = 1; hi = 2; exit = exit; bound = bound } }
 {
     Block {
@@ -60,7 +60,7 @@ fn edge(from: u32, to: u32) -> Edge
 }
 
 /// Weights that are known.
-fn known(weights: [u32; 4]) -> [Weight; 4]
+pub(crate) fn known(weights: [u32; 4]) -> [Weight; 4]
     ensures { AreWeights 4 result }
 {
     let [a, b, c, d] = weights;
@@ -73,14 +73,14 @@ fn known(weights: [u32; 4]) -> [Weight; 4]
 }
 
 /// Weights that are not.
-fn unknown() -> [Weight; 4]
+pub(crate) fn unknown() -> [Weight; 4]
     ensures { AreWeights 4 result }
 {
     [Weight::Unknown; 4]
 }
 
 /// The greatest weights.
-fn greatest() -> [Weight; 4]
+pub(crate) fn greatest() -> [Weight; 4]
     ensures { AreWeights 4 result }
 {
     [Weight::Known((1 << 44) - 1); 4]
@@ -88,7 +88,7 @@ fn greatest() -> [Weight; 4]
 
 /// A choice of two ways: from block 0, which runs at least so often, by block 1 or 2 to the exit,
 /// block 3, which runs at most so often.
-fn two_ways(
+pub(crate) fn two_ways(
     alloc: Global,
     at_least: u32,
     at_most: Option<u32>,
@@ -156,7 +156,7 @@ fn least_costs_are_those_of_worked_networks(rt: HostRuntime) {
 }
 
 /// Blocks 0 and 1 that go on at one another, of which block 0 was sampled 5 times.
-fn endless(alloc: Global) -> Result<Net, NoMemory> {
+pub(crate) fn endless(alloc: Global) -> Result<Net, NoMemory> {
     let fun = Fun {
         name: b"loop",
         blocks: Items::new(vec![in alloc; block(false, FREE), block(false, FREE)]?),
@@ -254,7 +254,7 @@ fn a_single_block_needs_an_exit_once_it_was_sampled(rt: HostRuntime) {
 
 /// As many blocks as a function may have: block 0, sampled once, leads to the last one, and each
 /// other to the one before it, down to block 1, the exit.
-fn chain(alloc: Global) -> Result<Net, NoMemory> {
+pub(crate) fn chain(alloc: Global) -> Result<Net, NoMemory> {
     let mut blocks = vec![in alloc; block(false, FREE), block(true, FREE)]?;
     let mut weights = vec![in alloc; Weight::Known(1), Weight::Unknown]?;
     let mut edges = vec![in alloc; edge(0, 65535)]?;

@@ -21,7 +21,7 @@ pub name_itself : (x : List ℕ) → same_name x x ≡ true
 name_itself x = (bytes_decides x x).1 refl
 
 -- where an item of a list comes from
-Inside : {T : Type 0} → List T → List T → Type 0
+unfoldable pub Inside : {T : Type 0} → List T → List T → Type 0
 Inside {T} xs ys = (x : T) → Among x xs → Among x ys
 
 pub append_from : {T : Type 0} (x : T) (xs ys : List T) → Among x (xs ++ ys) → Among x xs ⊎ Among x ys
@@ -59,11 +59,11 @@ flat_from {S} f x (z ∷ ys) h = elim (append_from x (f z) (flat_map f ys) h) as
   | inr r ↦ let found = flat_from f x ys r in (found.0, inr found.1, found.2)
 ]
 
-flat_inside : {S T : Type 0} (f : S → List T) (xs ys : List S) → Inside xs ys → Inside (flat_map f xs) (flat_map f ys)
+pub flat_inside : {S T : Type 0} (f : S → List T) (xs ys : List S) → Inside xs ys → Inside (flat_map f xs) (flat_map f ys)
 unfolding Inside
 flat_inside f xs ys inside x h = let found = flat_from f x xs h in among_flat f x found.0 ys (inside found.0 found.1) found.2
 
-append_inside : {T : Type 0} (xs ys vs ws : List T) → Inside xs vs → Inside ys ws → Inside (xs ++ ys) (vs ++ ws)
+pub append_inside : {T : Type 0} (xs ys vs ws : List T) → Inside xs vs → Inside ys ws → Inside (xs ++ ys) (vs ++ ws)
 unfolding Inside
 append_inside xs ys vs ws first second x h = elim (append_from x xs ys h) as (λ _. Among x (vs ++ ws)) [
   | inl l ↦ among_append_left x vs ws (first x l)
@@ -71,7 +71,7 @@ append_inside xs ys vs ws first second x h = elim (append_from x xs ys h) as (λ
 ]
 
 -- lists with the same items are the same in order
-ordered_alike : {T : Type 0} (cmp : T → T → Ordering) → TellsApart cmp → (xs ys : List T) → Inside xs ys → Inside ys xs → ordered cmp xs ≡ ordered cmp ys
+pub ordered_alike : {T : Type 0} (cmp : T → T → Ordering) → TellsApart cmp → (xs ys : List T) → Inside xs ys → Inside ys xs → ordered cmp xs ≡ ordered cmp ys
 unfolding Inside
 ordered_alike {T} cmp t xs ys there back =
     let in_order = ordered_is_in_order cmp t xs in
@@ -232,7 +232,7 @@ abbrev called_from : Profile → Way → List (List ℕ × ℕ)
 called_from p way = map (λ c. (c.1, target_of p way c.1)) (filter (λ c. same_way way c.0 && nat_lt 0 c.2) p.calls)
 
 -- the other way round
-back : {p q : Profile} → CountTheSame p q → CountTheSame q p
+pub back : {p q : Profile} → CountTheSame p q → CountTheSame q p
 back same = record { keys = λ way. sym (same.keys way); targets = λ way name. sym (same.targets way name); heads = λ name. sym (same.heads name) }
 
 -- a call of one profile that counts stands in the other as well
@@ -246,7 +246,7 @@ called p q same c h =
     (d, other.1, same_ways c.0 d.0 (and_first _ _ other.2), (bytes_decides c.1 d.1).0 (and_second (same_way c.0 d.0) _ other.2))
 
 -- what each profile says of ways
-totals_alike : (p q : Profile) → CountTheSame p q → (way : Way) → total_of p way ≡ total_of q way
+pub totals_alike : (p q : Profile) → CountTheSame p q → (way : Way) → total_of p way ≡ total_of q way
 totals_alike p q same way = ap capped (tested_alike p.counts q.counts same.keys (leads_to way))
 
 keys_inside : (p q : Profile) → CountTheSame p q → Inside (counted_keys p) (counted_keys q)
@@ -266,10 +266,10 @@ callers_inside p q same k h =
     let other = called p q same from.0 from.1 in
     subst (λ w. Among w (callers q)) (sym (from.2 ∙ other.2)) (among_map (λ c. c.0) other.0 (filter (λ c. nat_lt 0 c.2) q.calls) other.1)
 
-recorded_inside : (p q : Profile) → CountTheSame p q → Inside (recorded p) (recorded q)
+pub recorded_inside : (p q : Profile) → CountTheSame p q → Inside (recorded p) (recorded q)
 recorded_inside p q same = append_inside (counted_keys p) (callers p) (counted_keys q) (callers q) (keys_inside p q same) (callers_inside p q same)
 
-entered_inside : (p q : Profile) → CountTheSame p q → Inside (entered p) (entered q)
+pub entered_inside : (p q : Profile) → CountTheSame p q → Inside (entered p) (entered q)
 unfolding Inside
 entered_inside p q same k h =
     let from = map_from (λ e. to_function e.0 ∷ []) k (filter (λ e. nat_lt 0 e.1) p.heads) h in
@@ -311,7 +311,7 @@ targets_alike : (p q : Profile) → CountTheSame p q → (way : Way) → targets
 targets_alike p q same way =
     ordered_alike target_cmp targets_tell_apart (called_from p way) (called_from q way) (targets_inside p q same way) (targets_inside q p (back same) way)
 
-line_alike : (p q : Profile) → CountTheSame p q → (way : Way) → line_at p way ≡ line_at q way
+pub line_alike : (p q : Profile) → CountTheSame p q → (way : Way) → line_at p way ≡ line_at q way
 line_alike p q same [] = refl
 line_alike p q same (s ∷ way) = by_kind (last_step s way) (last_step s way).kind
   where

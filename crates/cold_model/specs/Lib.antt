@@ -1,0 +1,2 @@
+pub mod Cold
+pub mod Laws

@@ -7,6 +7,7 @@ use Rattle.std.proofs.lemmas.List.{length-map, map-append, take_all, take_more, 
 use Rattle.std.proofs.lemmas.List.Elements.{filter-append}
 use Rattle.std.proofs.lemmas.List.Sorted.{All-permutation, IsPermutation-sym, IsPermutation-map, IsPermutation-trans, IsPermutation-refl, IsPermutation-append_left}
 use Rattle.indexmap.proofs.ReorderLemmas.{map-swap}
+use Rattle.key_types.specs.declared.ids.KeyId.{KeyId}
 use Rattle.key_types.specs.declared.key.Key.{Key}
 use Rattle.profile_tree.proofs.Filled.{from_none}
 use Rattle.profile_tree.proofs.ListLemmas.{all_among, all_places, among_filter_back, among_range}
@@ -64,23 +65,23 @@ written_low p n ws lent same moved =
     subst (λ m. m < n) (get_or-map (λ (w : Written). w.id) ws k d d.id low) (all k d.id (omega (arith, size, low))))
 
 -- all sources, in the order of the items
-pub all_items : (keys : List Key) (counts tr nr : List ℕ) (calls : List Call) (heads : List Head) (ws lent : List Written) (none first items : List Item) → none ≡ [] → lent ≡ ws → IsPermutation (map (λ w. w.id) ws) (filter (is_written counts calls) (range_with_len 0 (length keys)))
+pub all_items : (keys : List Key) (counts tr nr : List ℕ) (calls : List Call) (besides : List KeyId) (heads : List Head) (ws lent : List Written) (none first items : List Item) → none ≡ [] → lent ≡ ws → IsPermutation (map (λ w. w.id) ws) (filter (is_written counts calls besides) (range_with_len 0 (length keys)))
     → IsPermutation (map told_item first) (map told_item none ++ map (ranked_source tr nr) (map (of_count keys counts) (map (λ w. w.id) lent)))
     → map told_item items ≡ map told_item first ++ map (ranked_source tr nr) (entered heads)
-    → IsPermutation (map told_item items) (map (ranked_source tr nr) (sources keys counts calls heads))
-all_items keys counts tr nr calls heads ws lent none first items empty same p one two =
+    → IsPermutation (map told_item items) (map (ranked_source tr nr) (sources keys counts calls besides heads))
+all_items keys counts tr nr calls besides heads ws lent none first items empty same p one two =
     let rs = ranked_source tr nr in
-    let ids = filter (is_written counts calls) (range_with_len 0 (length keys)) in
+    let ids = filter (is_written counts calls besides) (range_with_len 0 (length keys)) in
     let by_ids = map rs (map (of_count keys counts) (map (λ w. w.id) ws)) in
     let first_is : IsPermutation (map told_item first) by_ids =
     subst (IsPermutation (map told_item first)) (λ i. map told_item (empty i) ++ map rs (map (of_count keys counts) (map (λ w. w.id) (same i)))) one in
-    let moved : IsPermutation by_ids (map rs (written keys counts calls)) =
+    let moved : IsPermutation by_ids (map rs (written keys counts calls besides)) =
     IsPermutation-map rs (map (of_count keys counts) (map (λ w. w.id) ws)) (map (of_count keys counts) ids) (IsPermutation-map (of_count keys counts) (map (λ w. w.id) ws) ids p) in
-    let all_first = IsPermutation-trans (map told_item first) by_ids (map rs (written keys counts calls)) first_is moved in
+    let all_first = IsPermutation-trans (map told_item first) by_ids (map rs (written keys counts calls besides)) first_is moved in
     let ends = map rs (entered heads) in
-    subst (λ ys. IsPermutation ys (map rs (sources keys counts calls heads))) (sym two)
-    (subst (λ ys. IsPermutation (map told_item first ++ ends) ys) (sym (map-append rs (written keys counts calls) (entered heads)))
-    (IsPermutation-append_left ends (map told_item first) (map rs (written keys counts calls)) all_first))
+    subst (λ ys. IsPermutation ys (map rs (sources keys counts calls besides heads))) (sym two)
+    (subst (λ ys. IsPermutation (map told_item first ++ ends) ys) (sym (map-append rs (written keys counts calls besides) (entered heads)))
+    (IsPermutation-append_left ends (map told_item first) (map rs (written keys counts calls besides)) all_first))
 
 -- one item more
 pub one_item : (keys : List Key) (counts tr nr : List ℕ) (i : ℕ) (ws : List Written) (d : Written) (old new : List Item) (item : Item) (was : List Told) → i < length ws → new ≡ old ++ item ∷ []

@@ -1,9 +1,11 @@
 -- The lines of rows are those of the profile.
-use Rattle.std.proofs.Common.{◌≡◌, ◌≤◌, ◌<◌, ℕ, suc, ◌-◌, ◌==◌, min, List, [], ◌∷◌, map, filter, length, get_or, replicate, ◌^◌, Some, refl, sym, ap, subst, ◌∙◌, arith, IsPermutation}
+use Rattle.std.proofs.Common.{◌≡◌, ◌≤◌, ◌<◌, ℕ, suc, ◌-◌, ◌==◌, min, List, [], ◌∷◌, map, filter, length, get_or, replicate, ◌^◌, Some, refl, sym, ap, subst, ◌∙◌, arith, IsPermutation, All}
 use Rattle.std.proofs.lemmas.List.{length-map, length-replicate}
 use Rattle.std.specs.List.{AllByRecursion, AllZip}
+use Rattle.key_types.specs.declared.ids.KeyId.{KeyId}
 use Rattle.key_types.specs.declared.key.Key.{Key}
-use Rattle.profile_model.specs.Profile.{Line as told_line, function_line, body_line, call_line, count_of, head_of, targets_of, total_of, line_by, line_at, lines_of}
+use Rattle.cold_model.specs.Cold.{lines_with}
+use Rattle.profile_model.specs.Profile.{Line as told_line, function_line, body_line, call_line, count_of, head_of, targets_of, total_of, line_by, line_at}
 use Rattle.profile_lists.specs.Ranks.{AreRanks}
 use Rattle.profile_model.specs.Ways.{to_function}
 use Rattle.profile_tree.proofs.ItemLemmas.{permuted_back}
@@ -15,7 +17,7 @@ use Rattle.profile_tree.proofs.TargetLemmas.{all_ranks_low, targets_are}
 use Rattle.profile_tree.proofs.WayLemmas.{IsNamed, Ranked}
 use Rattle.profile_tree.specs.Items.{ranked, ranked_source, sources, told_item}
 use Rattle.profile_tree.specs.Rows.{IsKnown, IsKnownBy, line_of, line_by as row_line_by, target_of}
-use Rattle.profile_tree.specs.Said.{said}
+use Rattle.profile_tree.specs.Said.{said, ways_said}
 use Rattle.profile_tree.specs.Steps.{NumberedStep, at_function, at_line, at_call, name_at, named}
 use Rattle.profile_tree.specs.Sums.{AreEach, counts_below, entries_of, root_total}
 use Rattle.profile_tree.specs.Told.{IsOf, told, told_target}
@@ -48,9 +50,9 @@ pub record TellAll (names : List (List ℕ)) (parts : Parts) (rows : List Row) (
   pub named : AllByRecursion (IsOf names) (map (line_of parts) rows)
   pub are : map (told names) (map (line_of parts) rows) ≡ lines
 
-module _ (names : List (List ℕ)) (keys : List Key) (calls : List Call) (heads : List Head) (totals tr nr : List ℕ) (parts : Parts)
+module _ (names : List (List ℕ)) (keys : List Key) (calls : List Call) (besides : List KeyId) (heads : List Head) (besides_given : All (λ key. key.0 < length keys) besides) (totals tr nr : List ℕ) (parts : Parts)
     (g : Given names keys calls heads) (r : Ranked names (λ name. total_of (said names keys parts.counts.now calls heads) (to_function name ∷ [])) totals tr parts.by_total.now.ids nr parts.by_name.now.ids)
-    (items sorted : List Item) (told_is : map told_item items ≡ map (ranked_source tr nr) (sources keys parts.counts.now calls heads)) (permuted : IsPermutation items sorted)
+    (items sorted : List Item) (told_is : map told_item items ≡ map (ranked_source tr nr) (sources keys parts.counts.now calls besides heads)) (permuted : IsPermutation items sorted)
     (targets_is : AreTargets nr calls parts.targets.now) (heads_are : AreEach (length names) (entries_of heads) parts.heads.now) (counts_each : length parts.counts.now ≡ length keys) where
   total_back : (i : ℕ) → i < length names → get_or parts.by_total.now.ids (get_or tr i 0) 0 ≡ i
   total_back i h = r.by_total.back i (omega (arith, length-map totals (λ t. 2 ^ 64 - 1 - t), r.size))
@@ -79,7 +81,7 @@ module _ (names : List (List ℕ)) (keys : List Key) (calls : List Call) (heads 
       let rank : row.step.rank ≡ get_or tr i 0 = ap (λ x. x.rank) here in
       let id : get_or parts.by_total.now.ids row.step.rank 0 ≡ i = ap (λ q. get_or parts.by_total.now.ids q 0) rank ∙ total_back i h in
       let low : row.step.rank < length parts.by_total.now.ids = subst (λ q. q < length parts.by_total.now.ids) (sym rank) (total_low i h) in
-      let total : row.total ≡ total_of p (map (named names) (s ∷ w)) = total_of_row names keys parts.counts.now calls heads totals tr parts.by_total.now.ids nr parts.by_name.now.ids g r items sorted told_is permuted (s ∷ w) row all is in
+      let total : row.total ≡ total_of p (map (named names) (s ∷ w)) = total_of_row names keys parts.counts.now calls besides heads besides_given totals tr parts.by_total.now.ids nr parts.by_name.now.ids g r items sorted told_is permuted (s ∷ w) row all is in
       let head : get_or parts.heads.now (get_or parts.by_total.now.ids row.step.rank 0) 0 ≡ head_of p (name_at names i) =
       ap (λ k. get_or parts.heads.now k 0) id ∙ heads_are.each i h ∙ sym (head_is names keys parts.counts.now calls heads g i h) in
       record {
@@ -93,7 +95,7 @@ module _ (names : List (List ℕ)) (keys : List Key) (calls : List Call) (heads 
       let kind : row.step.kind ≡ Body = ap (λ x. x.kind) here in
       let offset : row.step.offset ≡ o = ap (λ x. x.offset) here in
       let disc : row.step.disc ≡ d = ap (λ x. x.disc) here in
-      let key = key_of_row names keys parts.counts.now calls heads totals tr parts.by_total.now.ids nr ni g r items sorted told_is permuted s w o d row all last is in
+      let key = key_of_row names keys parts.counts.now calls besides heads besides_given totals tr parts.by_total.now.ids nr ni g r items sorted told_is permuted s w o d row all last is in
       let count : get_or parts.counts.now row.key 0 ≡ count_of p (map (named names) (s ∷ w)) =
       sym (count_is names keys parts.counts.now calls heads g row.key key.given) ∙ ap (count_of p) (sym key.is) in
       let targets : map (told_target names) (map (target_of ni) (filter (λ t. t.key == row.key) parts.targets.now)) ≡ targets_of p (map (named names) (s ∷ w)) =
@@ -112,7 +114,7 @@ module _ (names : List (List ℕ)) (keys : List Key) (calls : List Call) (heads 
       let disc : row.step.disc ≡ d = ap (λ x. x.disc) here in
       let rank : row.step.rank ≡ get_or nr i 0 = ap (λ x. x.rank) here in
       let id : get_or ni row.step.rank 0 ≡ i = ap (λ q. get_or ni q 0) rank ∙ rank_back names nr ni b i h in
-      let total : row.total ≡ total_of p (map (named names) (s ∷ w)) = total_of_row names keys parts.counts.now calls heads totals tr parts.by_total.now.ids nr ni g r items sorted told_is permuted (s ∷ w) row all is in
+      let total : row.total ≡ total_of p (map (named names) (s ∷ w)) = total_of_row names keys parts.counts.now calls besides heads besides_given totals tr parts.by_total.now.ids nr ni g r items sorted told_is permuted (s ∷ w) row all is in
       record {
         known = subst (IsKnownBy parts row) (sym kind) (subst (λ q. q < length ni) (sym rank) (rank_low names nr ni b i h));
         named = subst (λ k. IsOf names (row_line_by parts row k)) (sym kind) (subst (λ k. k < length names) (sym id) h);
@@ -137,32 +139,32 @@ module _ (names : List (List ℕ)) (keys : List Key) (calls : List Call) (heads 
       let rest = all_tell fs rows all.1 zip.1 in
       record { known = (one.known, rest.known); named = (one.named, rest.named); are = λ i. one.is i ∷ rest.are i }
 
-  pub rows_tell : (rows : List Row) → AreRowsOf sorted rows → TellAll names parts rows (lines_of (said names keys parts.counts.now calls heads))
-  unfolding lines_of
+  pub rows_tell : (rows : List Row) → AreRowsOf sorted rows → TellAll names parts rows (lines_with (ways_said names keys besides) (said names keys parts.counts.now calls heads))
+  unfolding lines_with
   rows_tell rows are =
       let p = said names keys parts.counts.now calls heads in
       let ni = parts.by_name.now.ids in
       let ti = parts.by_total.now.ids in
       let counts = parts.counts.now in
-      let fs = fronts names keys counts calls heads totals tr ti nr ni g r items sorted told_is permuted in
+      let fs = fronts names keys counts calls besides heads besides_given totals tr ti nr ni g r items sorted told_is permuted in
       let zip : AllZip (IsRowOf sorted) (map (map (ranked tr nr)) fs) rows =
-      subst (λ xs. AllZip (IsRowOf sorted) xs rows) (rows_are names keys counts calls heads totals tr ti nr ni g r items sorted told_is permuted) are in
-      let told_all = all_tell fs rows (fronts_named names keys counts calls heads totals tr ti nr ni g r items sorted told_is permuted) zip in
-      subst (TellAll names parts rows) (sym (ap (map (line_at p)) (written_is names keys counts calls heads totals tr ti nr ni g r items sorted told_is permuted))) told_all
+      subst (λ xs. AllZip (IsRowOf sorted) xs rows) (rows_are names keys counts calls besides heads besides_given totals tr ti nr ni g r items sorted told_is permuted) are in
+      let told_all = all_tell fs rows (fronts_named names keys counts calls besides heads besides_given totals tr ti nr ni g r items sorted told_is permuted) zip in
+      subst (TellAll names parts rows) (sym (ap (map (line_at p)) (written_is names keys counts calls besides heads besides_given totals tr ti nr ni g r items sorted told_is permuted))) told_all
 
 at_most_cap : (m s : ℕ) → min s m ≤ m
 at_most_cap m s = omega arith
 
 pub all_told :
-    (names : List (List ℕ)) (keys : List Key) (calls : List Call) (heads : List Head) (parts : Parts) (n : ℕ) (totals tr nr : List ℕ) (items sorted : List Item) (rows : List Row)
-    → Given names keys calls heads → n ≡ length names → AreEach n (root_total keys parts.counts.now) totals
+    (names : List (List ℕ)) (keys : List Key) (calls : List Call) (besides : List KeyId) (heads : List Head) (parts : Parts) (n : ℕ) (totals tr nr : List ℕ) (items sorted : List Item) (rows : List Row)
+    → Given names keys calls heads → All (λ key. key.0 < length keys) besides → n ≡ length names → AreEach n (root_total keys parts.counts.now) totals
     → AreRanks names (map (λ t. 2 ^ 64 - 1 - t) totals) tr parts.by_total.now.ids → AreRanks names (replicate (length names) 0) nr parts.by_name.now.ids
-    → map told_item items ≡ map (ranked_source tr nr) (sources keys parts.counts.now calls heads) → IsPermutation items sorted → AreRowsOf sorted rows
+    → map told_item items ≡ map (ranked_source tr nr) (sources keys parts.counts.now calls besides heads) → IsPermutation items sorted → AreRowsOf sorted rows
     → AreTargets nr calls parts.targets.now → AreEach (length names) (entries_of heads) parts.heads.now → length parts.counts.now ≡ length keys
-    → TellAll names parts rows (lines_of (said names keys parts.counts.now calls heads))
-all_told names keys calls heads parts n totals tr nr items sorted rows g size total_each by_total by_name told_is permuted rows_is targets_is heads_are counts_each =
+    → TellAll names parts rows (lines_with (ways_said names keys besides) (said names keys parts.counts.now calls heads))
+all_told names keys calls besides heads parts n totals tr nr items sorted rows g besides_given size total_each by_total by_name told_is permuted rows_is targets_is heads_are counts_each =
     let counts = parts.counts.now in
-    rows_tell names keys calls heads totals tr nr parts g
+    rows_tell names keys calls besides heads besides_given totals tr nr parts g
     (record {
       apart = g.names_apart;
       by_total = by_total;
@@ -176,18 +178,18 @@ all_told names keys calls heads parts n totals tr nr items sorted rows g size to
 -- the same, from what is known step by step, where lists that were lent have two names
 pub all_told_from :
     {n m : ℕ} {totals lent_totals tr lent_tr nr lent_nr own_nr sums : List ℕ} {items sorted lent_items : List Item} {rows lent_rows : List Row}
-    (names : List (List ℕ)) (keys : List Key) (calls : List Call) (heads : List Head) (parts : Parts)
-    → Given names keys calls heads → n ≡ length names → AreEach n (root_total keys parts.counts.now) totals → lent_totals ≡ totals
+    (names : List (List ℕ)) (keys : List Key) (calls : List Call) (besides : List KeyId) (heads : List Head) (parts : Parts)
+    → Given names keys calls heads → All (λ key. key.0 < length keys) besides → n ≡ length names → AreEach n (root_total keys parts.counts.now) totals → lent_totals ≡ totals
     → AreRanks names (map (λ t. 2 ^ 64 - 1 - t) lent_totals) tr parts.by_total.now.ids → AreRanks names (replicate (length names) 0) nr parts.by_name.now.ids
-    → lent_tr ≡ tr → lent_nr ≡ nr → IsPermutation (map told_item items) (map (ranked_source lent_tr lent_nr) (sources keys parts.counts.now calls heads))
+    → lent_tr ≡ tr → lent_nr ≡ nr → IsPermutation (map told_item items) (map (ranked_source lent_tr lent_nr) (sources keys parts.counts.now calls besides heads))
     → IsPermutation items sorted → lent_items ≡ sorted → AreRowsOf lent_items rows → lent_rows ≡ rows
     → own_nr ≡ nr → AreTargets own_nr calls parts.targets.now → m ≡ length names → AreEach m (entries_of heads) sums → parts.heads.now ≡ sums
-    → length parts.counts.now ≡ length keys → TellAll names parts lent_rows (lines_of (said names keys parts.counts.now calls heads))
-all_told_from {n} {m} {totals} {lent_totals} {tr} {lent_tr} {nr} {lent_nr} {own_nr} {sums} {items} {sorted} {lent_items} {rows} {lent_rows} names keys calls heads parts g size total_each totals_is by_total by_name tr_is nr_is told_is permuted items_is rows_is rows_lent own_is targets_is heads_size head_each heads_is counts_each =
-    let in_order = permuted_back told_item items (map (ranked_source lent_tr lent_nr) (sources keys parts.counts.now calls heads)) told_is in
-    all_told names keys calls heads parts n totals tr nr in_order.0 sorted lent_rows g size total_each
+    → length parts.counts.now ≡ length keys → TellAll names parts lent_rows (lines_with (ways_said names keys besides) (said names keys parts.counts.now calls heads))
+all_told_from {n} {m} {totals} {lent_totals} {tr} {lent_tr} {nr} {lent_nr} {own_nr} {sums} {items} {sorted} {lent_items} {rows} {lent_rows} names keys calls besides heads parts g besides_given size total_each totals_is by_total by_name tr_is nr_is told_is permuted items_is rows_is rows_lent own_is targets_is heads_size head_each heads_is counts_each =
+    let in_order = permuted_back told_item items (map (ranked_source lent_tr lent_nr) (sources keys parts.counts.now calls besides heads)) told_is in
+    all_told names keys calls besides heads parts n totals tr nr in_order.0 sorted lent_rows g besides_given size total_each
     (subst (λ ts. AreRanks names (map (λ t. 2 ^ 64 - 1 - t) ts) tr parts.by_total.now.ids) totals_is by_total) by_name
-    (in_order.1 ∙ (λ i. map (ranked_source (tr_is i) (nr_is i)) (sources keys parts.counts.now calls heads)))
+    (in_order.1 ∙ (λ i. map (ranked_source (tr_is i) (nr_is i)) (sources keys parts.counts.now calls besides heads)))
     (IsPermutation-trans in_order.0 items sorted (IsPermutation-sym items in_order.0 in_order.2) permuted)
     (subst (λ xs. AreRowsOf xs lent_rows) items_is (subst (AreRowsOf lent_items) (sym rows_lent) rows_is))
     (subst (λ xs. AreTargets xs calls parts.targets.now) own_is targets_is)

@@ -5,11 +5,12 @@ use Rattle.std.proofs.lemmas.List.{take_more, length-replicate, get_or-replicate
 use Rattle.std.proofs.lemmas.List.Sums.{sum_by-cons, sum_by_push}
 use Rattle.std.specs.List.{range_with_len}
 use Rattle.key_types.specs.declared.key.Key.{Key}
-use Rattle.profile_laws.proofs.CountLemmas.{lines_are_by_counts}
+use Rattle.cold_model.proofs.ColdLemmas.{lines_with_are_by_counts}
+use Rattle.cold_model.specs.Cold.{lines_with}
 use Rattle.profile_laws.proofs.TotalLemmas.{sum_both}
 use Rattle.profile_laws.specs.Once.{StandOnce}
 use Rattle.profile_lists.specs.declared.pairs.Call.{Call}
-use Rattle.profile_model.specs.Profile.{count_of, lines_of}
+use Rattle.profile_model.specs.Profile.{count_of}
 use Rattle.profile_model.specs.Ways.{Way, same_way}
 use Rattle.profile_tree.proofs.Filled.{one_changed}
 use Rattle.profile_tree.proofs.ListLemmas.{and_first, and_second, bool_cases, bool_same, nat_same, all_among, among_range, sum_map, sum_filter, sum_none, sum_same, one_of_range}
@@ -153,5 +154,7 @@ module _ (names : List (List ℕ)) (keys : List Key) (counts : List KeyCount) (n
       ∙ sym (sum_map (λ c. cond (same_way way c.0) c.1 0) (λ (count : KeyCount). (way_at names keys count.key.0, count.times)) counts)
       ∙ sym (sum_filter (λ c. c.1) (λ c. same_way way c.0) (map (λ (count : KeyCount). (way_at names keys count.key.0, count.times)) counts))
 
-  pub stated_lines : lines_of (said names keys numbers calls heads) ≡ lines_of (stated names keys counts calls heads)
-  stated_lines = lines_are_by_counts (said names keys numbers calls heads) (stated names keys counts calls heads) (record { keys = same_count; targets = λ way name. refl; heads = λ name. refl })
+  pub stated_lines : (besides : List Way) → lines_with besides (said names keys numbers calls heads) ≡ lines_with besides (stated names keys counts calls heads)
+  stated_lines besides =
+      lines_with_are_by_counts besides (said names keys numbers calls heads) (stated names keys counts calls heads)
+      (record { keys = same_count; targets = λ way name. refl; heads = λ name. refl })

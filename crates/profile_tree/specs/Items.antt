@@ -1,6 +1,7 @@
 -- The ways of a profile, by ranks.
 use Rattle.std.specs.Prelude.{◌≡◌, ◌<◌, ℕ, ◌==◌, Bool, false, ◌&&◌, ◌||◌, nat_lt, List, [], ◌∷◌, ◌++◌, map, filter, length, slice_index, slice_index_or}
 use Rattle.std.specs.List.{list_any, range_with_len}
+use Rattle.key_types.specs.declared.ids.KeyId.{KeyId}
 use Rattle.key_types.specs.declared.key.Key.{Key}
 use Rattle.profile_tree.specs.Steps.{NumberedStep, at_function, at_line, at_call, steps_at}
 use Rattle.profile_tree.specs.declared.head.Head.{Head}
@@ -39,28 +40,37 @@ has_count counts id = nat_lt 0 (slice_index counts id)
 abbrev pub is_caller : List Call → ℕ → Bool
 is_caller calls id = list_any (λ call. was_made call && call.key.0 == id) calls
 
--- A key that has a line: one with a count or a target.
-abbrev pub is_written : List ℕ → List Call → ℕ → Bool
-is_written counts calls id = has_count counts id || is_caller calls id
+-- A key is one of those that have a line besides.
+abbrev pub is_besides : List KeyId → ℕ → Bool
+is_besides besides id = list_any (λ key. key.0 == id) besides
 
--- Each of so many keys told whether a function was called from it.
-pub record AreCallers (n : ℕ) (calls : List Call) (callers : List Bool) : Type 0 where
-  pub len : length callers ≡ n
-  pub each : (id : ℕ) → id < n → slice_index_or callers id false ≡ is_caller calls id
+-- A key has a line whatever its count: it has a target, or a line besides.
+abbrev pub is_marked : List Call → List KeyId → ℕ → Bool
+is_marked calls besides id = is_caller calls id || is_besides besides id
+
+-- A key that has a line: one with a count or a target, or one that has a line besides.
+abbrev pub is_written : List ℕ → List Call → List KeyId → ℕ → Bool
+is_written counts calls besides id = has_count counts id || is_marked calls besides id
+
+-- The first so many keys are told by marks: each has one where the test holds of it.
+pub record AreMarked (n : ℕ) (test : ℕ → Bool) (marks : List Bool) : Type 0 where
+  pub len : length marks ≡ n
+  pub each : (id : ℕ) → id < n → slice_index_or marks id false ≡ test id
 
 abbrev pub was_entered : Head → Bool
 was_entered head = nat_lt 0 head.times
 
-abbrev pub written : List Key → List ℕ → List Call → List Source
-written keys counts calls =
-    map (of_count keys counts) (filter (is_written counts calls) (range_with_len 0 (length keys)))
+abbrev pub written : List Key → List ℕ → List Call → List KeyId → List Source
+written keys counts calls besides =
+    map (of_count keys counts) (filter (is_written counts calls besides) (range_with_len 0 (length keys)))
 
 abbrev pub entered : List Head → List Source
 entered heads = map of_head (filter was_entered heads)
 
--- All ways that lead to a line: those of keys with counts or targets, and of functions that were entered.
-abbrev pub sources : List Key → List ℕ → List Call → List Head → List Source
-sources keys counts calls heads = written keys counts calls ++ entered heads
+-- All ways that lead to a line: those of keys with counts or targets and of keys that have lines besides, and of functions
+-- that were entered.
+abbrev pub sources : List Key → List ℕ → List Call → List KeyId → List Head → List Source
+sources keys counts calls besides heads = written keys counts calls besides ++ entered heads
 
 -- What an item tells.
 pub record Told : Type 0 where

@@ -2,6 +2,7 @@
 use Rattle.std.specs.Prelude.{◌<◌, ℕ, List, map, length, slice_index}
 use Rattle.std.specs.List.{range_with_len}
 use Rattle.profile_lists.specs.Laws.{factor_by, place_by}
+use Rattle.key_types.specs.declared.ids.KeyId.{KeyId}
 use Rattle.key_types.specs.declared.key.Key.{Key}
 use Rattle.key_types.specs.declared.places.Seg.{Seg}
 use Rattle.profile_model.specs.Counts.{IsCount}
@@ -15,6 +16,10 @@ use Rattle.profile_lists.specs.declared.pairs.Call.{Call}
 -- The way of the key of a number.
 abbrev pub way_at : List (List ℕ) → List Key → ℕ → Way
 way_at names keys id = map (named names) (steps_at keys id)
+
+-- The ways of keys.
+abbrev pub ways_said : List (List ℕ) → List Key → List KeyId → List Way
+ways_said names keys ids = map (λ key. way_at names keys key.0) ids
 
 -- Each call by the way of the key and the name of the function.
 abbrev pub calls_said : List (List ℕ) → List Key → List Call → List (Way × List ℕ × ℕ)

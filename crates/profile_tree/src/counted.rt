@@ -4,10 +4,11 @@ ghost use Rattle.profile_model.specs.Steps.{hits_by};
 ghost use Rattle.profile_lists.specs.Segments.{AllFit};
 ghost use Rattle.key_types.specs.Segments.{AreSegments};
 ghost use Rattle.key_types.specs.Numbers.{IsNumbered};
+ghost use Rattle.cold_model.specs.Cold.{lines_with};
 ghost use Rattle.profile_model.specs.Profile.{lines_of};
 ghost use Rattle.profile_tree.specs.Known.{HasNames, IsGiven, called_from};
 ghost use Rattle.profile_laws.specs.Once.{StandOnce};
-ghost use Rattle.profile_tree.specs.Said.{AreCountsOfPlaces, said, stated};
+ghost use Rattle.profile_tree.specs.Said.{AreCountsOfPlaces, said, stated, ways_said};
 ghost use Rattle.profile_tree.specs.Sums.{AreEach, calls_of, count_stated, entries_of};
 ghost use Rattle.profile_tree.specs.Told.{IsOf, told};
 
@@ -20,7 +21,7 @@ use crate::lines::{Parts, lines_of};
 use crate::order::{by_name, by_total};
 use crate::sums::{heads_of, stated_of, totals_of};
 use crate::tree::Tree;
-use key_types::{Chain, Keys, Names, Seg};
+use key_types::{Chain, KeyId, Keys, Names, Seg};
 use profile_lists::{Call, counts_of, rows_of, sort_items, targets_of};
 use range_counts::Hits;
 use refusal::NoMemory;
@@ -65,7 +66,7 @@ pub fn build(
     keys.each_once();
     names.each_once();
     let counts = counts_of(alloc, segments, hits, keys.len())?;
-    let lines = lines_of_counts(alloc, &counts, calls, heads, keys, names)?;
+    let lines = lines_of_counts(alloc, &counts, calls, &[], heads, keys, names)?;
     Ok(Tree {
         lines: Chain::new(lines),
         counts: Chain::new(counts),
@@ -101,8 +102,48 @@ pub fn from_counts(
     ensures counts { IfOk result (λ tree.
         AreEach (length keys.now) (count_stated counts.now) tree.counts) }
 {
+    from_counts_with(alloc, counts, calls, &[], heads, keys, names)
+}
+
+/// The same, where the keys of `besides` have lines too, in any order and however often they stand
+/// there: a key that has neither a count nor a target has a line with count 0.
+///
+/// # Errors
+/// `NoMemory`.
+pub fn from_counts_with(
+    alloc: Global,
+    counts: &[KeyCount],
+    calls: &[Call],
+    besides: &[KeyId],
+    heads: &[Head],
+    keys: &Keys,
+    names: &Names,
+) -> Result<Tree, NoMemory>
+    requires key_names { All (HasNames (length names.now)) keys.now }
+    requires counted { All (λ count. count.key.0 < length keys.now) counts.now }
+    requires calls { All (IsGiven (length keys.now) (length names.now)) calls.now }
+    requires besides { All (λ key. key.0 < length keys.now) besides.now }
+    requires heads { All (λ head. head.name.0 < length names.now) heads.now }
+    requires counts_once { StandOnce (λ count. count.key.0) counts.now }
+    requires calls_once { StandOnce called_from calls.now }
+    requires heads_once { StandOnce (λ head. head.name.0) heads.now }
+    ensures lines { IfOk result (λ tree. map (told names.now) tree.lines
+        ≡ lines_with (ways_said names.now keys.now besides.now)
+        (stated names.now keys.now counts.now calls.now heads.now)) }
+    ensures names { IfOk result (λ tree. All (IsOf names.now) tree.lines) }
+    ensures counts { IfOk result (λ tree.
+        AreEach (length keys.now) (count_stated counts.now) tree.counts) }
+{
+    keys.each_once();
+    names.each_once();
+    calls_fit(calls);
+    heads_fit(heads);
     let counts = stated_of(alloc, keys.len(), counts)?;
-    from_all_counts(alloc, counts, calls, heads, keys, names)
+    let lines = lines_of_counts(alloc, &counts, calls, besides, heads, keys, names)?;
+    Ok(Tree {
+        lines: Chain::new(lines),
+        counts: Chain::new(counts),
+    })
 }
 
 /// The profile of the counts of all keys, each at its number, with calls and heads that are known.
@@ -136,18 +177,19 @@ pub fn from_all_counts(
     names.each_once();
     calls_fit(calls);
     heads_fit(heads);
-    let lines = lines_of_counts(alloc, &counts, calls, heads, keys, names)?;
+    let lines = lines_of_counts(alloc, &counts, calls, &[], heads, keys, names)?;
     Ok(Tree {
         lines: Chain::new(lines),
         counts: Chain::new(counts),
     })
 }
 
-/// The lines of a profile, from the counts of its keys.
+/// The lines of a profile, from the counts of its keys, where those of `besides` have lines too.
 fn lines_of_counts(
     alloc: Global,
     counts: &[u64],
     calls: &[Call],
+    besides: &[KeyId],
     heads: &[Head],
     keys: &Keys,
     names: &Names,
@@ -157,11 +199,13 @@ fn lines_of_counts(
     requires names { IsNumbered names.now }
     requires key_names { All (HasNames (length names.now)) keys.now }
     requires calls { All (IsGiven (length keys.now) (length names.now)) calls.now }
+    requires besides { All (λ key. key.0 < length keys.now) besides.now }
     requires heads { All (λ head. head.name.0 < length names.now) heads.now }
     requires call_sums { (key callee : ℕ) → calls_of calls.now key callee < 2 ^ 64 }
     requires head_sums { (name : ℕ) → entries_of heads.now name < 2 ^ 64 }
     ensures lines { IfOk result (λ lines. map (told names.now) lines.items
-        ≡ lines_of (said names.now keys.now counts.now calls.now heads.now)) }
+        ≡ lines_with (ways_said names.now keys.now besides.now)
+        (said names.now keys.now counts.now calls.now heads.now)) }
     ensures names { IfOk result (λ lines. All (IsOf names.now) lines.items) }
 {
     let totals = totals_of(alloc, names.len(), keys, counts)?;
@@ -171,7 +215,7 @@ fn lines_of_counts(
         total: by_total.ranks.as_slice(),
         name: by_name.ranks.as_slice(),
     };
-    let mut items = items_of(alloc, keys, counts, calls, heads, &ranks)?;
+    let mut items = items_of(alloc, keys, counts, calls, besides, heads, &ranks)?;
     sort_items(&mut items)?;
     let rows = rows_of(alloc, &items)?;
     let targets = targets_of(alloc, calls, by_name.ranks.as_slice())?;

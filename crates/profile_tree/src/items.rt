@@ -1,7 +1,7 @@
 // The ways that lead to a line, with the ranks of their functions.
 ghost use Rattle.std.specs.Prelude.{◌≡◌, ◌<◌, ◌++◌, ◌||◌, [], false, All, IfOk, IsPermutation, OnOk, filter, length, map, slice_index_or};
 ghost use Rattle.std.specs.List.{AllByRecursion, range_with_len};
-ghost use Rattle.profile_tree.specs.Items.{AreCallers, entered, has_count, is_written, of_count, ranked, ranked_source, sources, told_item};
+ghost use Rattle.profile_tree.specs.Items.{AreMarked, entered, has_count, is_caller, is_marked, is_written, of_count, ranked, ranked_source, sources, told_item};
 ghost use Rattle.profile_tree.specs.Known.{HasNames, IsGiven};
 ghost use Rattle.profile_tree.specs.Steps.{at_function, frame_step, steps_at, steps_of};
 
@@ -25,7 +25,8 @@ pub struct Written {
     pub id: u32,
 }
 
-/// An item for each key that has a count or a target, and for each function that was entered.
+/// An item for each key that has a count or a target or is one of `besides`, and for each function
+/// that was entered.
 ///
 /// Keys go function by function, so that ways that are compared lie together in memory.
 pub fn items_of(
@@ -33,19 +34,21 @@ pub fn items_of(
     keys: &Keys,
     counts: &[u64],
     calls: &[Call],
+    besides: &[KeyId],
     heads: &[Head],
     ranks: &RankedBy,
 ) -> Result<Vec<Item>, NoMemory>
     requires names { All (HasNames (length ranks.now.total.now)) keys.now }
     requires callees { All (HasNames (length ranks.now.name.now)) keys.now }
     requires calls { All (IsGiven (length keys.now) (length ranks.now.name.now)) calls.now }
+    requires besides { All (λ key. key.0 < length keys.now) besides.now }
     requires heads { All (λ head. head.name.0 < length ranks.now.total.now) heads.now }
     requires len { length counts.now ≡ length keys.now }
     ensures { IfOk result (λ items. IsPermutation (map told_item items.items)
         (map (ranked_source ranks.now.total.now ranks.now.name.now)
-        (sources keys.now counts.now calls.now heads.now))) }
+        (sources keys.now counts.now calls.now besides.now heads.now))) }
 {
-    let written = written_of(alloc, keys, counts, calls, ranks)?;
+    let written = written_of(alloc, keys, counts, calls, besides, ranks)?;
     let mut items = Vec::new(alloc);
     push_written(alloc, &mut items, keys, counts, &written, ranks)?;
     push_entered(alloc, &mut items, heads, ranks)?;
@@ -58,15 +61,17 @@ fn written_of(
     keys: &Keys,
     counts: &[u64],
     calls: &[Call],
+    besides: &[KeyId],
     ranks: &RankedBy,
 ) -> Result<Vec<Written>, NoMemory>
     requires names { All (HasNames (length ranks.now.total.now)) keys.now }
     requires calls { All (λ call. call.key.0 < length keys.now) calls.now }
+    requires besides { All (λ key. key.0 < length keys.now) besides.now }
     requires len { length counts.now ≡ length keys.now }
-    ensures { IfOk result (λ made. IsPermutation (map (λ w. w.id) made.items)
-        (filter (is_written counts.now calls.now) (range_with_len 0 (length keys.now)))) }
+    ensures { IfOk result (λ made. IsPermutation (map (λ w. w.id) made.items) (filter
+        (is_written counts.now calls.now besides.now) (range_with_len 0 (length keys.now)))) }
 {
-    let mut written = numbered(alloc, keys, counts, calls, ranks)?;
+    let mut written = numbered(alloc, keys, counts, calls, besides, ranks)?;
     sort_written(&mut written)?;
     Ok(written)
 }
@@ -77,18 +82,20 @@ fn numbered(
     keys: &Keys,
     counts: &[u64],
     calls: &[Call],
+    besides: &[KeyId],
     ranks: &RankedBy,
 ) -> Result<Vec<Written>, NoMemory>
     requires names { All (HasNames (length ranks.now.total.now)) keys.now }
     requires calls { All (λ call. call.key.0 < length keys.now) calls.now }
+    requires besides { All (λ key. key.0 < length keys.now) besides.now }
     requires len { length counts.now ≡ length keys.now }
-    ensures { IfOk result (λ made. map (λ w. w.id) made.items
-        ≡ filter (is_written counts.now calls.now) (range_with_len 0 (length keys.now))) }
+    ensures { IfOk result (λ made. map (λ w. w.id) made.items ≡ filter
+        (is_written counts.now calls.now besides.now) (range_with_len 0 (length keys.now))) }
 {
-    let callers = callers_of(alloc, keys.len(), calls)?;
+    let marks = marks_of(alloc, keys.len(), calls, besides)?;
     let mut made = Vec::new(alloc);
     for id in 0..keys.len() {
-        if is_written(counts, &callers, id) {
+        if is_written(counts, &marks, id) {
             made.push(Written {
                 rank: root_rank(keys.get(KeyId(id)), ranks),
                 id,
@@ -98,12 +105,31 @@ fn numbered(
     Ok(made)
 }
 
-/// Of each of so many keys, whether a function was called from it.
+/// Of each of so many keys, whether a function was called from it, or it is one of `besides`.
 ///
 /// However many calls a key has, it has one line, so that its way is kept once.
+fn marks_of(
+    alloc: Global,
+    keys: u32,
+    calls: &[Call],
+    besides: &[KeyId],
+) -> Result<Vec<bool>, NoMemory>
+    requires calls { All (λ call. call.key.0 < keys) calls.now }
+    requires besides { All (λ key. key.0 < keys) besides.now }
+    ensures { IfOk result (λ marks.
+        AreMarked keys (is_marked calls.now besides.now) marks.items) }
+{
+    let mut marks = callers_of(alloc, keys, calls)?;
+    for key in besides {
+        marks[key.0 as usize] = true;
+    }
+    Ok(marks)
+}
+
+/// Of each of so many keys, whether a function was called from it.
 fn callers_of(alloc: Global, keys: u32, calls: &[Call]) -> Result<Vec<bool>, NoMemory>
     requires { All (λ call. call.key.0 < keys) calls.now }
-    ensures { IfOk result (λ callers. AreCallers keys calls.now callers.items) }
+    ensures { IfOk result (λ callers. AreMarked keys (is_caller calls.now) callers.items) }
 {
     let mut callers = vec![in alloc; false; keys as usize]?;
     for call in calls {
@@ -114,13 +140,13 @@ fn callers_of(alloc: Global, keys: u32, calls: &[Call]) -> Result<Vec<bool>, NoM
     Ok(callers)
 }
 
-/// Whether a key has a count, or a function was called from it.
-fn is_written(counts: &[u64], callers: &[bool], id: u32) -> bool
+/// Whether a key has a count, or a mark.
+fn is_written(counts: &[u64], marks: &[bool], id: u32) -> bool
     requires count { id < length counts.now }
-    requires caller { id < length callers.now }
-    ensures { result ≡ (has_count counts.now id || slice_index_or callers.now id false) }
+    requires mark { id < length marks.now }
+    ensures { result ≡ (has_count counts.now id || slice_index_or marks.now id false) }
 {
-    counts[id as usize] > 0 || callers[id as usize]
+    counts[id as usize] > 0 || marks[id as usize]
 }
 
 /// The rank of the function of a key.

@@ -1,11 +1,11 @@
 use Rattle.std.proofs.Common.{◌<◌, ◌^◌, ℕ, filter, get_or, length, map, ap, subst, sym, ◌∙◌}
 use Rattle.std.proofs.lemmas.Result.{IfOk-weaker}
-use Rattle.profile_model.specs.Profile.{lines_of}
+use Rattle.cold_model.specs.Cold.{lines_with}
 use Rattle.profile_tree.proofs.LineLemmas.{TellAll, all_told_from, targets_low}
 use Rattle.profile_tree.proofs.ListLemmas.{all_places}
 use Rattle.profile_tree.proofs.SumLemmas.{rank_sums_fit}
 use Rattle.profile_tree.specs.Rows.{IsKnown, line_of}
-use Rattle.profile_tree.specs.Said.{said}
+use Rattle.profile_tree.specs.Said.{said, ways_said}
 use Rattle.profile_tree.specs.Told.{IsOf, told}
 use Rattle.profile_tree.specs.declared.line.Line.{Line}
 use Rattle.profile_tree.specs.declared.lines.Parts.{Parts}
@@ -34,9 +34,9 @@ lines_of-requires-clause-rows c =
       counts = c.args.counts;
       targets = record { ref_ptr = c.args.names.ref_ptr; now = c.in_ok-targets.targets };
     } in
-    let all : TellAll names parts c.deref-4.result.now (lines_of (said names c.args.keys.now c.args.counts.now c.args.calls.now c.args.heads.now)) =
-    all_told_from names c.args.keys.now c.args.calls.now c.args.heads.now parts
-    (record { names_apart = c.requires.names; keys_apart = c.requires.keys; key_names = c.requires.key_names; calls_given = c.requires.calls; heads_given = c.requires.heads })
+    let all : TellAll names parts c.deref-4.result.now (lines_with (ways_said names c.args.keys.now c.args.besides.now) (said names c.args.keys.now c.args.counts.now c.args.calls.now c.args.heads.now)) =
+    all_told_from names c.args.keys.now c.args.calls.now c.args.besides.now c.args.heads.now parts
+    (record { names_apart = c.requires.names; keys_apart = c.requires.keys; key_names = c.requires.key_names; calls_given = c.requires.calls; heads_given = c.requires.heads }) c.requires.besides
     c.len.ensures c.in_ok-totals.ensures c.deref.ensures.value c.in_ok-by_total.ensures c.in_ok-by_name.ensures c.as_slice.ensures c.as_slice-2.ensures c.in_ok-items.ensures
     c.in_ok-sort_items.ensures.same c.deref-2.ensures.value c.in_ok-rows.ensures c.deref-4.ensures.value c.as_slice-3.ensures c.in_ok-targets.ensures c.len-2.ensures c.in_ok-heads.ensures c.deref-3.ensures.value c.requires.len in
     all_places (IsKnown parts) c.deref-4.result.now all.known
@@ -51,9 +51,9 @@ returns-clause-lines c =
       counts = c.args.counts;
       targets = record { ref_ptr = c.args.names.ref_ptr; now = c.in_ok-targets.targets };
     } in
-    let all : TellAll names parts c.deref-4.result.now (lines_of (said names c.args.keys.now c.args.counts.now c.args.calls.now c.args.heads.now)) =
-    all_told_from names c.args.keys.now c.args.calls.now c.args.heads.now parts
-    (record { names_apart = c.requires.names; keys_apart = c.requires.keys; key_names = c.requires.key_names; calls_given = c.requires.calls; heads_given = c.requires.heads })
+    let all : TellAll names parts c.deref-4.result.now (lines_with (ways_said names c.args.keys.now c.args.besides.now) (said names c.args.keys.now c.args.counts.now c.args.calls.now c.args.heads.now)) =
+    all_told_from names c.args.keys.now c.args.calls.now c.args.besides.now c.args.heads.now parts
+    (record { names_apart = c.requires.names; keys_apart = c.requires.keys; key_names = c.requires.key_names; calls_given = c.requires.calls; heads_given = c.requires.heads }) c.requires.besides
     c.len.ensures c.in_ok-totals.ensures c.deref.ensures.value c.in_ok-by_total.ensures c.in_ok-by_name.ensures c.as_slice.ensures c.as_slice-2.ensures c.in_ok-items.ensures
     c.in_ok-sort_items.ensures.same c.deref-2.ensures.value c.in_ok-rows.ensures c.deref-4.ensures.value c.as_slice-3.ensures c.in_ok-targets.ensures c.len-2.ensures c.in_ok-heads.ensures c.deref-3.ensures.value c.requires.len in
     IfOk-weaker c.lines_of.result _ _ (λ lines is. ap (map (told names)) is ∙ all.are) c.lines_of.ensures
@@ -68,9 +68,9 @@ returns-clause-names c =
       counts = c.args.counts;
       targets = record { ref_ptr = c.args.names.ref_ptr; now = c.in_ok-targets.targets };
     } in
-    let all : TellAll names parts c.deref-4.result.now (lines_of (said names c.args.keys.now c.args.counts.now c.args.calls.now c.args.heads.now)) =
-    all_told_from names c.args.keys.now c.args.calls.now c.args.heads.now parts
-    (record { names_apart = c.requires.names; keys_apart = c.requires.keys; key_names = c.requires.key_names; calls_given = c.requires.calls; heads_given = c.requires.heads })
+    let all : TellAll names parts c.deref-4.result.now (lines_with (ways_said names c.args.keys.now c.args.besides.now) (said names c.args.keys.now c.args.counts.now c.args.calls.now c.args.heads.now)) =
+    all_told_from names c.args.keys.now c.args.calls.now c.args.besides.now c.args.heads.now parts
+    (record { names_apart = c.requires.names; keys_apart = c.requires.keys; key_names = c.requires.key_names; calls_given = c.requires.calls; heads_given = c.requires.heads }) c.requires.besides
     c.len.ensures c.in_ok-totals.ensures c.deref.ensures.value c.in_ok-by_total.ensures c.in_ok-by_name.ensures c.as_slice.ensures c.as_slice-2.ensures c.in_ok-items.ensures
     c.in_ok-sort_items.ensures.same c.deref-2.ensures.value c.in_ok-rows.ensures c.deref-4.ensures.value c.as_slice-3.ensures c.in_ok-targets.ensures c.len-2.ensures c.in_ok-heads.ensures c.deref-3.ensures.value c.requires.len in
     IfOk-weaker c.lines_of.result _ _ (λ lines is. subst (λ xs. (k : ℕ) (d : Line) → k < length xs → IsOf names (get_or xs k d)) (sym is) (all_places (IsOf names) (map (line_of parts) c.deref-4.result.now) all.named)) c.lines_of.ensures

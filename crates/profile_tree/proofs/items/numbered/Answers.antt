@@ -10,10 +10,10 @@ loop-id-preserved c =
     let counts = c.args.counts.now in
     let i = c.loop-id.id in
     let old = c.loop-id.made.items in
-    let p = is_written counts c.args.calls.now in
+    let p = is_written counts c.args.calls.now c.args.besides.now in
     let low : i < c.len.result = omega (arith, c.loop-id-test.true, c.len.ensures, c.len-id-end.ensures) in
     let same : c.is_written.result ≡ p i =
-    c.is_written.ensures ∙ ap (λ b. has_count counts i || b) (ap (λ xs. get_or xs i false) c.deref.ensures.value ∙ c.in_ok-callers.ensures.each i low) in
+    c.is_written.ensures ∙ ap (λ b. has_count counts i || b) (ap (λ xs. get_or xs i false) c.deref.ensures.value ∙ c.in_ok-marks.ensures.each i low) in
     elim c.if-is_written.branch as (λ _. map (λ w. w.id) c.if-is_written.made.items ≡ filter p (range_with_len 0 (i + 1))) [
       | then-is_written+in_ok-push w ↦ ap (λ v. map (λ w. w.id) v.items) w.made-is ∙ one_more p i old _ _ w.in_ok-push.ensures.items (λ _. i) (sym same ∙ w.if-is_written.true) c.loop-id.invariant
       | else-is_written w ↦ ap (λ v. map (λ w. w.id) v.items) w.made-is ∙ no_more p i old (sym same ∙ w.if-is_written.false) c.loop-id.invariant

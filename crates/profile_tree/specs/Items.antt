@@ -67,8 +67,8 @@ written keys counts calls besides =
 abbrev pub entered : List Head → List Source
 entered heads = map of_head (filter was_entered heads)
 
--- All ways that lead to a line: those of keys with counts or targets and of keys that have lines besides, and of functions
--- that were entered.
+-- All ways that lead to a line: those of keys with counts or targets and of keys that have lines besides, and of
+-- functions that were entered.
 abbrev pub sources : List Key → List ℕ → List Call → List KeyId → List Head → List Source
 sources keys counts calls besides heads = written keys counts calls besides ++ entered heads
 

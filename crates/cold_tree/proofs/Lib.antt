@@ -1,0 +1,3 @@
+pub mod BesidesLemmas
+pub mod PartLemmas
+pub mod TreeLemmas

@@ -12,6 +12,8 @@ use Rattle.profile_model.specs.Ways.{to_body, to_call, to_function}
 use Rattle.report_model.specs.Report.{Sampled, report_text}
 use Rattle.binary_model.specs.Places.{Place, outside, no_line, at_way}
 use Rattle.repair_model.specs.Repair.{Repair, Solution, cut, flow}
+use Rattle.cold_model.specs.Cold.{lines_with}
+use Rattle.output_model.specs.Cold.{cold_lines_among}
 use Rattle.output_model.specs.Lift.{held_by, lifted}
 use Rattle.output_model.specs.Program.{Program, way_at}
 use Rattle.output_model.specs.Sampled.{classes_of, hits_of, profile_among}
@@ -91,3 +93,14 @@ lift : profile_text (lifted (held_by (way_at program) repaired) plain)
     ≡ codes "f:25:3\n 0: 5\n 3: 9 f:2\n 8: 4\n 2.1: g:7\n  1: 7\n"
 unfolding lines_of text_of_lines digits held_by program f_place repaired block repaired_by plain
 lift = refl
+
+-- each other line of f has the count 0, a call of which no line ran the total 0, and a line that the program has not stays
+cold : text_of_lines (cold_lines_among (range_with_len 0 48) program plain)
+    ≡ codes "f:6:3\n 0: 0\n 3: 2 f:2\n 8: 4\n 2.1: g:0\n  1: 0\n"
+unfolding lines_with text_of_lines digits program f_place plain
+cold = refl
+
+-- nothing is written where no function of the profile stands in the program, but the profile
+not_of_the_program : text_of_lines (cold_lines_among (range_with_len 0 48) program (record { counts = []; calls = []; heads = (codes "h", 1) ∷ [] })) ≡ codes "h:0:1\n"
+unfolding lines_with text_of_lines digits program f_place
+not_of_the_program = refl

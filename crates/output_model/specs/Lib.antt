@@ -1,4 +1,5 @@
 pub mod Built
+pub mod Cold
 pub mod Laws
 pub mod Lift
 pub mod Output

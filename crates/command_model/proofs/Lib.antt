@@ -1,3 +1,4 @@
+mod ColdExamples
 mod Examples
 mod LiftExamples
 mod MergeExamples

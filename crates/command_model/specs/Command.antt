@@ -33,6 +33,9 @@ pub data Command : Type 0 where
   summary : List ℕ → Command
   -- The profile in what was built of a binary and a block text, with the repaired counts of blocks on its lines.
   lift : Options → List ℕ → List ℕ → List ℕ → Command
+  -- A profile with a line for each place of a binary, in the functions that it has. No words of `pgo` spell this: it is
+  -- what `pgo-cold` does.
+  cold : Options → List ℕ → List ℕ → Command
 
 -- The digits of an address, which stand behind `0x` or alone.
 abbrev pub digits_of : List ℕ → List ℕ
@@ -51,21 +54,21 @@ counts_of _ _ = None
 abbrev pub where_of : List (List ℕ) → List (List ℕ) → Option Command
 where_of words (bin ∷ hex ∷ []) =
     option_and_then (λ options. option_map (where_ options bin) (address_of hex))
-    (options_of (record { map = false; base = true; edges = false }) words)
+    (options_of (record { map = false; base = true; edges = false; scaled = false }) words)
 where_of words _ = None
 
 -- `profile [--map=NAME] [--base] BIN PERF`
 abbrev pub profile_of : List (List ℕ) → List (List ℕ) → Option Command
 profile_of words (bin ∷ perf ∷ []) =
     option_map (λ options. profile options bin perf)
-    (options_of (record { map = true; base = true; edges = false }) words)
+    (options_of (record { map = true; base = true; edges = false; scaled = false }) words)
 profile_of words _ = None
 
--- `build [--map=NAME] [--base] [--edges] BIN PERF CFG`
+-- `build [--map=NAME] [--base] [--edges] [--scaled] BIN PERF CFG`
 abbrev pub build_of : List (List ℕ) → List (List ℕ) → Option Command
 build_of words (bin ∷ perf ∷ cfg ∷ []) =
     option_map (λ options. build options bin perf cfg)
-    (options_of (record { map = true; base = true; edges = true }) words)
+    (options_of (record { map = true; base = true; edges = true; scaled = true }) words)
 build_of words _ = None
 
 -- `check CFG OUT`
@@ -132,7 +135,7 @@ summary_of _ _ = None
 abbrev pub lift_of : List (List ℕ) → List (List ℕ) → Option Command
 lift_of words (bin ∷ cfg ∷ out ∷ []) =
     option_map (λ options. lift options bin cfg out)
-    (options_of (record { map = false; base = true; edges = false }) words)
+    (options_of (record { map = false; base = true; edges = false; scaled = false }) words)
 lift_of words _ = None
 
 -- The command of a name, by the words of its options and those behind them.

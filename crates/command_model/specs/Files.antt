@@ -18,12 +18,13 @@ use Rattle.sample_model.specs.Judging.{first_bad_of_text}
 use Rattle.sample_model.specs.Samples.{branches_of}
 use Rattle.binary_model.specs.Binary.{first_bad_of_binary}
 use Rattle.binary_model.specs.Places.{place_of_address}
-use Rattle.output_model.specs.Built.{IsBuiltOf}
+use Rattle.output_model.specs.Scaled.{IsBuiltOf}
+use Rattle.output_model.specs.Cold.{cold_output}
 use Rattle.output_model.specs.Lift.{lift_output}
 use Rattle.output_model.specs.Output.{profile_output}
 use Rattle.output_model.specs.Summary.{IsSummaryOf}
 use Rattle.command_model.specs.Check.{checked_text}
-use Rattle.command_model.specs.Command.{Command, bin_file, perf_file, cfg_file, counts, where_, profile, build, check, make, make_sum, merge, summary, lift}
+use Rattle.command_model.specs.Command.{Command, bin_file, perf_file, cfg_file, counts, where_, profile, build, check, make, make_sum, merge, summary, lift, cold}
 use Rattle.command_model.specs.Counts.{counts_text}
 use Rattle.command_model.specs.Make.{case_file}
 use Rattle.command_model.specs.Where.{where_text}
@@ -126,6 +127,7 @@ files_of (summary file) = alone file (first_bad_of_profile_text 1) ∷ []
 files_of (lift options bin cfg out) =
     alone bin first_bad_of_binary ∷ alone cfg (first_bad_of_blocks 2)
     ∷ record { source = named out; judge = λ before. first_bad_of_built 3 (functions_in 1 before) } ∷ []
+files_of (cold options bin prof) = alone bin first_bad_of_binary ∷ alone prof (first_bad_of_profile_text 2) ∷ []
 
 -- The line of a repair text of these functions that is the first to fail its test.
 abbrev pub first_failing : List Function → List ℕ → Option ℕ
@@ -145,7 +147,8 @@ IsOutput (where_ options bin address) contents text =
 IsOutput (profile options bin perf) contents text =
     text ≡ profile_output options.map options.base (file_at 0 contents) (file_at 1 contents)
 IsOutput (build options bin perf cfg) contents text =
-    IsBuiltOf options.map options.base options.edges (file_at 0 contents) (file_at 1 contents) (file_at 2 contents) text
+    IsBuiltOf options.map options.base options.edges options.scaled
+    (file_at 0 contents) (file_at 1 contents) (file_at 2 contents) text
 IsOutput (check cfg out) contents text = text ≡ checked_text (length (functions_in 0 contents))
 IsOutput (make file n) contents text = text ≡ case_file file n
 IsOutput (make_sum n) contents text = IsSummaryOf (file_at 0 contents) (file_at 1 contents) (file_at 2 contents) text
@@ -153,3 +156,5 @@ IsOutput (merge parts) contents text = text ≡ merge_text (weighed_texts parts 
 IsOutput (summary file) contents text = text ≡ summary_text (spelled (file_at 0 contents))
 IsOutput (lift options bin cfg out) contents text =
     text ≡ lift_output options.base (file_at 0 contents) (file_at 1 contents) (file_at 2 contents)
+IsOutput (cold options bin prof) contents text =
+    text ≡ cold_output options.base (file_at 0 contents) (file_at 1 contents)

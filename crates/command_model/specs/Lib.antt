@@ -1,5 +1,6 @@
 pub mod Answer
 pub mod Check
+pub mod Cold
 pub mod Command
 pub mod Counts
 pub mod Files

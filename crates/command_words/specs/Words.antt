@@ -7,6 +7,7 @@ use Rattle.case_maker.specs.declared.case.CasePart.{CasePart}
 use Rattle.case_maker.specs.declared.case.CasePart.TheVariants.{Bin, Perf, Cfg}
 use Rattle.command_model.specs.Command as model
 use Rattle.command_model.specs.Options as options
+use Rattle.command_words.specs.declared.cold.Cold.{Cold}
 use Rattle.command_words.specs.declared.command.Command.{Command}
 use Rattle.command_words.specs.declared.command.Command.TheVariants.{Counts, Where, Profile, Build, Check, Make, MakeSum, Merge, Summary, Lift}
 use Rattle.command_words.specs.declared.command.Part.{Part}
@@ -20,10 +21,10 @@ texts_of words = map (λ w. w.items) words
 -- What options say, apart from where the words lie.
 abbrev pub told_options : Options → options.Options
 told_options said =
-    record { map = option_map (λ name. name.now) said.map; base = said.base; edges = said.edges }
+    record { map = option_map (λ name. name.now) said.map; base = said.base; edges = said.edges; scaled = said.scaled }
 
 abbrev pub told_has : Has → options.Has
-told_has has = record { map = has.map; base = has.base; edges = has.edges }
+told_has has = record { map = has.map; base = has.base; edges = has.edges; scaled = has.scaled }
 
 abbrev pub told_part : CasePart → model.CaseFile
 told_part Bin = model.bin_file
@@ -50,3 +51,7 @@ meaning_of (MakeSum functions) = model.make_sum functions
 meaning_of (Merge parts) = model.merge (map told_weighed parts.items)
 meaning_of (Summary file) = model.summary file.now
 meaning_of (Lift said binary blocks built) = model.lift (told_options said) binary.now blocks.now built.now
+
+-- What `pgo-cold` is asked for, likewise.
+abbrev pub cold_meaning : Cold → model.Command
+cold_meaning said = model.cold (told_options said.options) said.binary.now said.profile.now

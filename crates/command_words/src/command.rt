@@ -146,7 +146,7 @@ pub fn parse(words: &[Vec<u8>]) -> Option<Command<'_>>
 }
 
 /// How many words in front are options.
-fn option_count(words: &[Vec<u8>]) -> usize
+pub(crate) fn option_count(words: &[Vec<u8>]) -> usize
     ensures counted { result ≡ count_told (texts_of words.now) }
     ensures within { result ≤ length words.now }
 {

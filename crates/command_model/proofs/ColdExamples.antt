@@ -1,0 +1,24 @@
+-- The words of `pgo-cold`.
+use Rattle.std.proofs.Common.{◌≡◌, [], ◌∷◌, refl, Some, None, true, false}
+use Rattle.std.specs.Prelude.{codes}
+use Rattle.command_model.specs.Cold.{cold_of}
+use Rattle.command_model.specs.Command.{cold, command_of}
+use Rattle.command_model.specs.Options.{Options, map_name, options_of}
+
+abbrev plain : Options
+plain = record { map = None; base = false; edges = false }
+
+abbrev based : Options
+based = record { map = None; base = true; edges = false }
+
+-- An option stands in front, once, and no words of `pgo` ask for it.
+words : (cold_of (codes "bin" ∷ codes "prof" ∷ []) ≡ Some (cold plain (codes "bin") (codes "prof")))
+    × (cold_of (codes "--base" ∷ codes "bin" ∷ codes "prof" ∷ []) ≡ Some (cold based (codes "bin") (codes "prof")))
+    × (cold_of (codes "bin" ∷ codes "--base" ∷ []) ≡ Some (cold plain (codes "bin") (codes "--base")))
+    × (cold_of (codes "--base" ∷ codes "--base" ∷ codes "bin" ∷ codes "prof" ∷ []) ≡ None)
+    × (cold_of (codes "--edges" ∷ codes "bin" ∷ codes "prof" ∷ []) ≡ None)
+    × (cold_of (codes "--map=y" ∷ codes "bin" ∷ codes "prof" ∷ []) ≡ None)
+    × (cold_of (codes "bin" ∷ []) ≡ None) × (cold_of [] ≡ None)
+    × (command_of (codes "cold" ∷ codes "bin" ∷ codes "prof" ∷ []) ≡ None)
+unfolding cold_of command_of options_of map_name
+words = (refl, refl, refl, refl, refl, refl, refl, refl, refl)

@@ -1,0 +1,196 @@
+-- The keys of a binary are the places of its addresses.
+use Rattle.std.proofs.Common.{◌≡◌, ℕ, zero, suc, ◌<◌, ◌≤◌, ◌-◌, ◌^◌, Bool, List, [], ◌∷◌, ◌++◌, map, filter, length, Option, None, Some, refl, sym, ap, subst, ◌∙◌, arith}
+use Rattle.std.specs.List.{filter_map, range_with_len}
+use Rattle.std.specs.Option.{option_map}
+use Rattle.address_spans.proofs.SpanLemmas.{held, missed-behind, reach}
+use Rattle.address_spans.specs.Spans.{AreBetween}
+use Rattle.binary_model.specs.Places.{Place, at_way, nameless, no_line, outside}
+use Rattle.binary_places.specs.Binary.{IsBinary}
+use Rattle.binary_places.specs.declared.binary.Binary.{Binary}
+use Rattle.cold_model.proofs.ColdLemmas.{same_lines}
+use Rattle.cold_model.specs.Cold.{cold_lines_of, stands_in}
+use Rattle.key_types.specs.Numbers.{IsNumbered}
+use Rattle.key_types.specs.Segments.{HasSegment, segment_at, span_of}
+use Rattle.key_types.specs.declared.key.Key.{Key}
+use Rattle.key_types.specs.declared.places.Seg.{Seg}
+use Rattle.key_types.specs.declared.places.Where.{Where}
+use Rattle.output_model.specs.Cold.{cold_lines, cold_output}
+use Rattle.output_model.specs.Program.{program_of, way_of_place}
+use Rattle.output_model.specs.Program as program_told
+use Rattle.output_model.specs.Sampled.{all_addresses}
+use Rattle.profile_lists.specs.Laws.{place_by}
+use Rattle.profile_maker.proofs.NameLemmas.{keys_have_names}
+use Rattle.profile_maker.proofs.ShownLemmas.{programs_shown}
+use Rattle.profile_merge.proofs.TellLemmas.{what_same}
+use Rattle.profile_merge.specs.Laws.{AreNumbered}
+use Rattle.profile_model.proofs.OrderLemmas.{ways_tell_apart}
+use Rattle.profile_model.specs.Laws.{has}
+use Rattle.profile_model.specs.Orders.{way_cmp}
+use Rattle.profile_model.specs.Profile.{Profile, total_of_function}
+use Rattle.profile_model.specs.Spelled.{What as ToldWhat, count, head, profile_by, spelled, target}
+use Rattle.profile_model.specs.Text.{text_of_lines}
+use Rattle.profile_model.specs.Ways.{Way}
+use Rattle.profile_text.specs.Draft.{Kept}
+use Rattle.profile_text.specs.Text.{TellText}
+use Rattle.profile_text.specs.declared.item.Item.{Item}
+use Rattle.profile_text.specs.declared.item.What.TheVariants.{Count}
+use Rattle.profile_tree.proofs.ListLemmas.{Among, among_filter, among_filter_back, among_has, among_map, among_map_back, among_range, bool_same, has_among, range_among}
+use Rattle.profile_tree.specs.Said.{way_at}
+use Rattle.profile_writer.proofs.SumLemmas.{kept_among, kept_from}
+use Rattle.profile_writer.specs.Told.{TellsPlace, key_of}
+use Rattle.cold_tree.specs.Besides.{counted, first_ways}
+
+-- ---- each key has an address
+
+-- an address whose segment has the key of a number
+pub record HasAddress (n from to : ℕ) (segments : List Seg) : Type 0 where
+  pub at : ℕ
+  pub low : from ≤ at
+  pub high : at < to
+  pub is : place_by segments at ≡ Some n
+
+first : (s : Seg) (segments : List Seg) → s.lo < s.hi → segment_at (s ∷ segments) s.lo ≡ Some s
+first s segments some = rw (held (span_of s) s.lo (omega arith) some) refl
+
+later : (s : Seg) (segments : List Seg) (a : ℕ) → s.hi ≤ a → segment_at (s ∷ segments) a ≡ segment_at segments a
+later s segments a behind = rw (missed-behind (span_of s) a behind) refl
+
+address_of_key : (n from to : ℕ) (segments : List Seg) → AreBetween from to (map span_of segments) → HasSegment segments n → HasAddress n from to segments
+address_of_key n from to [] ascend (i, within, is) = absurd (omega (arith, within))
+address_of_key n from to (s ∷ segments) ascend (zero, within, is) =
+    let ends = reach s.hi to (map span_of segments) ascend.2 in
+    record { at = s.lo; low = ascend.0; high = omega (arith, ascend.1, ends); is = ap (option_map (λ (x : Seg). x.key.0)) (first s segments ascend.1) ∙ ap (λ k. Some k) is }
+address_of_key n from to (s ∷ segments) ascend (suc i, within, is) =
+    let r = address_of_key n s.hi to segments ascend.2 (i, omega (arith, within), is) in
+    record { at = r.at; low = omega (arith, r.low, ascend.0, ascend.1); high = r.high; is = ap (option_map (λ (x : Seg). x.key.0)) (later s segments r.at r.low) ∙ r.is }
+
+-- ---- places and keys
+
+way_there : (way w : Way) → Some w ≡ Some way → w ≡ way
+way_there way w e = cc
+
+no_way : (way : Way) → None ≡ Some way → ⊥
+no_way way e = cc
+
+no_number : (n : ℕ) → None ≡ Some n → ⊥
+no_number n e = cc
+
+number_there : (m n : ℕ) → Some m ≡ Some n → m ≡ n
+number_there m n e = cc
+
+-- a key that has a way
+pub record IsKeyOf (names : List (List ℕ)) (keys : List Key) (way : Way) : Type 0 where
+  pub number : ℕ
+  pub given : number < length keys
+  pub is : way_at names keys number ≡ way
+
+-- a place with a way has a key of that way
+key_of_way : (names : List (List ℕ)) (keys : List Key) (place : Place) (answer : Where) → TellsPlace names keys place answer → (way : Way) → way_of_place place ≡ Some way → IsKeyOf names keys way
+key_of_way names keys outside answer shown way e = absurd (no_way way e)
+key_of_way names keys nameless answer shown way e = absurd (no_way way e)
+key_of_way names keys no_line answer shown way e = absurd (no_way way e)
+key_of_way names keys (at_way w) answer shown way e = record { number = shown.0.0; given = shown.2.inside; is = shown.2.way_is ∙ way_there way w e }
+
+-- a place with the number of a key has the way of that key
+way_of_key : (names : List (List ℕ)) (keys : List Key) (place : Place) (answer : Where) → TellsPlace names keys place answer → (n : ℕ) → key_of answer ≡ Some n
+    → way_of_place place ≡ Some (way_at names keys n)
+way_of_key names keys outside answer shown n e = absurd (no_number n (sym (ap key_of shown) ∙ e))
+way_of_key names keys nameless answer shown n e = absurd (no_number n (sym (ap key_of shown) ∙ e))
+way_of_key names keys no_line answer shown n e = absurd (no_number n (sym (ap key_of shown) ∙ e))
+way_of_key names keys (at_way w) answer shown n e =
+    let same : shown.0.0 ≡ n = number_there shown.0.0 n (sym (ap key_of shown.1) ∙ e) in
+    ap (λ z. Some z) (sym shown.2.way_is ∙ ap (way_at names keys) same)
+
+inside : (address : ℕ) → address < 2 ^ 64 - 1 → Among address all_addresses
+unfolding all_addresses
+inside address near = range_among 0 (2 ^ 64) address (omega arith) (omega (arith, near))
+
+module _ (bytes : List ℕ) (base : Bool) (binary : Binary) (is : IsBinary bytes base binary) where
+  abbrev way_here : ℕ → Option Way
+  way_here = program_told.way_at (program_of bytes base)
+
+  key_here : (address : ℕ) (way : Way) → way_here address ≡ Some way → IsKeyOf binary.names binary.keys way
+  key_here address way e = key_of_way binary.names binary.keys _ _ ((programs_shown bytes base binary is).places address) way e
+
+  -- the way of each key is that of some address
+  key_among : (n : ℕ) → n < length binary.keys → Among (way_at binary.names binary.keys n) (filter_map way_here all_addresses)
+  key_among n given =
+      let shown = programs_shown bytes base binary is in
+      let there = address_of_key n 0 (2 ^ 64 - 1) binary.map.segments is.map.ascend (is.used n (omega arith) given) in
+      kept_among way_here there.at (way_at binary.names binary.keys n) all_addresses (inside there.at there.high)
+      (way_of_key binary.names binary.keys _ _ (shown.places there.at) n (sym (shown.keys_told there.at) ∙ there.is))
+
+  -- ---- behind the names and keys of a profile text
+
+  module _ (text : List ℕ) (items : List Item) (more : List (List ℕ)) (more_keys : List Key)
+      (names_once : IsNumbered binary.names) (keys_once : IsNumbered binary.keys) (tells : TellText binary.names binary.keys text items more more_keys)
+      (more_names_once : IsNumbered more) (more_keys_once : IsNumbered more_keys) where
+    before : AreNumbered binary.names binary.keys
+    before = record { names_once = names_once; keys_once = keys_once; key_names = keys_have_names bytes base binary is }
+
+    behind : AreNumbered more more_keys
+    behind = record { names_once = more_names_once; keys_once = more_keys_once; key_names = tells.named }
+
+    way_in : ToldWhat → Way
+    way_in (head name) = []
+    way_in (count way) = way
+    way_in (target way name) = way
+
+    way_stays : (n : ℕ) → n < length binary.keys → way_at more more_keys n ≡ way_at binary.names binary.keys n
+    unfolding way_in
+    way_stays n given = ap way_in (what_same binary.names more binary.keys more_keys before tells.names_kept tells.keys_kept (Count (record { 0 = n })) given)
+
+    abbrev p : Profile
+    p = counted more more_keys items
+
+    abbrev ways : List Way
+    ways = first_ways more more_keys (length binary.keys)
+
+    abbrev places : List Way
+    places = filter_map way_here all_addresses
+
+    -- the ways of the first keys are those of all addresses
+    there : (z : Way) → Among z ways → Among z places
+    there z h =
+        let key = among_map_back (way_at more more_keys) z (range_with_len 0 (length binary.keys)) h in
+        let range = among_range 0 (length binary.keys) key.0 key.1 in
+        let given : key.0 < length binary.keys = omega (arith, range.1) in
+        subst (λ w. Among w places) (sym (key.2 ∙ way_stays key.0 given)) (key_among key.0 given)
+
+    back : (z : Way) → Among z places → Among z ways
+    back z h =
+        let from = kept_from way_here z all_addresses h in
+        let key = key_here from.0 z from.2 in
+        subst (λ w. Among w ways) (way_stays key.number key.given ∙ key.is)
+        (among_map (way_at more more_keys) key.number (range_with_len 0 (length binary.keys))
+        (range_among 0 (length binary.keys) key.number (omega arith) (omega (arith, key.given))))
+
+    kept_both : (test : Way → Bool) (xs ys : List Way) → ((z : Way) → Among z xs → Among z ys) → (z : Way) → Among z (filter test xs) → Among z (filter test ys)
+    kept_both test xs ys inside z h = let kept = among_filter_back test z xs h in among_filter test z ys kept.0 (inside z kept.1)
+
+    kept_itself : {T : Type 0} (xs : List T) → Kept xs xs
+    kept_itself xs = λ n x h. h
+
+    told_is : p ≡ spelled text
+    told_is = ap profile_by (tells.told.tell more more_keys (kept_itself more) (kept_itself more_keys))
+
+    -- What has lines besides is what the definition says.
+    pub lines_are : cold_lines_of ways p ≡ cold_lines (program_of bytes base) (spelled text)
+    unfolding cold_lines
+    lines_are =
+        let cmp = way_cmp (total_of_function p) in
+        let t = ways_tell_apart (total_of_function p) in
+        let one = filter (stands_in p) ways in
+        let all = filter (stands_in p) places in
+        same_lines p one all
+        (λ z. bool_same (has cmp z one) (has cmp z all)
+        (λ e. among_has cmp t z all (kept_both (stands_in p) ways places there z (has_among cmp t z one e)))
+        (λ e. among_has cmp t z one (kept_both (stands_in p) places ways back z (has_among cmp t z all e))))
+        ∙ ap (cold_lines_of places) told_is
+
+    pub output_is : (known : ℕ) → known ≡ length binary.keys → text_of_lines (cold_lines_of (first_ways more more_keys known) p) ≡ cold_output base bytes text
+    output_is known is_known = ap (λ n. text_of_lines (cold_lines_of (first_ways more more_keys n) p)) is_known ∙ ap text_of_lines lines_are
+
+-- What was appended to nothing stands alone.
+pub stands_alone : (out front more text : List ℕ) → out ≡ front ++ more → front ≡ [] → more ≡ text → out ≡ text
+stands_alone out front more text appended empty is = appended ∙ (λ i. empty i ++ is i)

@@ -8,14 +8,13 @@
 mod about;
 mod remedies;
 mod topics;
-mod words;
 
 use io_edge::{FileInputs, StdSink, write_all};
 use pgo_run::{Status, run, status_line};
+use program_words::{WordsStop, read_words};
 use std::io;
 use std::process::ExitCode;
 use std::rt::{Env, Files};
-use words::{WordsStop, read_words};
 
 fn main(rt: HostRuntime) -> ExitCode {
     let status = answer(&rt);

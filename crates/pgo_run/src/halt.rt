@@ -7,7 +7,7 @@ use refusal::{NoMemory, Place, Stop};
 
 /// What ends a command before its output is made.
 #[derive(Clone, Copy, Debug)]
-pub(crate) enum Halt {
+pub enum Halt {
     /// The file word, from 1, for which there is no file.
     NoSuchFile(u8),
     /// The first bad place of the files.
@@ -43,7 +43,7 @@ impl From<Halt> for Status {
 }
 
 /// What judging the k-th file came to: a bad place is one of that file.
-pub(crate) fn in_file<T>(k: u8, judged: Result<T, Stop>) -> Result<T, Halt>
+pub fn in_file<T>(k: u8, judged: Result<T, Stop>) -> Result<T, Halt>
     ensures { result ≡ judged_in k judged }
 {
     match judged {

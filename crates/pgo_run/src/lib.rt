@@ -2,7 +2,8 @@
 //! and the status.
 //!
 //! The layer above calls `run` with its words, a store of files and a sink, prints `status_line`
-//! and ends with `Status::code`.
+//! and ends with `Status::code`. What a command shares with those of another program is handed out
+//! as well: reading a file within its limit, and what ends a command before its output is made.
 #![tactic(auto)]
 
 mod branch_text;
@@ -21,5 +22,7 @@ mod status;
 mod summary;
 mod where_;
 
+pub use halt::{Halt, in_file};
+pub use order::{MAX_BINARY, MAX_PROFILE, read_file};
 pub use program::run;
 pub use status::{Status, status_line};

@@ -9,7 +9,7 @@ use refusal::{Kind, Place};
 use std::alloc::Global;
 
 /// The most bytes of a binary.
-pub(crate) const MAX_BINARY: u64 = 1 << 30;
+pub const MAX_BINARY: u64 = 1 << 30;
 
 /// The most bytes of a block text.
 pub(crate) const MAX_BLOCKS: u64 = 1 << 28;
@@ -18,7 +18,7 @@ pub(crate) const MAX_BLOCKS: u64 = 1 << 28;
 pub(crate) const MAX_REPAIRS: u64 = 1 << 28;
 
 /// The most bytes of a profile text.
-pub(crate) const MAX_PROFILE: u64 = 1 << 28;
+pub const MAX_PROFILE: u64 = 1 << 28;
 
 /// Opens the file of the k-th file word.
 ///
@@ -42,7 +42,7 @@ pub(crate) fn open_file<I: Inputs>(inputs: &mut I, k: u8, name: &[u8]) -> Result
 ///
 /// # Errors
 /// `NoSuchFile`, `Refused` with `FileTooLarge` at the limit, `ReadFault` and `NoMemory`.
-pub(crate) fn read_file<I: Inputs>(
+pub fn read_file<I: Inputs>(
     alloc: Global,
     inputs: &mut I,
     k: u8,

@@ -7,7 +7,8 @@ use std::rt::Env;
 const MAX_WORD_BYTES: usize = 1 << 17;
 
 /// Why the words cannot be had.
-pub(crate) enum WordsStop {
+#[derive(Clone, Copy, Debug, PartialEq, Eq)]
+pub enum WordsStop {
     /// A word has more bytes than the system says that it can have.
     TooLong,
     /// Memory was refused.
@@ -27,7 +28,10 @@ impl<T: Drop> From<AllocFailed<T>> for WordsStop {
 }
 
 /// The words behind the program's name. They need not be text.
-pub(crate) fn read_words(env: &impl Env, alloc: Global) -> Result<Vec<Vec<u8>>, WordsStop> {
+///
+/// # Errors
+/// `TooLong` for a word with more bytes than the system says that it can have, and `NoMemory`.
+pub fn read_words(env: &impl Env, alloc: Global) -> Result<Vec<Vec<u8>>, WordsStop> {
     let mut room = vec![in alloc; 0; MAX_WORD_BYTES]?;
     let mut words = Vec::new(alloc);
     for i in 1..usize::MAX {

@@ -1,0 +1,24 @@
+// What is said on the error output.
+ghost use Rattle.std.specs.Prelude.{◌≡◌, ◌≤◌, length, take};
+ghost use Rattle.pgo_cold.specs.Run.{text_of};
+
+use pgo_run::Status;
+
+/// The line for words that ask for nothing that the program does.
+const USAGE: &[u8] = b"usage: pgo-cold [--base] BIN PROFILE\n";
+
+/// Writes the status's line for the error output to the front of `buf`, with its line feed, and
+/// answers how many bytes it has: none for `Done`. No memory is taken.
+pub(crate) fn status_line(status: &Status, buf: &mut [u8; 256]) -> usize
+    ensures within { result ≤ 256 }
+    ensures length { result ≡ length (text_of status.now) }
+    ensures text { take result buf.new ≡ text_of status.now }
+{
+    match status {
+        Status::Usage => {
+            buf[..USAGE.len()].copy_from_slice(USAGE);
+            USAGE.len()
+        }
+        _ => pgo_run::status_line(status, buf),
+    }
+}

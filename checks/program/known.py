@@ -270,7 +270,7 @@ def words():
         "profile --map=/x --base --base bin perf", "profile --map=/x --base --base --map=/y bin perf",
         "counts perf x y z u", "counts perf x y z u v", "where --edges bin 401000", "profile --edges bin perf",
         "build bin perf perf perf", "build --edges --edges bin perf perf", "build --map= bin perf perf",
-        "build --scaled bin perf perf", "build --edges bin perf", "build bin --edges perf perf",
+        "build --scaled bin perf", "build --scaled --scaled bin perf perf", "build --scale bin perf perf", "build --edges bin perf", "build bin --edges perf perf",
         "build --base --base bin perf perf", "build --map=/x --map=/x bin perf perf", "build --map=/x --map=/y bin perf perf",
         "build --edge bin perf perf", "build --edges= bin perf perf", "build --map bin perf perf", "build bin perf perf --edges",
         "build --edges --base --map=/x --edges bin perf perf", "build --edges --base --map=/x bin perf",
@@ -400,6 +400,14 @@ def without_prices(out):
     return re.sub(rb"( count \d+) in -?\d+ out -?\d+$", rb"\1", out, flags=re.M)
 
 
+def within(most):
+    """The output without prices, and with a range in place of a number of augmentations that lies in it."""
+    def told(out):
+        front, _, count = without_prices(out).rpartition(b"# augmentations ")
+        return front + b"# augmentations " + (b"from 1 to %d\n" % most if 1 <= int(count) <= most else count)
+    return told
+
+
 def repaired(title, text, blocks, wanted, *options):
     """What is told of repairs alone, without their prices."""
     lines = rb"# (?:function|block|edge|end) .*\n"
@@ -452,6 +460,28 @@ def builds():
     judge(
         "weights that do not conserve", (DONE, wanted, b""), ["build", "bin", "perf", "cfg"], told=without_prices,
         bin=ONE, perf=uneven, cfg=BLOCKS,
+    )
+    # The greatest weight has seven binary digits: at most 8 phases of 32 * (4 + 4 + 1) augmentations each.
+    for options, cost in ([], 400), (["--edges"], 1000):
+        edges = (b"0",) * 4 if options else None
+        told = wanted.replace(counted(weights, counts, 400), counted(weights, counts, cost, edges=edges))
+        judge(
+            " ".join(["within a bound on augmentations", *options]), (DONE, told + b"# augmentations from 1 to 2304\n", b""),
+            ["build", "--scaled", *options, "bin", "perf", "cfg"], told=within(2304), bin=ONE, perf=uneven, cfg=BLOCKS,
+        )
+    judge(
+        "a cut within a bound on augmentations", (DONE, CUT + b"# augmentations\n", b""), ["build", "--scaled", "bin", "perf", "cfg"],
+        told=lambda out: b"".join(re.findall(rb"# (?:function|block|edge|end|augmentations)\b.*\n", re.sub(rb"(# augmentations) \d+", rb"\1", out))),
+        bin=ONE, perf=b"0x401000/0x9 0x9/0x401000\n" * 5, cfg=LOOP,
+    )
+    great = BLOCKS.replace(b"0x401000 0x401008", b"0x401000 0x401008 lo=68719476736", 1)
+    judge(
+        "a count to start from that has too many digits", (DONE, b"# augmentations 0\n", b""),
+        ["build", "--scaled", "bin", "perf", "cfg"], told=lambda out: out[out.rindex(b"# "):], bin=ONE, perf=uneven, cfg=great,
+    )
+    judge(
+        "no augmentation without a function", (DONE, b"# augmentations 0\n", b""),
+        ["build", "--scaled", "bin", "perf", "cfg"], told=lambda out: out[out.rindex(b"# "):], bin=ONE, perf=uneven, cfg=b"",
     )
     repaired("the same with edges that no branch took", uneven, BLOCKS, counted(weights, counts, 1000, edges=(b"0",) * 4), "--edges")
     both = (b"1", b"1", b"1", b"2"), (2, 1, 1, 2, 1, 1, 1, 1), 40

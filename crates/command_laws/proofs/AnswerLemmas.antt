@@ -1,8 +1,9 @@
 -- What `check` answers where `build` may write the repair text.
-use Rattle.std.proofs.Common.{◌≡◌, ℕ, ◌+◌, ◌≤◌, ◌^◌, Bool, List, [], ◌∷◌, ◌++◌, length, Option, None, Some, refl, arith, sym, ap, ◌∙◌, subst}
+use Rattle.std.proofs.Common.{◌≡◌, ℕ, ◌+◌, ◌≤◌, ◌^◌, Bool, true, false, List, [], ◌∷◌, ◌++◌, length, Option, None, Some, refl, arith, sym, ap, ◌∙◌, subst}
 use Rattle.std.specs.Prelude.{is_some}
 use Rattle.std.specs.List.{AllByRecursion, AllZip, flat_map}
 use Rattle.std.proofs.lemmas.Bool.{le-ltb}
+use Rattle.std.proofs.lemmas.List.{append_assoc}
 use Rattle.std.proofs.lemmas.List.Elements.{recursion_from_All}
 use Rattle.refusal.specs.declared.place.Place.{Place}
 use Rattle.refusal.specs.Place.{size_item}
@@ -13,23 +14,26 @@ use Rattle.block_model.specs.Function.{Function}
 use Rattle.block_model.specs.Text.{functions_of}
 use Rattle.flow_model.specs.Sound.{IsSound}
 use Rattle.sound_text.proofs.TextLemmas.{good_texts_are_sound}
+use Rattle.profile_model.specs.Text.{profile_text}
 use Rattle.report_model.specs.Report.{Sampled, report_text}
 use Rattle.repair_model.specs.Checking as checking
 use Rattle.repair_model.specs.Judging.{first_bad_of_repairs}
 use Rattle.repair_model.specs.Laws.{IsToldOf, text_of_repairs}
+use Rattle.repair_model.specs.Made.{AreRepairsOf}
 use Rattle.repair_model.specs.Text.{repairs_of}
 use Rattle.repair_model.proofs.BackLemmas.{written_repairs_are_read}
 use Rattle.repair_model.proofs.WholeLemmas.{good_repairs_are_whole}
-use Rattle.output_model.specs.Built.{IsBuilt, count_of_way, edges_of}
+use Rattle.output_model.specs.Built.{count_of_way, edges_of}
 use Rattle.output_model.specs.Output.{loading_of, sampled_by}
 use Rattle.output_model.specs.Program.{program_of, way_at}
-use Rattle.output_model.specs.Sampled.{classes_of}
+use Rattle.output_model.specs.Sampled.{classes_of, profile_of}
+use Rattle.output_model.specs.Scaled.{IsBuiltBy, augmentations_line}
 use Rattle.command_model.specs.Answer.{Answer, answer_of_command, unless_bad, with_file, writes}
 use Rattle.command_model.specs.Command.{Command, build, check}
 use Rattle.command_model.specs.Files.{IsOutput, file_at, first_bad_of_blocks, first_bad_of_repair_text, max_repair_bytes}
 use Rattle.command_laws.specs.Laws.{BuiltIsAccepted}
 use Rattle.command_laws.proofs.BlockLemmas.{IsField, good_of_any, names_are_fields}
-use Rattle.command_laws.proofs.LineLemmas.{profile_passed, report_passed}
+use Rattle.command_laws.proofs.LineLemmas.{AreLines, augmentations_passed, both_lines, profile_passed, report_passed}
 use Rattle.command_laws.proofs.RepairLemmas.{all_readable, none_fails}
 
 -- ---- the text that was written
@@ -43,22 +47,23 @@ pub clean_names : (funs : List Function) → AllByRecursion (λ (fun : Function)
 clean_names [] named = tt
 clean_names (fun ∷ funs) named = (named.0.clean, clean_names funs named.1)
 
-accepted : (edges : Bool) (binary : List ℕ) (base : Bool) (sampled : Sampled) (blocks text : List ℕ)
-    → IsBuilt edges (program_of binary base) sampled (functions_of blocks) text
+-- Repairs behind a profile, and before lines that begin no function, are accepted.
+accepted : (edges : Bool) (binary : List ℕ) (base : Bool) (sampled : Sampled) (blocks text repairs rest : List ℕ)
+    → AreRepairsOf (way_at (program_of binary base)) (count_of_way (program_of binary base) sampled) (edges_of edges (program_of binary base) sampled) (functions_of blocks) repairs
+    → AreLines rest → text ≡ profile_text (profile_of (program_of binary base) sampled) ++ (repairs ++ rest)
     → AllByRecursion (λ (fun : Function). IsSound fun.blocks fun.edges) (functions_of blocks) → length text ≤ 2 ^ 63
     → IsAccepted (functions_of blocks) text
-accepted edges binary base sampled blocks text built sound small =
+accepted edges binary base sampled blocks text repairs rest repaired behind spelled sound small =
     let program = program_of binary base in
     let funs = functions_of blocks in
     let asked = edges_of edges program sampled in
     let named = names_are_fields blocks in
-    let told = all_readable (way_at program) (count_of_way program sampled) asked funs built.repairs named built.repaired in
+    let told = all_readable (way_at program) (count_of_way program sampled) asked funs repairs named repaired in
     let before = profile_passed binary base sampled in
-    let behind = report_passed (classes_of program) sampled in
     let joined : text ≡ flat_map ended before.lines ++ (text_of_repairs (is_some asked) funs told.repairs ++ flat_map ended behind.lines) =
-    built.spelled
-    ∙ ap (λ t. t ++ (built.repairs ++ report_text (classes_of program) sampled)) before.joined
-    ∙ ap (λ t. flat_map ended before.lines ++ (t ++ report_text (classes_of program) sampled)) told.spelled
+    spelled
+    ∙ ap (λ t. t ++ (repairs ++ rest)) before.joined
+    ∙ ap (λ t. flat_map ended before.lines ++ (t ++ rest)) told.spelled
     ∙ ap (λ t. flat_map ended before.lines ++ (text_of_repairs (is_some asked) funs told.repairs ++ t)) behind.joined in
     let read = written_repairs_are_read 2 (is_some asked) funs told.repairs before.lines behind.lines text (clean_names funs named) told.are before.passed behind.passed joined in
     let whole = good_repairs_are_whole 2 funs text small read.0 in
@@ -67,6 +72,24 @@ accepted edges binary base sampled blocks text built sound small =
       passes = ap (checking.failed_line funs) read.1
           ∙ none_fails (is_some asked) (length before.lines + 1) funs told.repairs sound told.repair (subst (AllZip IsToldOf funs) read.1 whole);
     }
+
+-- What is built is accepted, with a number of augmentations behind it or none.
+built_accepted : (scaled edges : Bool) (binary : List ℕ) (base : Bool) (sampled : Sampled) (blocks text : List ℕ)
+    → IsBuiltBy scaled edges (program_of binary base) sampled (functions_of blocks) text
+    → AllByRecursion (λ (fun : Function). IsSound fun.blocks fun.edges) (functions_of blocks) → length text ≤ 2 ^ 63
+    → IsAccepted (functions_of blocks) text
+built_accepted false edges binary base sampled blocks text built sound small =
+    accepted edges binary base sampled blocks text built.repairs (report_text (classes_of (program_of binary base)) sampled) built.repaired
+    (report_passed (classes_of (program_of binary base)) sampled) built.spelled sound small
+built_accepted true edges binary base sampled blocks text is sound small =
+    let built = is.is_built in
+    let profile = profile_text (profile_of (program_of binary base) sampled) in
+    let report = report_text (classes_of (program_of binary base)) sampled in
+    let line = augmentations_line is.augmentations in
+    accepted edges binary base sampled blocks text built.repairs (report ++ line) built.repaired
+    (both_lines report line (report_passed (classes_of (program_of binary base)) sampled) (augmentations_passed is.augmentations))
+    (is.spelled ∙ ap (λ t. t ++ line) built.spelled ∙ append_assoc profile (built.repairs ++ report) line ∙ ap (λ t. profile ++ t) (append_assoc built.repairs report line))
+    sound small
 
 -- ---- the answers
 
@@ -115,6 +138,6 @@ built_is_accepted files options bin perf cfg out contents text answers may small
     let built = subst (λ (found : List (List ℕ)). IsOutput command found text) (sym are) may in
     let good = good_of_any 3 1 blocks three.good in
     let sound = recursion_from_All (λ (fun : Function). IsSound fun.blocks fun.edges) (functions_of blocks) (good_texts_are_sound 1 blocks good.lines) in
-    let is = accepted options.edges one.file options.base (sampled_by (loading_of options.map one.file) one.file (lines_of two.file)) blocks text built sound (omega (arith, small)) in
+    let is = built_accepted options.scaled options.edges one.file options.base (sampled_by (loading_of options.map one.file) one.file (lines_of two.file)) blocks text built sound (omega (arith, small)) in
     subst (λ (found : List (List ℕ)). answer_of_command files (check cfg out) ≡ writes (check cfg out) (file_at 2 found ∷ text ∷ [])) are
     (checks files cfg out blocks text three.there there good.all (good_text (functions_of blocks) text small is.good) is.passes)

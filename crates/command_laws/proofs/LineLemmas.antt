@@ -26,6 +26,7 @@ use Rattle.report_model.specs.declared.class.Reason.TheVariants.{FromOutside, Fr
 use Rattle.report_model.specs.Report.{Classes, Sampled, branches_text, lines_for, number_line, ranges_text, reasons, report_text, units_text, unmapped_for, unmapped_line, word_of}
 use Rattle.output_model.specs.Program.{Program, program_of, way_at, way_of_place}
 use Rattle.output_model.specs.Sampled.{all_addresses, call_by, call_of, count_among, head_of as entry_of, profile_among, profile_of, ways_among}
+use Rattle.output_model.specs.Scaled.{augmentations_line}
 use Rattle.binary_model.specs.Places.{Place, at_way, nameless, no_line, outside}
 use Rattle.spelling_laws.specs.Told.{IsComment}
 use Rattle.command_laws.proofs.NameLemmas.{BeginsOther, IsClean, IsCleanIfAny, IsCleanPlace, entries_clean, places_clean}
@@ -419,3 +420,16 @@ comment (b ∷ bytes) is = begins_comment b bytes is.hash is.clean
 
 pub report_comments : (classes : Classes) (sampled : Sampled) → AreLinesOf IsComment (report_text classes sampled)
 report_comments classes sampled = weaker (report_text classes sampled) comment (report_lines classes sampled)
+
+-- ---- augmentations
+
+augmentations_reported : (augmentations : ℕ) → AreReported (augmentations_line augmentations)
+unfolding augmentations_line
+augmentations_reported augmentations = one_line (codes "# augmentations " ++ decimal_text augmentations) (record { hash = refl; other = refl; clean = number_clean augmentations })
+
+pub augmentations_passed : (augmentations : ℕ) → AreLines (augmentations_line augmentations)
+augmentations_passed augmentations =
+    weaker (augmentations_line augmentations) (λ line is. record { other = is.other; clean = is.clean }) (augmentations_reported augmentations)
+
+pub augmentations_comments : (augmentations : ℕ) → AreLinesOf IsComment (augmentations_line augmentations)
+augmentations_comments augmentations = weaker (augmentations_line augmentations) comment (augmentations_reported augmentations)

@@ -6,10 +6,10 @@ use Rattle.command_model.specs.Command.{cold, command_of}
 use Rattle.command_model.specs.Options.{Options, map_name, options_of}
 
 abbrev plain : Options
-plain = record { map = None; base = false; edges = false }
+plain = record { map = None; base = false; edges = false; scaled = false }
 
 abbrev based : Options
-based = record { map = None; base = true; edges = false }
+based = record { map = None; base = true; edges = false; scaled = false }
 
 -- An option stands in front, once, and no words of `pgo` ask for it.
 words : (cold_of (codes "bin" ∷ codes "prof" ∷ []) ≡ Some (cold plain (codes "bin") (codes "prof")))

@@ -8,7 +8,7 @@ use Rattle.command_model.specs.Options.{operands_of, options_in, options_of}
 abbrev pub cold_by : List (List ℕ) → List (List ℕ) → Option Command
 cold_by words (bin ∷ prof ∷ []) =
     option_map (λ options. cold options bin prof)
-    (options_of (record { map = false; base = true; edges = false }) words)
+    (options_of (record { map = false; base = true; edges = false; scaled = false }) words)
 cold_by words _ = None
 
 -- What the words ask `pgo-cold` for, if they do.

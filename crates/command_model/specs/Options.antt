@@ -26,12 +26,15 @@ pub record Options : Type 0 where
   pub base : Bool
   -- `--edges`: edges are weighed, and their weights told.
   pub edges : Bool
+  -- `--scaled`: functions are repaired within a bound on augmentations, and these are counted.
+  pub scaled : Bool
 
 -- Which options a command has.
 pub record Has : Type 0 where
   pub map : Bool
   pub base : Bool
   pub edges : Bool
+  pub scaled : Bool
 
 -- The name in an option `--map=NAME`, which is not empty.
 unfoldable pub map_name : List ℕ → Option (List ℕ)
@@ -46,15 +49,22 @@ is_base word = bytes_eq word (codes "--base")
 abbrev pub is_edges : List ℕ → Bool
 is_edges word = bytes_eq word (codes "--edges")
 
+abbrev pub is_scaled : List ℕ → Bool
+is_scaled word = bytes_eq word (codes "--scaled")
+
 -- The word is an option that the command has.
 abbrev pub is_of : Has → List ℕ → Bool
-is_of has word = (has.map && is_map word) || ((has.base && is_base word) || (has.edges && is_edges word))
+is_of has word =
+    (has.map && is_map word)
+    || ((has.base && is_base word) || ((has.edges && is_edges word) || (has.scaled && is_scaled word)))
 
 -- Each word is an option that the command has, and none stands twice.
 abbrev pub are_of : Has → List (List ℕ) → Bool
 are_of has words =
     list_all (is_of has) words
-    && (nat_lt (count_by is_map words) 2 && (nat_lt (count_by is_base words) 2 && nat_lt (count_by is_edges words) 2))
+    && (nat_lt (count_by is_map words) 2
+    && (nat_lt (count_by is_base words) 2
+    && (nat_lt (count_by is_edges words) 2 && nat_lt (count_by is_scaled words) 2)))
 
 -- The name in the first of these words that has one.
 abbrev pub first_map : List (List ℕ) → Option (List ℕ)
@@ -68,5 +78,6 @@ options_of has words =
       map = first_map words;
       base = nat_lt 0 (count_by is_base words);
       edges = nat_lt 0 (count_by is_edges words);
+      scaled = nat_lt 0 (count_by is_scaled words);
     })
     else None

@@ -11,6 +11,7 @@ const COLD_HAS: Has = Has {
     map: false,
     base: true,
     edges: false,
+    scaled: false,
 };
 
 /// What `pgo-cold` is asked for: the profile in this file, with a line for each place of this

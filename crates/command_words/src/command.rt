@@ -28,18 +28,21 @@ const BASE_HAS: Has = Has {
     map: false,
     base: true,
     edges: false,
+    scaled: false,
 };
 
 const PROFILE_HAS: Has = Has {
     map: true,
     base: true,
     edges: false,
+    scaled: false,
 };
 
 const BUILD_HAS: Has = Has {
     map: true,
     base: true,
     edges: true,
+    scaled: true,
 };
 
 /// A file of a merge, with its weight: how often it counts.
@@ -208,7 +211,7 @@ fn parse_profile<'a>(options: &'a [Vec<u8>], operands: &'a [Vec<u8>]) -> Option<
     }
 }
 
-/// `build [--map=NAME] [--base] [--edges] BIN PERF CFG`
+/// `build [--map=NAME] [--base] [--edges] [--scaled] BIN PERF CFG`
 fn parse_build<'a>(options: &'a [Vec<u8>], operands: &'a [Vec<u8>]) -> Option<Command<'a>>
     ensures { option_map meaning_of result
         ≡ build_of (texts_of options.now) (texts_of operands.now) }

@@ -33,7 +33,7 @@ use Rattle.flow_balance.specs.Solved.{IsCutOf}
 use Rattle.flow_balance.specs.State.{AreLater, IsDone, IsStart}
 use Rattle.flow_balance.proofs.AnswerLemmas.{cut_found}
 use Rattle.flow_balance.proofs.StateLemmas.{started}
-use Rattle.flow_scaling.specs.Bound.{StartWithin}
+use Rattle.scaling_model.specs.Bound.{StartWithin}
 use Rattle.flow_scaling.specs.Phase.{AreLow, AreNear, CanBegin, HasCome, IsClosed, IsEvened}
 use Rattle.flow_scaling.specs.Refining.{AreSetRight}
 use Rattle.flow_scaling.proofs.HalfLemmas.{half_at, halves_each, halves_of_coarse, inflow_doubled, outflow_doubled}

@@ -6,7 +6,7 @@ use Rattle.std.proofs.lemmas.Bool.{cases_eq}
 use Rattle.flow_model.specs.declared.arc.Arc.{Arc}
 use Rattle.flow_model.specs.Network.{Network, arcs_of}
 use Rattle.residual_model.specs.Residual.{starting}
-use Rattle.flow_scaling.specs.Bound.{StartWithin}
+use Rattle.scaling_model.specs.Bound.{StartWithin}
 
 pub decided : (net : Network) (arcs : List Arc) (digits : ℕ) (b : Bool) → arcs ≡ arcs_of net
     → (IsTrue b ↔ All (λ arc. starting arc < 2 ^ digits) arcs) → IsTrue b ↔ StartWithin digits net

@@ -8,7 +8,7 @@ use Rattle.flow_model.proofs.NetLemmas.{length-block_arcs}
 use Rattle.scaling_model.specs.Coarse.{coarse, coarse_arc}
 use Rattle.scaling_model.proofs.HalvedLemmas.{coarse_nets_are_nets}
 use Rattle.path_search.specs.Ground.{sides_of}
-use Rattle.flow_scaling.specs.Bound.{size_of}
+use Rattle.scaling_model.specs.Bound.{size_of}
 
 pub blocks_coarse : (shift : ℕ) (net : Network) → length (coarse shift net).blocks ≡ length net.blocks
 blocks_coarse shift net = length-map net.blocks (coarse_arc shift)

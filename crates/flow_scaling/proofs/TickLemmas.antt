@@ -3,7 +3,7 @@ use Rattle.std.proofs.Common.{◌≡◌, ℕ, ◌+◌, ◌*◌, ◌^◌, ◌<◌
 use Rattle.flow_model.specs.Network.{Network}
 use Rattle.flow_model.specs.Sound.{IsNet}
 use Rattle.flow_network.proofs.NetLemmas.{blocks_few, edges_few}
-use Rattle.flow_scaling.specs.Bound.{RisesWithin, StartWithin, AreFew, size_of}
+use Rattle.scaling_model.specs.Bound.{RisesWithin, StartWithin, AreFew, size_of}
 
 pub rises_none : (most ticks : ℕ) → RisesWithin most ticks ticks
 rises_none most ticks = record { later = omega arith; few = omega arith }

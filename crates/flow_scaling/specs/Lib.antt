@@ -1,4 +1,3 @@
-pub mod Bound
 pub mod Phase
 pub mod Refining
 pub use Rattle.flow_balance.specs.Solved

@@ -3,7 +3,7 @@ ghost use Rattle.std.specs.Prelude.{◌↔◌, ℕ, ◌^◌, ◌<◌, ◌≤◌,
 ghost use Rattle.std.specs.List.{All};
 ghost use Rattle.flow_model.specs.Network.{arcs_of};
 ghost use Rattle.residual_model.specs.Residual.{starting};
-ghost use Rattle.flow_scaling.specs.Bound.{StartWithin, most_digits};
+ghost use Rattle.scaling_model.specs.Bound.{StartWithin, most_digits};
 
 use flow_balance::starting_count;
 use flow_network::{Arc, Net};

@@ -21,6 +21,5 @@ mod refining;
 mod scaled;
 
 pub use digits::fits;
-pub use flow_network::Solved;
 pub use ledger::{Ledger, Steps, Tally};
 pub use scaled::solve_scaled;

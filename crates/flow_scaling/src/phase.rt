@@ -3,7 +3,7 @@ ghost use Rattle.std.specs.Prelude.{◌≡◌, ◌+◌, ◌^◌, ◌<◌, ◌≤
 ghost use Rattle.flow_model.specs.Network.{arcs_of};
 ghost use Rattle.flow_balance.specs.Excess.{surplus};
 ghost use Rattle.flow_balance.specs.State.{IsClosedFrom, IsState};
-ghost use Rattle.flow_scaling.specs.Bound.{RisesWithin};
+ghost use Rattle.scaling_model.specs.Bound.{RisesWithin};
 ghost use Rattle.flow_scaling.specs.Phase.{IsEvened};
 
 use crate::ledger::{Ledger, tell};

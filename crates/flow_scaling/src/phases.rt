@@ -5,7 +5,7 @@ ghost use Rattle.flow_model.specs.Sound.{IsNet};
 ghost use Rattle.path_search.specs.Ground.{sides_of};
 ghost use Rattle.flow_balance.specs.Solved.{Solves};
 ghost use Rattle.flow_balance.specs.State.{IsDone};
-ghost use Rattle.flow_scaling.specs.Bound.{RisesWithin, StartWithin, most_digits, size_of};
+ghost use Rattle.scaling_model.specs.Bound.{RisesWithin, StartWithin, most_digits, size_of};
 ghost use Rattle.flow_scaling.specs.Phase.{HasCome, IsClosed};
 
 use crate::ledger::Ledger;

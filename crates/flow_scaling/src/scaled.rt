@@ -1,7 +1,7 @@
 // The whole solver.
 ghost use Rattle.std.specs.Prelude.{◌+◌, ◌*◌, ◌^◌, ◌<◌, ◌≤◌, IfOk, IfSome};
 ghost use Rattle.flow_balance.specs.Solved.{Solves};
-ghost use Rattle.flow_scaling.specs.Bound.{AreFew, RisesWithin, StartWithin, most_digits, size_of};
+ghost use Rattle.scaling_model.specs.Bound.{AreFew, RisesWithin, StartWithin, most_digits, size_of};
 
 use crate::digits::digits_of;
 use crate::ledger::{Ledger, Steps, tell};

@@ -1,18 +1,15 @@
 -- What is written of a binary, a branch text and a block text: the profile, a repair of each listed function, and the
 -- report.
 use Rattle.std.specs.Prelude.{◌≡◌, ℕ, nat_eq, nat_le, nat_lt, Bool, ◌&&◌, List, ◌++◌, count_by, Option, None, Some, if◌then◌else◌}
-use Rattle.text_model.specs.Lines.{lines_of}
 use Rattle.block_model.specs.declared.parts.Block.{Block}
 use Rattle.block_model.specs.Function.{Function}
-use Rattle.block_model.specs.Text.{functions_of}
 use Rattle.profile_model.specs.Text.{profile_text}
 use Rattle.profile_model.specs.Ways.{Way}
 use Rattle.report_model.specs.declared.class.RangeClass.TheVariants.{Ran}
 use Rattle.report_model.specs.Ranges.{is_class}
 use Rattle.report_model.specs.Report.{Sampled, report_text}
 use Rattle.repair_model.specs.Made.{AreRepairsOf, EdgeTold}
-use Rattle.output_model.specs.Output.{loading_of, sampled_by}
-use Rattle.output_model.specs.Program.{Program, program_of, way_at}
+use Rattle.output_model.specs.Program.{Program, way_at}
 use Rattle.output_model.specs.Sampled.{all_addresses, class_of_range, classes_of, count_among, profile_of}
 
 -- The count of a way in the profile: the largest hits times factor of all addresses that have it.
@@ -46,9 +43,3 @@ pub record IsBuilt (edges : Bool) (program : Program) (sampled : Sampled) (funs 
       funs repairs
   pub spelled : text
       ≡ profile_text (profile_of program sampled) ++ (repairs ++ report_text (classes_of program) sampled)
-
--- What may be written of a good binary, a good branch text and a good block text.
-abbrev pub IsBuiltOf : Option (List ℕ) → Bool → Bool → List ℕ → List ℕ → List ℕ → List ℕ → Type 0
-IsBuiltOf name base edges binary text blocks out =
-    IsBuilt edges (program_of binary base) (sampled_by (loading_of name binary) binary (lines_of text))
-    (functions_of blocks) out

@@ -5,4 +5,5 @@ pub mod Lift
 pub mod Output
 pub mod Program
 pub mod Sampled
+pub mod Scaled
 pub mod Summary

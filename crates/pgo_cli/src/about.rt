@@ -15,7 +15,7 @@ usage:
   pgo profile [--map=NAME] [--base] BIN PERF
                               the sample profile that a branch text gives of a
                               binary, then a report on it
-  pgo build [--map=NAME] [--base] [--edges] BIN PERF CFG
+  pgo build [--map=NAME] [--base] [--edges] [--scaled] BIN PERF CFG
                               the same, with the block counts of each function
                               of a block text repaired between them
   pgo check CFG OUT           whether repairs, by `pgo build` or by anyone else,
@@ -47,6 +47,8 @@ most 4096. FILE is a profile text, as `pgo profile` and `pgo build` print it, W
             the binary has this name: position-independent programs and shared
             objects need it, and `perf script --show-mmap-events`
 --edges     edges are weighed by the branches along them, and their weights told
+--scaled    functions are repaired within a bound on augmentations: the same
+            cost, and a last line with their number
 
 if you see:
   only lines with #      the profile is empty: `pgo-profile` tells why

@@ -65,7 +65,7 @@ example:
     Topic {
         word: b"build",
         text: b"\
-pgo build [--map=NAME] [--base] [--edges] BIN PERF CFG
+pgo build [--map=NAME] [--base] [--edges] [--scaled] BIN PERF CFG
 
 Reads what `pgo profile` reads, and a block text: the functions of the program
 as blocks and edges, which `blocks BIN` prints. Writes the profile; then for
@@ -77,6 +77,8 @@ then the report. `draw` makes a picture of a function.
 --map=NAME  as for `pgo profile`
 --edges     edges are weighed, too, by the branches along them and the ranges
             through them, and their weights are told
+--scaled    functions are repaired within a bound on augmentations, and a last
+            line tells how many there were; the cost of repairs is the same
 
 example:
   pgo build --base --edges demo/words demo/words.txt demo/words.blocks

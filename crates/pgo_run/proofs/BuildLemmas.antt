@@ -1,8 +1,9 @@
 -- A block text that was read, and what is written of it with the others.
-use Rattle.std.proofs.Common.{◌≡◌, ◌≤◌, ℕ, Bool, true, false, nat_lt, List, [], ◌∷◌, length, map, Option, None, Some, Result, Bor, refl, ap, subst, sym, ◌∙◌, arith}
+use Rattle.std.proofs.Common.{◌≡◌, ◌≤◌, ◌^◌, ℕ, Bool, true, false, nat_lt, List, [], ◌∷◌, length, map, Option, None, Some, Result, Bor, refl, ap, subst, sym, ◌∙◌, arith}
 use Rattle.std.specs.Prelude.{IfSome, if◌then◌else◌}
 use Rattle.std.specs.List.{All}
 use Rattle.std.specs.Option.{option_map}
+use Rattle.std.proofs.lemmas.List.{length-append, length-map}
 use Rattle.std.proofs.lemmas.List.Elements.{All-cons, All-head, All-nil, All-tail}
 use Rattle.refusal.specs.declared.kind.Kind.TheVariants.{FileTooLarge}
 use Rattle.refusal.specs.declared.place.Place.{Place}
@@ -16,14 +17,16 @@ use Rattle.binary_places.specs.declared.binary.Binary.{Binary}
 use Rattle.binary_places.specs.Binary.{IsBinary}
 use Rattle.block_model.specs.Judging.{first_bad_of_text}
 use Rattle.block_model.specs.Function.{Function}
-use Rattle.block_model.specs.Text.{functions_of}
+use Rattle.block_model.specs.Line.{Line, line_of, passed, begins, tells_block, tells_edge, ends}
+use Rattle.block_model.specs.Text.{closed_by_line, functions_from, functions_of, open_behind_line}
+use Rattle.repair_model.proofs.WholeLemmas.{lines_fewer}
 use Rattle.cfg_text.specs.declared.fun.Fun.{Fun}
 use Rattle.cfg_text.specs.Fun.{function_of}
 use Rattle.flow_model.specs.Sound.{IsSound}
 use Rattle.sound_text.proofs.TextLemmas.{good_texts_are_sound}
-use Rattle.output_model.specs.Built.{IsBuilt, IsBuiltOf}
 use Rattle.output_model.specs.Output.{sampled_by}
 use Rattle.output_model.specs.Program.{program_of}
+use Rattle.output_model.specs.Scaled.{IsBuiltBy, IsBuiltOf}
 use Rattle.io_edge.specs.Inputs.{Store}
 use Rattle.command_model.specs.Files.{Asked, first_bad_of_blocks, max_block_bytes, named}
 use Rattle.pgo_run.specs.Halt.{IfAnswers}
@@ -55,18 +58,46 @@ read_soundly file text funs good are =
     all_unmapped (λ fun. IsSound fun.blocks fun.edges) function_of funs
     (subst (λ fs. All (λ (fun : Function). IsSound fun.blocks fun.edges) fs) (sym are) (good_texts_are_sound file text good))
 
+-- A block text has no more functions than bytes.
+closes_one : (opened : Option Function) (line : Option Line) → length (closed_by_line opened line) ≤ 1
+closes_one opened None = omega arith
+closes_one None (Some line) = omega arith
+closes_one (Some fun) (Some passed) = omega arith
+closes_one (Some fun) (Some (begins name)) = omega arith
+closes_one (Some fun) (Some (tells_block number block)) = omega arith
+closes_one (Some fun) (Some (tells_edge from to bound)) = omega arith
+closes_one (Some fun) (Some ends) = omega arith
+
+functions_fewer : (opened : Option Function) (lines : List (List ℕ)) → length (functions_from opened lines) ≤ length lines
+unfolding functions_from
+functions_fewer opened [] = omega arith
+functions_fewer opened (line ∷ lines) =
+    let rest = functions_fewer (open_behind_line opened (line_of line)) lines in
+    let one = closes_one opened (line_of line) in
+    let both = length-append (closed_by_line opened (line_of line)) (functions_from (open_behind_line opened (line_of line)) lines) in
+    omega (arith, rest, one, both)
+
+pub read_few : (text : List ℕ) (funs : List Fun) → length text ≤ max_block_bytes → map function_of funs ≡ functions_of text → length funs ≤ 2 ^ 29
+read_few text funs within are =
+    let all = functions_fewer None (lines_of text) in
+    let lines = lines_fewer text in
+    let same = ap (λ (fs : List Function). length fs) are in
+    let mapped = length-map funs function_of in
+    let most : length text ≤ 268435456 = within in
+    omega (arith, all, lines, same, mapped, most)
+
 -- The output of a binary, of what was counted of a branch text, and of a block text.
-pub built : (bytes : List ℕ) (base : Bool) (binary : Binary) (map_to : Option (Bor (List ℕ))) (loads : List LoadSegment) (counts : Tally) (text blocks out : List ℕ) (edges : Bool) (funs : List Fun)
+pub built : (bytes : List ℕ) (base : Bool) (binary : Binary) (map_to : Option (Bor (List ℕ))) (loads : List LoadSegment) (counts : Tally) (text blocks out : List ℕ) (edges scaled : Bool) (funs : List Fun)
     → IsBinary bytes base binary → loads ≡ binary.loads.items
     → ((file : List ℕ) (base : Bool) (loading : Option LoadMap) (lines : List (List ℕ)) → IsBinary file base binary → counts.with_ranges ≡ true → Tells loading lines counts
-    → IsBuilt edges (program_of file base) (sampled_by loading file lines) (map function_of funs) out)
+    → IsBuiltBy scaled edges (program_of file base) (sampled_by loading file lines) (map function_of funs) out)
     → counts.with_ranges ≡ true → Tells (option_map (λ name. record { name = name.now; segments = loads }) map_to) (lines_of text) counts
     → map function_of funs ≡ functions_of blocks
-    → IsBuiltOf (option_map (λ name. name.now) map_to) base edges bytes text blocks out
-built bytes base binary map_to loads counts text blocks out edges funs is same made ranged tells are =
+    → IsBuiltOf (option_map (λ name. name.now) map_to) base edges scaled bytes text blocks out
+built bytes base binary map_to loads counts text blocks out edges scaled funs is same made ranged tells are =
     let with_funs = made bytes base (option_map (λ name. record { name = name.now; segments = loads }) map_to) (lines_of text) is ranged tells in
-    subst (λ l. IsBuilt edges (program_of bytes base) (sampled_by l bytes (lines_of text)) (functions_of blocks) out) (same-loading map_to loads bytes (same ∙ is.loads_are))
-    (subst (λ fs. IsBuilt edges (program_of bytes base) (sampled_by (option_map (λ name. record { name = name.now; segments = loads }) map_to) bytes (lines_of text)) fs out) are with_funs)
+    subst (λ l. IsBuiltBy scaled edges (program_of bytes base) (sampled_by l bytes (lines_of text)) (functions_of blocks) out) (same-loading map_to loads bytes (same ∙ is.loads_are))
+    (subst (λ fs. IsBuiltBy scaled edges (program_of bytes base) (sampled_by (option_map (λ name. record { name = name.now; segments = loads }) map_to) bytes (lines_of text)) fs out) are with_funs)
 
 -- ---- file 3, behind the two
 
@@ -79,4 +110,4 @@ there-behind store was name bytes same is = subst (λ s. IfSome s (λ files. fil
 
 pub ends-behind : (store was : Option Store) (name : List ℕ) (h : Halt) → was ≡ store
     → IfSome was (λ files. IfAnswers h (EndsAt 3 (files name) (first_bad_of_blocks 3))) → IfSome store (λ files. IfAnswers h (EndsAt 3 (files name) (first_bad_of_blocks 3)))
-ends-behind store was name h same ends = subst (λ s. IfSome s (λ files. IfAnswers h (EndsAt 3 (files name) (first_bad_of_blocks 3)))) same ends
+ends-behind store was name h same there = subst (λ s. IfSome s (λ files. IfAnswers h (EndsAt 3 (files name) (first_bad_of_blocks 3)))) same there

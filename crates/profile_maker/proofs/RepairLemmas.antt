@@ -13,6 +13,7 @@ use Rattle.repair_model.specs.Made.{AreRepairsOf, EdgeTold, IsRepairOf}
 use Rattle.report_model.specs.Report.{Sampled}
 use Rattle.inline_tree.proofs.StepLemmas.{AllZip-mono}
 use Rattle.output_model.specs.Built.{branches_from}
+use Rattle.output_model.specs.Scaled.{AreAllAugmentations, AreAugmentationsOf}
 use Rattle.output_model.specs.Summary.{IsRepairCost}
 
 -- ---- weights of blocks
@@ -68,6 +69,22 @@ module _ {K L : Type 0} (key : ℕ → Option K) (count : K → ℕ) (way : ℕ 
     weighed = AllZip-mono (IsWeightOf key count) (IsWeightOf way count_of) (λ block. weight_alike block.lo block.hi) fun.blocks is.weights is.weighed;
     least = is.least;
   }
+
+  -- and so are the augmentations that they took
+  augmentations_alike : (edges other : Option EdgeTold) → edges ≡ other → (fun : Function) (n : ℕ)
+      → AreAugmentationsOf key count edges fun n → AreAugmentationsOf way count_of other fun n
+  augmentations_alike edges other same fun n is =
+      subst (λ (e : Option EdgeTold). AreAugmentationsOf way count_of e fun n) same (record {
+        weights = is.weights;
+        weighed = AllZip-mono (IsWeightOf key count) (IsWeightOf way count_of) (λ block. weight_alike block.lo block.hi) fun.blocks is.weights is.weighed;
+        within = is.within;
+      })
+
+  pub all_augmentations_alike : (edges other : Option EdgeTold) → edges ≡ other → (funs : List Function) (n : ℕ)
+      → AreAllAugmentations key count edges funs n → AreAllAugmentations way count_of other funs n
+  all_augmentations_alike edges other same [] n are = are
+  all_augmentations_alike edges other same (fun ∷ funs) n are =
+      (are.0, are.1, are.2, augmentations_alike edges other same fun are.0 are.3, all_augmentations_alike edges other same funs are.1 are.4)
 
 -- ---- weights of edges
 

@@ -1,2 +1,3 @@
+pub mod AugmentationLemmas
 pub mod CostLemmas
 pub mod RepairLemmas

@@ -1,2 +1,3 @@
 pub mod Repaired
+pub mod Solver
 pub mod Told

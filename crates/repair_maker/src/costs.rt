@@ -10,6 +10,7 @@ ghost use Rattle.key_types.specs.Segments.{AreSegments, key_told};
 ghost use Rattle.output_model.specs.Summary.{IsRepairCost, costs_in, cuts_in};
 
 use crate::repaired::repair;
+use crate::solver::Solver;
 use cfg_text::Fun;
 use flow_network::{Solved, cost};
 use key_types::Seg;
@@ -64,7 +65,8 @@ fn cost_of(
     ensures { IfOk result (λ cost. IsRepairCost (key_told segments.now) (count_in counts.now)
         (function_of fun.now) cost) }
 {
-    let made = repair(alloc, fun, segments, counts, None)?;
+    let mut solver = Solver::new(false);
+    let made = repair(alloc, fun, segments, counts, None, &mut solver)?;
     match &made.solved {
         Solved::Flow(flow, _) => Ok(Some(cost(&made.net, flow))),
         Solved::Cut(_) => Ok(None),

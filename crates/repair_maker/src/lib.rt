@@ -8,6 +8,7 @@
 mod costs;
 mod maker;
 mod repaired;
+mod solver;
 mod weighed;
 
 pub use costs::{Costs, costs_of};

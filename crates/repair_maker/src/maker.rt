@@ -1,5 +1,5 @@
 // Repairs, one function behind the other.
-ghost use Rattle.std.specs.Prelude.{◌≡◌, ◌++◌, ◌<◌, ◌^◌, List, ℕ, OnErr, OnOk, length, map};
+ghost use Rattle.std.specs.Prelude.{◌≡◌, ◌++◌, ◌+◌, ◌<◌, ◌≤◌, ◌^◌, List, ℕ, IfOk, OnErr, OnOk, length, map};
 ghost use Rattle.std.specs.List.{All};
 ghost use Rattle.block_model.specs.Limits.{bound_bits};
 ghost use Rattle.flow_model.specs.Sound.{IsSound};
@@ -7,9 +7,11 @@ ghost use Rattle.block_weights.specs.Counts.{count_in};
 ghost use Rattle.cfg_text.specs.Fun.{function_of};
 ghost use Rattle.key_types.specs.Segments.{AreSegments, key_told};
 ghost use Rattle.repair_model.specs.Made.{AreRepairsOf, IsRepairOf};
+ghost use Rattle.output_model.specs.Scaled.{AreAllAugmentations, AreAugmentationsOf};
 ghost use Rattle.repair_maker.specs.Told.{edges_told};
 
 use crate::repaired::repair;
+use crate::solver::Solver;
 use block_weights::EdgeSamples;
 use cfg_text::Fun;
 use key_types::Seg;
@@ -21,7 +23,9 @@ use std::alloc::Global;
 ///
 /// `segments` tell the key of each address, and `counts` has the count of each key at its number,
 /// from which blocks have their weights. `edges` are what was sampled of edges; without it their
-/// weights are unknown and are not told.
+/// weights are unknown and are not told. With `scaled` each network whose counts to start from are
+/// small enough is solved within a bound on augmentations, and the answer is how many these were
+/// together; without it the answer is 0. There are at most 2^29 functions.
 ///
 /// # Errors
 /// `NoMemory`, and the repairs of the functions in front were appended.
@@ -31,20 +35,26 @@ pub fn write(
     segments: &[Seg],
     counts: &[u64],
     edges: Option<&EdgeSamples>,
+    scaled: bool,
     out: &mut Vec<u8>,
-) -> Result<(), NoMemory>
+) -> Result<u64, NoMemory>
     requires segments { AreSegments segments.now }
     requires small { All (λ count. count < 2 ^ bound_bits) counts.now }
     requires sound { All (λ fun. IsSound fun.blocks fun.edges) funs.now }
+    requires few { length funs.now ≤ 2 ^ 29 }
     ensures kept { (text : List ℕ) × (out.new.items ≡ out.old.items ++ text) }
     ensures written { OnOk result ((text : List ℕ) × (out.new.items ≡ out.old.items ++ text)
         × AreRepairsOf (key_told segments.now) (count_in counts.now) (edges_told edges.entry)
         (map function_of funs.now) text) }
+    ensures counted { IfOk result (λ augmentations. AreAllAugmentations
+        (key_told segments.now) (count_in counts.now) (edges_told edges.entry)
+        (map function_of funs.now) augmentations) }
 {
+    let mut solver = Solver::new(scaled);
     for fun in funs {
-        write_one(alloc, fun, segments, counts, edges, out)?;
+        write_one(alloc, fun, segments, counts, edges, &mut solver, out)?;
     }
-    Ok(())
+    Ok(solver.augmentations())
 }
 
 /// Appends the repair of a function.
@@ -54,17 +64,23 @@ fn write_one(
     segments: &[Seg],
     counts: &[u64],
     edges: Option<&EdgeSamples>,
+    solver: &mut Solver,
     out: &mut Vec<u8>,
 ) -> Result<(), NoMemory>
     requires segments { AreSegments segments.now }
     requires small { All (λ count. count < 2 ^ bound_bits) counts.now }
     requires sound { IsSound fun.now.blocks fun.now.edges }
+    requires room { solver.old ≤ 2 ^ 63 }
     ensures unchanged { OnErr result (out.new.items ≡ out.old.items) }
     ensures written { OnOk result ((text : List ℕ) × (out.new.items ≡ out.old.items ++ text)
         × IsRepairOf (key_told segments.now) (count_in counts.now) (edges_told edges.entry)
         (function_of fun.now) text) }
+    ensures counted { OnOk result ((count : ℕ) × (solver.new ≡ solver.old + count)
+        × AreAugmentationsOf (key_told segments.now) (count_in counts.now)
+        (edges_told edges.entry) (function_of fun.now) count) }
+    ensures few { OnOk result (solver.new ≤ solver.old + 2 ^ 29) }
 {
-    let made = repair(alloc, fun, segments, counts, edges)?;
+    let made = repair(alloc, fun, segments, counts, edges, solver)?;
     match edges {
         Some(_) => repair_text::write(
             fun,

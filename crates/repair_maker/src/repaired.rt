@@ -1,19 +1,21 @@
 // The repair of a function, before anything is told of it.
-ghost use Rattle.std.specs.Prelude.{◌<◌, ◌^◌, IfOk};
+ghost use Rattle.std.specs.Prelude.{◌<◌, ◌≤◌, ◌+◌, ◌*◌, ◌^◌, IfOk};
 ghost use Rattle.std.specs.List.{All};
 ghost use Rattle.block_model.specs.Limits.{bound_bits};
 ghost use Rattle.flow_model.specs.Sound.{IsSound};
 ghost use Rattle.block_weights.specs.Counts.{count_in};
 ghost use Rattle.cfg_text.specs.Fun.{function_of};
 ghost use Rattle.key_types.specs.Segments.{AreSegments, key_told};
+ghost use Rattle.scaling_model.specs.Bound.{phase_bound};
 ghost use Rattle.repair_maker.specs.Repaired.{IsRepaired};
+ghost use Rattle.repair_maker.specs.Solver.{TookFew};
 ghost use Rattle.repair_maker.specs.Told.{edges_told};
 
+use crate::solver::Solver;
 use crate::weighed::weighed;
 use block_weights::{EdgeSamples, weights};
 use cfg_text::{Fun, Weight};
 use flow_network::{Net, Solved, net_of};
-use flow_solver::solve;
 use key_types::Seg;
 use refusal::NoMemory;
 use std::alloc::Global;
@@ -35,18 +37,23 @@ pub(crate) fn repair(
     segments: &[Seg],
     counts: &[u64],
     edges: Option<&EdgeSamples>,
+    solver: &mut Solver,
 ) -> Result<Repaired, NoMemory>
     requires segments { AreSegments segments.now }
     requires small { All (λ count. count < 2 ^ bound_bits) counts.now }
     requires sound { IsSound fun.now.blocks fun.now.edges }
-    ensures { IfOk result (λ made. IsRepaired
+    requires room { solver.old ≤ 2 ^ 63 }
+    ensures repaired { IfOk result (λ made. IsRepaired
         (key_told segments.now) (count_in counts.now) (edges_told edges.entry)
         (function_of fun.now) made.weights.items made.edge_weights.items made.net made.solved) }
+    ensures counted { IfOk result (λ made. TookFew made.net solver.old solver.new) }
+    ensures few { IfOk result (λ made.
+        solver.new ≤ solver.old + 37 * phase_bound made.net) }
 {
     let weights = weights(alloc, fun, segments, counts)?;
     let edge_weights = weighed(alloc, fun, edges, &weights)?;
     let net = net_of(alloc, fun, &weights, &edge_weights)?;
-    let solved = solve(alloc, &net)?;
+    let solved = solver.solve(alloc, &net)?;
     Ok(Repaired {
         weights,
         edge_weights,

@@ -1,3 +1,4 @@
+pub mod Bound
 pub mod Coarse
 pub mod Laws
 pub mod Refining

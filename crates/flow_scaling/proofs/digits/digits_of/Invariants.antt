@@ -1,5 +1,5 @@
 use Rattle.std.proofs.Common.{ℕ, ◌≤◌}
-use Rattle.flow_scaling.specs.Bound.{StartWithin}
+use Rattle.scaling_model.specs.Bound.{StartWithin}
 use Rattle.flow_scaling.proofs.digits.digits_of.Given as goal
 
 abbrev pub invariant-loop-digits : goal.invariant-loop-digits

@@ -1,4 +1,4 @@
-use Rattle.flow_scaling.specs.Bound.{most_digits}
+use Rattle.scaling_model.specs.Bound.{most_digits}
 use Rattle.flow_scaling.proofs.DigitLemmas.{decided}
 use Rattle.flow_scaling.proofs.digits.fits.Goals as goal
 

@@ -1,6 +1,6 @@
 use Rattle.std.proofs.Common.{◌≡◌, ◌+◌, ◌*◌, length}
 use Rattle.path_search.specs.Ground.{sides_of}
-use Rattle.flow_scaling.specs.Bound.{RisesWithin, size_of}
+use Rattle.scaling_model.specs.Bound.{RisesWithin, size_of}
 use Rattle.flow_scaling.specs.Phase.{HasCome}
 use Rattle.flow_scaling.proofs.phases.run_all.Given as goal
 

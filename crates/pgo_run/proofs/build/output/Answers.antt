@@ -1,5 +1,6 @@
-use Rattle.std.proofs.Common.{[], ◌∷◌, ◌≤◌, ℕ, Err, Ok, ap, length, map, refl, subst, sym, ◌∙◌}
+use Rattle.std.proofs.Common.{[], ◌∷◌, ◌≤◌, ◌^◌, List, ℕ, Err, Ok, ap, length, map, refl, subst, sym, ◌∙◌}
 use Rattle.std.specs.List.{All}
+use Rattle.cfg_text.specs.declared.fun.Fun.{Fun}
 use Rattle.cfg_text.specs.Fun.{function_of}
 use Rattle.flow_model.specs.Sound.{IsSound}
 use Rattle.std.specs.Option.{option_map}
@@ -15,7 +16,7 @@ use Rattle.command_model.specs.Files.{first_bad_of_blocks, max_block_bytes}
 use Rattle.pgo_run.proofs.ReachedLemmas.{Reached-all, Reached-judged, Reached-more, Reached-no-memory, Reached-start, Reached-stop, is-good, is-there, judged-good, where-told}
 use Rattle.pgo_run.proofs.UnreadLemmas.{unread-binary, unread-blocks}
 use Rattle.pgo_run.proofs.ProfileLemmas.{asked_samples, behind-binary, behind-samples, samples-end}
-use Rattle.pgo_run.proofs.BuildLemmas.{asked_blocks, blocks_judged, built, ends-behind, judged_by_lines, read_soundly, there-behind}
+use Rattle.pgo_run.proofs.BuildLemmas.{asked_blocks, blocks_judged, built, ends-behind, judged_by_lines, read_few, read_soundly, there-behind}
 use Rattle.pgo_run.proofs.build.output.Goals as goal
 
 pub returns-in_err-file-clause-carried : goal.returns-in_err-file-clause-carried
@@ -78,6 +79,12 @@ build-requires-clause-sound g c =
     let read = judged-good 3 (block_model.first_bad_of_text 3 c.deref-3.result.now) c.read-2.result _ c.in_ok-funs.funs c.read-2.ensures (sym c.in_file-2.ensures ∙ c.in_ok-funs.was) in
     subst (λ fs. All (λ fun. IsSound fun.blocks fun.edges) fs) (sym c.deref-4.ensures.value) (read_soundly 3 c.deref-3.result.now c.in_ok-funs.funs.items read.0 read.1)
 
+pub build-requires-clause-few : goal.build-requires-clause-few
+build-requires-clause-few g c =
+    let read = judged-good 3 (block_model.first_bad_of_text 3 c.deref-3.result.now) c.read-2.result _ c.in_ok-funs.funs c.read-2.ensures (sym c.in_file-2.ensures ∙ c.in_ok-funs.was) in
+    subst (λ (fs : List Fun). length fs ≤ 2 ^ 29) (sym c.deref-4.ensures.value)
+    (read_few c.deref-3.result.now c.in_ok-funs.funs.items (subst (λ t. length t ≤ max_block_bytes) (sym c.deref-3.ensures.value) c.in_ok-block_text.ensures.within) read.1)
+
 pub returns-in_err-text-clause-carried : goal.returns-in_err-text-clause-carried
 returns-in_err-text-clause-carried g c =
     let command : Command = build_command (told_options c.args.options) c.args.binary.now c.args.perf.now c.args.blocks.now in
@@ -103,5 +110,5 @@ returns-clause-carried g c =
     (is-good _ c.args.blocks.now (first_bad_of_blocks 3) c.deref-3.result.now (there-behind _ _ c.args.blocks.now c.deref-3.result.now (c.in_ok-counts.ensures.store ∙ c.read_file.ensures.store) (is-there _ c.args.blocks.now 3 max_block_bytes c.in_ok-block_text.block_text c.deref-3.result.now c.in_ok-block_text.ensures.file c.deref-3.ensures.value)) (judged_by_lines 3 c.deref-3.result.now (subst (λ t. length t ≤ max_block_bytes) (sym c.deref-3.ensures.value) c.in_ok-block_text.ensures.within) ∙ read.0)) c.in_ok-block_text.ensures.opens in
     Reached-all command _ (c.deref.result.now ∷ samples.0 ∷ c.deref-3.result.now ∷ []) c.in_ok-text.text _ _ _ _ third refl
     (where-told _ samples.2 (λ files tells. built c.deref.result.now c.args.options.base c.in_ok-binary.binary c.args.options.map c.deref-2.result.now c.in_ok-counts.counts samples.0 c.deref-3.result.now c.in_ok-text.text.items
-    c.args.options.edges c.deref-4.result.now good.1 c.deref-2.ensures.value c.in_ok-text.ensures tells.0 tells.1 (ap (map function_of) c.deref-4.ensures.value ∙ read.1)))
+    c.args.options.edges c.args.options.scaled c.deref-4.result.now good.1 c.deref-2.ensures.value c.in_ok-text.ensures tells.0 tells.1 (ap (map function_of) c.deref-4.ensures.value ∙ read.1)))
     (c.in_ok-block_text.ensures.cause.0 ∙ c.in_ok-counts.ensures.cause.0 ∙ c.in_ok-file.ensures.cause.0)

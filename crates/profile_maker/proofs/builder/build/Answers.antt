@@ -4,7 +4,7 @@ use Rattle.key_types.specs.declared.places.Seg.{Seg}
 use Rattle.output_model.specs.Output.{sampled_by}
 use Rattle.output_model.specs.Program.{program_of}
 use Rattle.profile_writer.specs.Profile.{IsProfileOf}
-use Rattle.profile_maker.proofs.BuiltLemmas.{built_of}
+use Rattle.profile_maker.proofs.BuiltLemmas.{built_by, built_of}
 use Rattle.profile_maker.proofs.builder.build.Goals as goal
 
 pub returns : goal.returns
@@ -16,7 +16,9 @@ returns c = λ file base loading lines is with_ranges tells.
     let made = c.in_ok-made.ensures.told file base loading lines is with_ranges tells in
     let told : IsProfileOf program sampled binary.names c.segments.result.now profile =
     subst (λ (segments : List Seg). IsProfileOf program sampled binary.names segments profile) (sym c.segments.ensures) made.profile in
-    let (repairs, appended, repaired) = c.in_ok-push_repairs.ensures in
-    built_of program sampled binary.names c.segments.result.now profile c.args.edges c.in_ok-made.made.branches.items (map function_of c.args.funs.now) told made.tallied
+    let (repairs, appended, repaired) = c.in_ok-augmentations.ensures.repaired in
+    let built = built_of program sampled binary.names c.segments.result.now profile c.args.edges c.in_ok-made.made.branches.items (map function_of c.args.funs.now) told made.tallied
     c.new-out.result.items c.push_lines.new.out.items c.push_repairs.new.out.items repairs c.push_report.new.out.items c.new-out.ensures.items c.in_ok-push_lines.ensures.appended appended repaired
-    c.in_ok-push_report.ensures.appended
+    c.in_ok-push_report.ensures.appended in
+    built_by c.args.scaled program sampled binary.names c.segments.result.now profile c.args.edges c.in_ok-made.made.branches.items (map function_of c.args.funs.now) told made.tallied
+    c.push_report.new.out.items c.push_augmentations.new.out.items c.in_ok-augmentations.augmentations built c.in_ok-augmentations.ensures.counted c.in_ok-push_augmentations.ensures

@@ -1,4 +1,5 @@
 use Rattle.std.proofs.Common.{ap, map, ◌∙◌}
+use Rattle.cold_model.proofs.ColdLemmas.{none_besides}
 use Rattle.profile_model.specs.Profile.{lines_of}
 use Rattle.profile_tree.proofs.StatedLemmas.{calls_once_fit, heads_once_fit}
 use Rattle.profile_tree.specs.Said.{said}
@@ -15,4 +16,5 @@ pub returns-clause-lines : goal.returns-clause-lines
 returns-clause-lines c =
     ap (map (told c.args.names.now)) c.new.ensures
     ∙ c.in_ok-lines.ensures.lines
+    ∙ none_besides (said c.args.names.now c.args.keys.now c.deref.result.now c.args.calls.now c.args.heads.now)
     ∙ ap (λ counts. lines_of (said c.args.names.now c.args.keys.now counts c.args.calls.now c.args.heads.now)) c.deref.ensures.value

@@ -1,0 +1,62 @@
+-- What `build` writes where networks are solved within a bound on augmentations: the same, and how many these were.
+use Rattle.std.specs.Prelude.{◌≡◌, ℕ, ◌+◌, ◌*◌, ◌≤◌, Bool, true, false, List, [], ◌∷◌, ◌++◌, codes, Option}
+use Rattle.std.specs.List.{AllZip}
+use Rattle.text_model.specs.Lines.{lines_of}
+use Rattle.text_model.specs.Numbers.{decimal_text}
+use Rattle.block_model.specs.declared.parts.Weight.{Weight}
+use Rattle.block_model.specs.Function.{Function}
+use Rattle.block_model.specs.Text.{functions_of}
+use Rattle.flow_model.specs.Network.{Network, network_of}
+use Rattle.report_model.specs.Report.{Sampled}
+use Rattle.repair_model.specs.Made.{EdgeTold, weighed_edges}
+use Rattle.scaling_model.specs.Bound.{StartWithin, most_digits, phase_bound}
+use Rattle.weight_model.specs.Blocks.{IsWeightOf}
+use Rattle.output_model.specs.Built.{IsBuilt, count_of_way, edges_of}
+use Rattle.output_model.specs.Output.{loading_of, sampled_by}
+use Rattle.output_model.specs.Program.{Program, program_of, way_at}
+
+-- So many augmentations are within the bound of a network: that of a phase for each binary digit of the greatest count
+-- to start from, and for one phase more; and none where a count to start from has too many digits.
+pub record AreAugmentations (net : Network) (count : ℕ) : Type 0 where
+  pub few : (digits : ℕ) → StartWithin digits net → count ≤ (digits + 1) * phase_bound net
+  pub none : (StartWithin most_digits net → ⊥) → count ≡ 0
+
+-- The same of the network of a function, by the weights of its blocks and edges.
+pub record AreAugmentationsOf {K : Type 0} (key : ℕ → Option K) (count : K → ℕ) (edges : Option EdgeTold)
+    (fun : Function) (augmentations : ℕ) : Type 0 where
+  pub weights : List Weight
+  pub weighed : AllZip (IsWeightOf key count) fun.blocks weights
+  pub within : AreAugmentations
+      (network_of fun.blocks fun.edges weights (weighed_edges edges fun.blocks fun.edges weights)) augmentations
+
+-- The augmentations of some functions, together.
+abbrev pub AreAllAugmentations : {K : Type 0} → (ℕ → Option K) → (K → ℕ) → Option EdgeTold → List Function → ℕ → Type 0
+AreAllAugmentations key count edges [] augmentations = augmentations ≡ 0
+AreAllAugmentations key count edges (fun ∷ funs) augmentations =
+    (first : ℕ) × (rest : ℕ) × (augmentations ≡ first + rest) × AreAugmentationsOf key count edges fun first
+    × AreAllAugmentations key count edges funs rest
+
+-- The line that tells how many there were.
+unfoldable pub augmentations_line : ℕ → List ℕ
+augmentations_line augmentations = codes "# augmentations " ++ (decimal_text augmentations ++ codes "\n")
+
+-- A text is what is built of a program, its samples and functions, and behind it the number of augmentations.
+pub record IsBuiltScaled (edges : Bool) (program : Program) (sampled : Sampled) (funs : List Function) (text : List ℕ)
+    : Type 0 where
+  pub built : List ℕ
+  pub is_built : IsBuilt edges program sampled funs built
+  pub augmentations : ℕ
+  pub counted : AreAllAugmentations (way_at program) (count_of_way program sampled) (edges_of edges program sampled)
+      funs augmentations
+  pub spelled : text ≡ built ++ augmentations_line augmentations
+
+-- What is built, as it is asked for.
+abbrev pub IsBuiltBy : Bool → Bool → Program → Sampled → List Function → List ℕ → Type 0
+IsBuiltBy true edges program sampled funs text = IsBuiltScaled edges program sampled funs text
+IsBuiltBy false edges program sampled funs text = IsBuilt edges program sampled funs text
+
+-- What may be written of a good binary, a good branch text and a good block text.
+abbrev pub IsBuiltOf : Option (List ℕ) → Bool → Bool → Bool → List ℕ → List ℕ → List ℕ → List ℕ → Type 0
+IsBuiltOf name base edges scaled binary text blocks out =
+    IsBuiltBy scaled edges (program_of binary base) (sampled_by (loading_of name binary) binary (lines_of text))
+    (functions_of blocks) out

@@ -1,4 +1,4 @@
-"""Profile texts drawn at random, and mistakes in them."""
+"""Profile texts drawn at random, and mistakes in them: for one seed the same in every run."""
 MOST = 2**64 - 1
 NAMES = [
     b"a", b"b", b"ab", b"aa", b"main", b"_Z3fooi", b"_Z3fooil", b"foo.llvm.123", b"x\xff", b"~", b"[a]", b"a#1!", b"a" * 300, b"a" * 299 + b"b",
@@ -36,10 +36,10 @@ class Text:
     def fill(self, depth, levels):
         """Draws the lines of an open function or call."""
         draw, made = self.draw, []
-        for place in {self.place() for _ in range(draw.randrange(5))}:
+        for place in dict.fromkeys(self.place() for _ in range(draw.randrange(5))):
             targets = b"".join(b" %b:%b" % (name, self.number()) for name in draw.sample(NAMES, draw.choice([0, 0, 1, 3])))
             made.append((False, b"%b: %b%b" % (self.located(place), self.number(), targets)))
-        calls = {(self.place(), draw.choice(NAMES)) for _ in range(draw.randrange(1, 3) if levels < 9 else 1)} if levels else ()
+        calls = dict.fromkeys((self.place(), draw.choice(NAMES)) for _ in range(draw.randrange(1, 3) if levels < 9 else 1)) if levels else ()
         made += [(True, b"%b: %b:%b" % (self.located(place), name, self.total())) for place, name in calls]
         draw.shuffle(made)
         for opens, line in made:

@@ -266,6 +266,14 @@ static void put(int fd, const unsigned char *bytes, size_t len) {
         die("write");
 }
 
+/* Each run's file depends on the seed and its number alone. */
+static void begin(unsigned long long seed, size_t run) {
+    state = seed * 1000003 + run + 1;
+    state *= 0x9e3779b97f4a7c15ULL;
+    for (int warm = 0; warm < 4; warm++)
+        next();
+}
+
 int main(int argc, char **argv) {
     if (argc < 7) {
         fputs("usage: fuzz PROGRAM SEED RUNS FINDS FILE WORDS..\n", stderr);
@@ -288,11 +296,7 @@ int main(int argc, char **argv) {
     unlink("fuzz.err");
     double longest = 0;
     for (size_t i = 0; i < runs; i++) {
-        /* Each run's file depends on the seed and its number alone. */
-        state = seed * 1000003 + i + 1;
-        state *= 0x9e3779b97f4a7c15ULL;
-        for (int warm = 0; warm < 4; warm++)
-            next();
+        begin(seed, i);
         memcpy(file, original, len);
         size_t now = mutate(file, len, regions, n, is_text);
         double seconds;

@@ -1,10 +1,10 @@
 #!/usr/bin/env python3
-"""profiles.py PROGRAM SEED RUNS FINDS: runs `merge` and `summary` of PROGRAM on profile texts with mistakes, beside sums.py.
+"""profiles.py PROGRAM COLD SEED RUNS FINDS: runs `merge` and `summary` of PROGRAM, and COLD, on profile texts with mistakes.
 
-Each run draws texts and changes one of them, line by line or byte by byte; the same seed makes the same files. A run
-passes where the program ends within ten seconds as sums.py says: by status, output and error output. Any other is a find,
-whose files are kept in the folder FINDS-SEED-RUN, and a line says what happened. The last line counts the runs by what came
-of them. Ends with 1 where there was a find.
+COLD is `pgo-cold`, and also reads a generated binary, of which `where` of PROGRAM tells the places. Each run draws texts and changes
+one of them, line by line or byte by byte; the same seed makes the same files. A run passes where the program ends within ten seconds
+as sums.py says: by status, output and error output. Any other is a find, whose files are kept in the folder FINDS-SEED-RUN, and a
+line says what happened. The last line counts the runs by what came of them. Ends with 1 where there was a find.
 """
 import collections
 import os
@@ -14,11 +14,15 @@ import sys
 import tempfile
 
 sys.dont_write_bytecode = True
-sys.path.insert(0, os.path.join(os.path.dirname(os.path.abspath(__file__)), "..", "program"))
+HERE = os.path.dirname(os.path.abspath(__file__))
+sys.path[:0] = [os.path.join(HERE, "..", "program"), os.path.join(HERE, "..", "hostile")]
+import lifts
+import make
 import sums
 from drawn import Text, damaged
 
-PROGRAM, SEED, RUNS, FINDS = os.path.abspath(sys.argv[1]), int(sys.argv[2]), int(sys.argv[3]), os.path.abspath(sys.argv[4])
+PROGRAM, COLD, SEED, RUNS, FINDS = *map(os.path.abspath, sys.argv[1:3]), *map(int, sys.argv[3:5]), os.path.abspath(sys.argv[5])
+BINARY, ADDRESSES = make.small(2), range(make.CODE, make.CODE + 128)
 # What is put into a text: numbers at the borders of their kinds, and what lines are made of.
 WORDS = [
     b" ", b"  ", b"\n", b"\n ", b":", b": ", b".", b"#", b"!", b"0", b"1", b"\t", b"\r\n", b"\0", b"\x7f", b"\xff", b"a", b" a:1", b"1: 1\n", b" " * 256,
@@ -43,6 +47,10 @@ def drawn(draw):
     name = draw.choice(sorted(files))
     for _ in range(draw.choice([0, 1, 1, 2])):
         files[name] = draw.choice([damaged, changed])(draw, files[name])
+    if draw.random() < 0.3:
+        # Some of the functions are those of the binary.
+        told = files[name].replace(b"main", b"f0000").replace(b"_Z3fooi", b"f0001").replace(b" b:", b" g:")
+        return ["pgo-cold", *["--base"] * draw.randrange(2), "bin", "prof"], {"bin": BINARY, "prof": told}
     if draw.random() < 0.4:
         return ["summary", name], files
     names = [name, *(draw.choice(sorted(files)) for _ in range(draw.randrange(8)))]
@@ -58,10 +66,29 @@ def write(folder, files):
             file.write(data)
 
 
+def keys_of(folder, options):
+    """The keys of the binary."""
+    write(folder, {"bin": BINARY})
+    where = lambda at: subprocess.run([PROGRAM, "where", *options, f"{folder}/bin", "%x" % at], capture_output=True, check=True).stdout
+    return {key for key in (lifts.key_of(where(at)) for at in ADDRESSES) if key}
+
+
+def answer(keys, words, files):
+    """What the words have to answer; `keys` are those of the binary, without and with bases."""
+    if words[0] != "pgo-cold":
+        return sums.answer(words, files.__getitem__)
+    try:
+        numbers = {thing: times for _, thing, times in sums.read(files["prof"])}
+    except sums.Refused as bad:
+        return 4, b"", b"refused: file 2 at %d: %b\n" % (bad.args[0], bad.args[1].encode())
+    return 0, sums.text_of(numbers, keys["--base" in words]), b""
+
+
 def ended(folder, words):
     """How the program ended."""
+    spelled = [COLD, *words[1:]] if words[0] == "pgo-cold" else [PROGRAM, *words]
     try:
-        ran = subprocess.run([PROGRAM, *words], cwd=folder, stdin=subprocess.DEVNULL, capture_output=True, timeout=10)
+        ran = subprocess.run(spelled, cwd=folder, stdin=subprocess.DEVNULL, capture_output=True, timeout=10)
     except subprocess.TimeoutExpired:
         return None, b"", b"it did not end"
     return ran.returncode, ran.stdout, ran.stderr
@@ -69,13 +96,15 @@ def ended(folder, words):
 
 def main():
     told, finds = collections.Counter(), 0
+    with tempfile.TemporaryDirectory() as folder:
+        keys = [keys_of(folder, options) for options in ([], ["--base"])]
     for run in range(RUNS):
         words, files = drawn(random.Random(SEED * 1000003 + run))
-        wanted = sums.answer(words, files.__getitem__)
+        wanted = answer(keys, words, files)
         with tempfile.TemporaryDirectory() as folder:
             write(folder, files)
             got = ended(folder, words)
-        told[wanted[2].decode().split(" ")[-1].strip() or "done"] += 1
+        told[("pgo-cold " if words[0] == "pgo-cold" else "") + (wanted[2].decode().split(" ")[-1].strip() or "done")] += 1
         if got != wanted:
             finds += 1
             write(f"{FINDS}-{SEED}-{run}", files)

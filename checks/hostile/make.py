@@ -593,6 +593,84 @@ def called_ladder(n):
     return ladder_blocks(n).replace(b"\nblock 1 ", b" lo=%d\nblock 1 " % (2**44 - 1), 1)
 
 
+def bounded(name, blocks, edges, exits, bounds):
+    """The lines of a function of which blocks and edges have bounds, by their numbers and pairs."""
+    lines = function_text(name, blocks, edges, exits).split(b"\n")
+    keys = [None, *range(len(blocks)), *edges]
+    return b"\n".join(line + b" " + bounds[key] if key in bounds else line for key, line in zip(keys, lines)) + b"\nend\n"
+
+
+def bounded_grid(n):
+    """A block text of an entry and some n blocks in a square, from whose first column ways lead to the right and down, to exits in
+    the last one. Each edge out of the entry lets one unit through, and all of them are wanted: each needs a way of its own."""
+    side = int(n**0.5)
+    inner = lambda x, y: 1 + side * y + x
+    first = [(0, inner(0, y)) for y in range(side)]
+    edges = first + [(inner(x, y), inner(x + 1, y)) for y in range(side) for x in range(side - 1)]
+    edges += [(inner(x, y), inner(x, y + 1)) for y in range(side - 1) for x in range(side)]
+    exits = {inner(side - 1, y) for y in range(side)}
+    blocks = bytes_from(CODE, side * side + 1)
+    return bounded(b"f", blocks, edges, exits, {0: b"lo=%d" % side, **{edge: b"hi=1" for edge in first + edges}})
+
+
+def nested_loops(n):
+    """A block text of a chain of n blocks, of which each in the second half leads back to one in the first, the last to the first."""
+    edges = [(k, k + 1) for k in range(n - 1)] + [(k, n - 1 - k) for k in range((n + 1) // 2, n)]
+    return function_text(b"f", bytes_from(CODE, n), edges, {n - 1})
+
+
+def bounded_ladder(n):
+    """The ladder, whose first block, an exit, ran 2^44 - 1 times or more, while all others ran once at most."""
+    edges = [edge for k in range(n - 1) for edge in ((k, k + 1), (k + 1, k))]
+    bounds = {0: b"lo=%d" % (2**44 - 1), **{k: b"hi=1" for k in range(1, n)}}
+    return bounded(b"f", bytes_from(CODE, n), edges, {0, n - 1}, bounds)
+
+
+def block_count(n):
+    """A block text of a function of n blocks without edges."""
+    return function_text(b"f", bytes_from(CODE, n), [], {0})
+
+
+def edge_count(n):
+    """A block text of a function of 513 blocks with n edges."""
+    return function_text(b"f", bytes_from(CODE, 513), [(k // 513, k % 513) for k in range(n)], {0})
+
+
+def filled_blocks(n):
+    """A block text of n bytes: a function of one block, and empty lines."""
+    return one_block(1).ljust(n, b"\n")
+
+
+def filled_repairs(n):
+    """A repair text of it of n bytes: one repair, and empty lines."""
+    return zeros(0).ljust(n, b"\n")
+
+
+def filled_profile(n):
+    """A profile text of n bytes: a line of a function, and empty lines."""
+    return b"f:5:1\n 1: 5\n".ljust(n, b"\n")
+
+
+def profile_tails(n):
+    """A profile text of n functions, whose names are tails of one another."""
+    return b"".join(b"%b:0:1\n" % (b"n" * k) for k in range(1, n + 1))
+
+
+def profile_tail_calls(n):
+    """A profile text of a function with n calls inlined on one line, whose names are tails of one another."""
+    return b"f:0:0\n" + b"".join(b" 1: %b:1\n  1: 1\n" % (b"n" * k) for k in range(1, n + 1))
+
+
+def heads(n):
+    """A profile text of n functions of these names, each of which was entered."""
+    return b"".join(b"f%d:0:1\n" % k for k in range(n))
+
+
+def one_head(n):
+    """A profile text of the function `f`, which was entered, however large n."""
+    return b"f:0:1\n"
+
+
 def ranges_at_random(n):
     """A text of n ranges of one address each, most of them anew, among n addresses."""
     return b"".join(b"0x%x/0x9 0x9/0x%x\n" % ((CODE + k * k * 7919 % n,) * 2) for k in range(n))
@@ -664,7 +742,8 @@ CASES = [
     one_range, ranges_of_one, ranges_of_kilobytes, ranges_across, foreign_branches,
     loads_and_foreign_branches, loads_of_others, whole_machine, loads_between, branches_of_16,
     wide_block, branches_of_wide, alike_blocks, falling_blocks, ladder_blocks, grid_blocks, called_ladder,
-    ranges_at_random, empty_lines, one_block, zeros,
+    bounded_grid, bounded_ladder, nested_loops, block_count, edge_count, filled_blocks, filled_repairs, filled_profile,
+    ranges_at_random, empty_lines, one_block, zeros, heads, one_head, profile_tails, profile_tail_calls,
     profile_functions, profile_names, profile_lines, profile_targets, profile_calls, profile_depth, profile_stairs,
 ]
 

@@ -151,9 +151,16 @@ def below(depth, node):
         yield from below(depth + 1, call)
 
 
-def text_of(sums):
-    """The profile of these numbers."""
-    functions = [(-node.total(), name, node) for name, node in tree(sums).items()]
+def text_of(sums, keys=()):
+    """The profile of these numbers; with a line for each of the keys, a way and a place each, whose function has a line in it."""
+    roots = tree(sums)
+    for way, place in keys:
+        if way[0] in roots:
+            node = roots[way[0]]
+            for step in way[1:]:
+                node = node.calls.setdefault(step, Node())
+            node.counts.setdefault(place, 0)
+    functions = [(-node.total(), name, node) for name, node in roots.items()]
     made = []
     for total, name, node in sorted(functions, key=lambda it: it[:2]):
         made.append(b"%b:%d:%d\n" % (name, -total, node.head))

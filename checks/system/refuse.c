@@ -2,7 +2,7 @@
  *   memory N     the N-th call of malloc or realloc gives nothing; memory N- the N-th and all behind it
  *   CALL N E     the N-th call of open, read or write fails with the error number E
  *   CALL short   each call of read or write moves one byte at most
- * Without such a call nothing changes. */
+ * Without such a call nothing changes. A call that was let fail leaves the file `refused` in the folder. */
 #define _GNU_SOURCE
 #include <dlfcn.h>
 #include <errno.h>
@@ -11,6 +11,7 @@
 #include <stdio.h>
 #include <stdlib.h>
 #include <string.h>
+#include <sys/syscall.h>
 #include <unistd.h>
 
 static char call[16], how[16];
@@ -28,7 +29,11 @@ static int fails(const char *kind) {
         return 0;
     int n = atoi(how);
     calls++;
-    return strchr(how, '-') ? calls >= n : calls == n;
+    if (calls < n || (calls > n && !strchr(how, '-')))
+        return 0;
+    if (calls == n)
+        close((int)syscall(SYS_open, "refused", O_WRONLY | O_CREAT, 0600));
+    return 1;
 }
 
 static size_t moved(const char *kind, size_t size) {

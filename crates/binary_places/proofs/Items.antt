@@ -1,13 +1,13 @@
 -- The items of a binary by its parts.
-use Rattle.std.proofs.Common.{◌≡◌, ◌≤◌, ℕ, List, ◌∷◌, [], ◌++◌, length, Option, None, Some, nat_lt, Bool, false, true, refl, ap, ◌∙◌, arith}
-use Rattle.std.specs.Prelude.{map, if◌then◌else◌}
+use Rattle.std.proofs.Common.{◌≡◌, ◌≤◌, ℕ, List, ◌∷◌, [], ◌++◌, length, Option, None, Some, refl, ap, ◌∙◌}
+use Rattle.std.specs.Prelude.{map}
 use Rattle.std.specs.Option.{option_or}
 use Rattle.std.specs.Result.{result_err}
 use Rattle.std.proofs.lemmas.Bool.{le-ltb}
 use Rattle.refusal.specs.declared.kind.Kind.TheVariants.{FileTooLarge}
 use Rattle.refusal.specs.declared.place.Place.{Place}
 use Rattle.refusal.specs.Place.{first_bad, fails_at, size_item}
-use Rattle.refusal.proofs.PlaceLemmas.{first_bad-append, first_bad-cons}
+use Rattle.refusal.proofs.PlaceLemmas.{first_bad-append}
 use Rattle.placed_view.specs.Reader.{refused_at}
 use Rattle.elf_model.specs.Items.{items, lookup_item}
 use Rattle.binary_model.specs.Sections.{looked_up}

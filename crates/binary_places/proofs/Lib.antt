@@ -5,6 +5,7 @@ pub mod SharedLemmas
 pub mod TableLemmas
 pub mod SectionLemmas
 pub mod NumberLemmas
+pub mod FunctionLemmas
 pub mod PlaceLemmas
 pub mod ReadLemmas
 pub mod ShownLemmas

@@ -1,11 +1,10 @@
 -- Members whose names are numbered by their own places are as they are told.
-use Rattle.std.proofs.Common.{◌≡◌, ℕ, zero, suc, ◌+◌, List, [], ◌∷◌, drop, Option, None, Some, refl, sym, ap, ◌∙◌, add-one}
-use Rattle.std.specs.Prelude.{map, slice_get, unwrap_or}
+use Rattle.std.proofs.Common.{◌≡◌, ℕ, zero, suc, ◌+◌, List, [], ◌∷◌, drop, Option, None, Some, refl, ap, ◌∙◌, add-one}
+use Rattle.std.specs.Prelude.{slice_get, unwrap_or}
 use Rattle.std.specs.Option.{option_map}
-use Rattle.std.specs.List.{AllZip}
 use Rattle.entry_facts.specs.Meaning.{IsNumberOf}
 use Rattle.tree_model.specs.Members.{Told}
-use Rattle.inline_tree.specs.Told.{AreTold, IsTold}
+use Rattle.inline_tree.specs.Told.{AreTold}
 use Rattle.binary_model.specs.Places.{names_of, numbered_from}
 
 number-is : (names : List (List ℕ)) (n : ℕ) (name : Option (List ℕ)) → slice_get names n ≡ Some (unwrap_or name [])

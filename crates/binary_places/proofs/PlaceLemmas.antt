@@ -13,10 +13,10 @@ use Rattle.chain_model.specs.declared.member.Member.{Member}
 use Rattle.chain_model.specs.Chains.{chain, holds, holds_at, piece_holds}
 use Rattle.chain_model.specs.Pass.{chain_from}
 use Rattle.chain_model.proofs.PassLemmas.{one_pass}
-use Rattle.chain_model.specs.Places.{LineAndDisc, Place, Tells, chain_members, frame, frames, has_key, key, kept, last_start, line_offset, nameless, no_line, outside, place_at, place_by, place_of, row_of}
+use Rattle.chain_model.specs.Places.{LineAndDisc, Place, Tells, chain_members, frames, has_key, key, kept, last_start, line_offset, nameless, no_line, outside, place_at, place_by, place_of, row_of}
 use Rattle.entry_facts.specs.Meaning.{IsNumberOf}
 use Rattle.tree_model.specs.Members.{Told}
-use Rattle.inline_tree.specs.Told.{AreTold, IsTold}
+use Rattle.inline_tree.specs.Told.{AreTold}
 use Rattle.profile_model.specs.Ways.{Step, to_body, to_call, to_function}
 use Rattle.binary_model.specs.Places.{in_names, name_of, way_of}
 use Rattle.binary_places.specs.Binary.{IsGiven, TellsNamed}

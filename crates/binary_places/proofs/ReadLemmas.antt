@@ -1,23 +1,20 @@
 -- What is read of a binary, part by part, as the definitions name it.
-use Rattle.std.proofs.Common.{◌≡◌, ℕ, Bool, List, length, Option, None, Some, Result, Ok, Err, refl, ap, subst, sym, ◌∙◌}
+use Rattle.std.proofs.Common.{◌≡◌, ℕ, List, Option, None, Some, Result, Ok, Err, refl, ap, subst, sym, ◌∙◌}
 use Rattle.std.specs.Prelude.{map, codes}
 use Rattle.std.specs.Option.{option_map, option_map_or}
-use Rattle.std.specs.Result.{IsErrAnd, result_err}
+use Rattle.std.specs.Result.{IsErrAnd}
 use Rattle.refusal.specs.declared.place.Place.{Place}
 use Rattle.refusal.specs.declared.place.Stop.{Stop}
 use Rattle.refusal.specs.declared.place.Stop.TheVariants.{Refused, NoMemory}
 use Rattle.refusal.specs.Place.{JudgesUnlessNoMemory, first_bad}
 use Rattle.byte_view.specs.declared.part.Part.{Part}
-use Rattle.placed_view.specs.Reader.{IsRead, Read, refused_at, start_of}
-use Rattle.elf_model.specs.Items.{items, lookup_item}
+use Rattle.placed_view.specs.Reader.{IsRead, start_of}
+use Rattle.elf_model.specs.Items.{lookup_item}
 use Rattle.unit_model.specs.Units.{Units}
 use Rattle.dwarf_info.specs.Told.{units_told}
 use Rattle.dwarf_ranges.specs.Meaning.{range_sections_of}
-use Rattle.line_model.specs.Fields.{Judged}
-use Rattle.line_model.specs.declared.row.Row.{Row}
 use Rattle.line_model.specs.Rows.{Sequence, live_sequences}
 use Rattle.chain_model.specs.declared.member.Member.{Member}
-use Rattle.tree_model.specs.Members.{Told}
 use Rattle.tree_model.specs.Tree.{Source, members}
 use Rattle.inline_tree.specs.Told.{AreTold, IsMadeOf}
 use Rattle.binary_model.specs.Sections.{looked_up, range_sections, section_at}

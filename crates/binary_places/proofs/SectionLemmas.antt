@@ -1,7 +1,7 @@
 -- The sections that the code has found, as the definitions name them.
-use Rattle.std.proofs.Common.{◌≡◌, ◌≤◌, ◌+◌, ◌^◌, ℕ, List, length, Option, None, Some, Result, Ok, Err, refl, ap, subst, sym, ◌∙◌, arith}
+use Rattle.std.proofs.Common.{◌≡◌, ◌≤◌, ◌^◌, ℕ, List, length, Option, None, Some, Result, Ok, Err, refl, ap, sym, ◌∙◌, arith}
 use Rattle.std.specs.Prelude.{codes, IfSome}
-use Rattle.std.specs.Option.{option_map, option_map_or}
+use Rattle.std.specs.Option.{option_map}
 use Rattle.std.specs.Result.{IsErrAnd}
 use Rattle.refusal.specs.declared.place.Place.{Place}
 use Rattle.refusal.specs.Place.{Judges}
@@ -12,7 +12,6 @@ use Rattle.placed_view.specs.Reader.{start_of}
 use Rattle.dwarf_info.specs.Told.{units_told}
 use Rattle.dwarf_strings.specs.Meaning as texts
 use Rattle.dwarf_ranges.specs.Meaning as range_parts
-use Rattle.dwarf_ranges.specs.declared.list.RangeParts.{RangeParts}
 use Rattle.range_model.specs.Lists.{Piece, RangeSections}
 use Rattle.elf_model.specs.Sections.{bytes_of, section, start}
 use Rattle.elf_model.specs.Tables.{SectionHeader}

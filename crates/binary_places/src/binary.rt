@@ -1,27 +1,33 @@
-ghost use Rattle.std.specs.Prelude.{◌≡◌, ◌≤◌, length};
+ghost use Rattle.std.specs.Prelude.{◌≡◌, ◌≤◌, ℕ, Bool, List, IfOk, length};
 ghost use Rattle.refusal.specs.Place.{JudgesUnlessNoMemory};
 ghost use Rattle.binary_model.specs.Binary.{first_bad_of_binary, max_binary_bytes};
-ghost use Rattle.binary_places.specs.Binary.{IsBinary};
+ghost use Rattle.binary_places.specs.Binary.{IsBinary, IsPlaced};
 
 use crate::sections::Sections;
 use crate::tables::read_tables;
-use context_map::Map;
+use chain_model::Member;
+use context_map::{Asked, Functions, Map, make_asked};
 use dwarf_info::read_units;
 use inline_tree::Source;
 use key_types::{Keys, Names};
 use load_model::LoadSegment;
-use refusal::Stop;
+use refusal::{NoMemory, Stop};
+use row_table::RowTable;
 use std::alloc::Global;
 
-/// What a binary says of its addresses.
+/// A binary that was read and judged: all that its places are made of.
 #[derive(Drop)]
 pub struct Binary<'a> {
     /// The names of functions and inlined calls, lent from the file.
     pub names: Names<'a>,
-    /// The places that addresses have.
-    pub keys: Keys,
-    /// The place of every address.
-    pub map: Map,
+    /// The functions and the calls inlined into them.
+    pub members: Vec<Member>,
+    /// The row table of each unit that has rows.
+    pub tables: Vec<Option<RowTable>>,
+    /// The function that holds each address.
+    pub functions: Functions,
+    /// Whether discriminators in keys are bases.
+    pub base: bool,
     /// The loaded executable segments, in the order of their headers.
     pub loads: Vec<LoadSegment>,
     /// How many units were read.
@@ -30,7 +36,18 @@ pub struct Binary<'a> {
     pub passed: usize,
 }
 
-/// Judges a binary as a whole, and tells the places of its addresses. With `base` the
+/// The places of a binary, where they were asked for.
+#[derive(Drop)]
+pub struct Placed<'a> {
+    /// The names of functions and inlined calls, lent from the file.
+    pub names: Names<'a>,
+    /// The places that addresses have.
+    pub keys: Keys,
+    /// The place of each address that was asked for, and the function of each.
+    pub map: Map,
+}
+
+/// Judges a binary as a whole, and keeps what tells the places of its addresses. With `base` the
 /// discriminators in keys are bases. The size is the caller's to judge: at most 2^30 bytes.
 ///
 /// # Errors
@@ -54,14 +71,42 @@ pub fn read(alloc: Global, file: &[u8], base: bool) -> Result<Binary<'_>, Stop>
     };
     let loads = elf.loads(alloc)?;
     let tree = inline_tree::make(alloc, &source)?;
-    let mut keys = Keys::new(alloc)?;
-    let map = context_map::make(alloc, &tree.members, &tables, &mut keys, base)?;
+    let functions = Functions::make(alloc, &tree.members)?;
     Ok(Binary {
         names: tree.names,
-        keys,
-        map,
+        members: tree.members,
+        tables,
+        functions,
+        base,
         loads,
         read: units.units().len(),
         passed: units.skipped().len(),
+    })
+}
+
+/// The places of a binary, of the functions that are asked for.
+///
+/// # Errors
+/// `NoMemory`.
+pub fn places<'a>(alloc: Global, binary: Binary<'a>, asked: &Asked) -> Result<Placed<'a>, NoMemory>
+    requires { (file : List ℕ) × (base : Bool) × IsBinary file base binary }
+    ensures { IfOk result (λ placed. (file : List ℕ) (base : Bool)
+        → IsBinary file base binary.entry → IsPlaced file base asked.now placed) }
+{
+    let functions = binary.functions;
+    let mut keys = Keys::new(alloc)?;
+    let map = make_asked(
+        alloc,
+        &binary.members,
+        &binary.tables,
+        functions,
+        asked,
+        &mut keys,
+        binary.base,
+    )?;
+    Ok(Placed {
+        names: binary.names,
+        keys,
+        map,
     })
 }

@@ -1,12 +1,15 @@
 -- The keys of a binary are the places of its addresses.
-use Rattle.std.proofs.Common.{◌≡◌, ℕ, zero, suc, ◌<◌, ◌≤◌, ◌-◌, ◌^◌, Bool, List, [], ◌∷◌, ◌++◌, map, filter, length, Option, None, Some, refl, sym, ap, subst, ◌∙◌, arith}
+use Rattle.std.proofs.Common.{◌≡◌, ℕ, zero, suc, ◌<◌, ◌≤◌, ◌-◌, ◌^◌, Bool, true, List, [], ◌∷◌, ◌++◌, map, filter, length, Option, None, Some, refl, sym, ap, subst, ◌∙◌, arith}
+use Rattle.std.specs.Prelude.{if◌then◌else◌}
 use Rattle.std.specs.List.{filter_map, range_with_len}
 use Rattle.std.specs.Option.{option_map}
 use Rattle.address_spans.proofs.SpanLemmas.{held, missed-behind, reach}
 use Rattle.address_spans.specs.Spans.{AreBetween}
-use Rattle.binary_model.specs.Places.{Place, at_way, nameless, no_line, outside}
-use Rattle.binary_places.specs.Binary.{IsBinary}
-use Rattle.binary_places.specs.declared.binary.Binary.{Binary}
+use Rattle.binary_model.specs.Addresses.{function_of_address}
+use Rattle.binary_model.specs.Places.{Place, at_way, nameless, no_line, outside, place_of_address}
+use Rattle.binary_places.specs.Binary.{IsPlaced}
+use Rattle.binary_places.specs.declared.binary.Placed.{Placed}
+use Rattle.context_map.specs.Maps.{place_told}
 use Rattle.cold_model.proofs.ColdLemmas.{same_lines}
 use Rattle.cold_model.specs.Cold.{cold_lines_of, stands_in}
 use Rattle.key_types.specs.Numbers.{IsNumbered}
@@ -19,6 +22,7 @@ use Rattle.output_model.specs.Program.{program_of, way_of_place}
 use Rattle.output_model.specs.Program as program_told
 use Rattle.output_model.specs.Sampled.{all_addresses}
 use Rattle.profile_lists.specs.Laws.{place_by}
+use Rattle.profile_maker.specs.Asked.{lack_of}
 use Rattle.profile_maker.proofs.NameLemmas.{keys_have_names}
 use Rattle.profile_maker.proofs.ShownLemmas.{programs_shown}
 use Rattle.profile_merge.proofs.TellLemmas.{what_same}
@@ -39,6 +43,7 @@ use Rattle.profile_tree.specs.Said.{way_at}
 use Rattle.profile_writer.proofs.SumLemmas.{kept_among, kept_from}
 use Rattle.profile_writer.specs.Told.{TellsPlace, key_of}
 use Rattle.cold_tree.specs.Besides.{counted, first_ways}
+use Rattle.span_cover.specs.Asked.{asks}
 
 -- ---- each key has an address
 
@@ -105,28 +110,39 @@ inside : (address : ℕ) → address < 2 ^ 64 - 1 → Among address all_addresse
 unfolding all_addresses
 inside address near = range_among 0 (2 ^ 64) address (omega arith) (omega (arith, near))
 
-module _ (bytes : List ℕ) (base : Bool) (binary : Binary) (is : IsBinary bytes base binary) where
+-- ---- all places are asked for
+
+asks_all : (function : Option ℕ) → asks [] function ≡ true
+asks_all None = refl
+asks_all (Some function) = refl
+
+module _ (bytes : List ℕ) (base : Bool) (placed : Placed) (is : IsPlaced bytes base [] placed) where
+  place_shown : (address : ℕ) → TellsPlace placed.names placed.keys (place_of_address bytes base address) (place_told placed.map address)
+  place_shown address =
+      subst (λ (b : Bool). TellsPlace placed.names placed.keys (if b then place_of_address bytes base address else lack_of (place_told placed.map address)) (place_told placed.map address))
+      (asks_all (function_of_address bytes address)) ((programs_shown bytes base [] placed is).places address)
+
   abbrev way_here : ℕ → Option Way
   way_here = program_told.way_at (program_of bytes base)
 
-  key_here : (address : ℕ) (way : Way) → way_here address ≡ Some way → IsKeyOf binary.names binary.keys way
-  key_here address way e = key_of_way binary.names binary.keys _ _ ((programs_shown bytes base binary is).places address) way e
+  key_here : (address : ℕ) (way : Way) → way_here address ≡ Some way → IsKeyOf placed.names placed.keys way
+  key_here address way e = key_of_way placed.names placed.keys (place_of_address bytes base address) (place_told placed.map address) (place_shown address) way e
 
   -- the way of each key is that of some address
-  key_among : (n : ℕ) → n < length binary.keys → Among (way_at binary.names binary.keys n) (filter_map way_here all_addresses)
+  key_among : (n : ℕ) → n < length placed.keys → Among (way_at placed.names placed.keys n) (filter_map way_here all_addresses)
   key_among n given =
-      let shown = programs_shown bytes base binary is in
-      let there = address_of_key n 0 (2 ^ 64 - 1) binary.map.segments is.map.ascend (is.used n (omega arith) given) in
-      kept_among way_here there.at (way_at binary.names binary.keys n) all_addresses (inside there.at there.high)
-      (way_of_key binary.names binary.keys _ _ (shown.places there.at) n (sym (shown.keys_told there.at) ∙ there.is))
+      let shown = programs_shown bytes base [] placed is in
+      let there = address_of_key n 0 (2 ^ 64 - 1) placed.map.segments is.map.ascend (is.used n (omega arith) given) in
+      kept_among way_here there.at (way_at placed.names placed.keys n) all_addresses (inside there.at there.high)
+      (way_of_key placed.names placed.keys (place_of_address bytes base there.at) (place_told placed.map there.at) (place_shown there.at) n (sym (shown.keys_told there.at) ∙ there.is))
 
   -- ---- behind the names and keys of a profile text
 
   module _ (text : List ℕ) (items : List Item) (more : List (List ℕ)) (more_keys : List Key)
-      (names_once : IsNumbered binary.names) (keys_once : IsNumbered binary.keys) (tells : TellText binary.names binary.keys text items more more_keys)
+      (names_once : IsNumbered placed.names) (keys_once : IsNumbered placed.keys) (tells : TellText placed.names placed.keys text items more more_keys)
       (more_names_once : IsNumbered more) (more_keys_once : IsNumbered more_keys) where
-    before : AreNumbered binary.names binary.keys
-    before = record { names_once = names_once; keys_once = keys_once; key_names = keys_have_names bytes base binary is }
+    before : AreNumbered placed.names placed.keys
+    before = record { names_once = names_once; keys_once = keys_once; key_names = keys_have_names bytes base [] placed is }
 
     behind : AreNumbered more more_keys
     behind = record { names_once = more_names_once; keys_once = more_keys_once; key_names = tells.named }
@@ -136,15 +152,15 @@ module _ (bytes : List ℕ) (base : Bool) (binary : Binary) (is : IsBinary bytes
     way_in (count way) = way
     way_in (target way name) = way
 
-    way_stays : (n : ℕ) → n < length binary.keys → way_at more more_keys n ≡ way_at binary.names binary.keys n
+    way_stays : (n : ℕ) → n < length placed.keys → way_at more more_keys n ≡ way_at placed.names placed.keys n
     unfolding way_in
-    way_stays n given = ap way_in (what_same binary.names more binary.keys more_keys before tells.names_kept tells.keys_kept (Count (record { 0 = n })) given)
+    way_stays n given = ap way_in (what_same placed.names more placed.keys more_keys before tells.names_kept tells.keys_kept (Count (record { 0 = n })) given)
 
     abbrev p : Profile
     p = counted more more_keys items
 
     abbrev ways : List Way
-    ways = first_ways more more_keys (length binary.keys)
+    ways = first_ways more more_keys (length placed.keys)
 
     abbrev places : List Way
     places = filter_map way_here all_addresses
@@ -152,9 +168,9 @@ module _ (bytes : List ℕ) (base : Bool) (binary : Binary) (is : IsBinary bytes
     -- the ways of the first keys are those of all addresses
     there : (z : Way) → Among z ways → Among z places
     there z h =
-        let key = among_map_back (way_at more more_keys) z (range_with_len 0 (length binary.keys)) h in
-        let range = among_range 0 (length binary.keys) key.0 key.1 in
-        let given : key.0 < length binary.keys = omega (arith, range.1) in
+        let key = among_map_back (way_at more more_keys) z (range_with_len 0 (length placed.keys)) h in
+        let range = among_range 0 (length placed.keys) key.0 key.1 in
+        let given : key.0 < length placed.keys = omega (arith, range.1) in
         subst (λ w. Among w places) (sym (key.2 ∙ way_stays key.0 given)) (key_among key.0 given)
 
     back : (z : Way) → Among z places → Among z ways
@@ -162,8 +178,8 @@ module _ (bytes : List ℕ) (base : Bool) (binary : Binary) (is : IsBinary bytes
         let from = kept_from way_here z all_addresses h in
         let key = key_here from.0 z from.2 in
         subst (λ w. Among w ways) (way_stays key.number key.given ∙ key.is)
-        (among_map (way_at more more_keys) key.number (range_with_len 0 (length binary.keys))
-        (range_among 0 (length binary.keys) key.number (omega arith) (omega (arith, key.given))))
+        (among_map (way_at more more_keys) key.number (range_with_len 0 (length placed.keys))
+        (range_among 0 (length placed.keys) key.number (omega arith) (omega (arith, key.given))))
 
     kept_both : (test : Way → Bool) (xs ys : List Way) → ((z : Way) → Among z xs → Among z ys) → (z : Way) → Among z (filter test xs) → Among z (filter test ys)
     kept_both test xs ys inside z h = let kept = among_filter_back test z xs h in among_filter test z ys kept.0 (inside z kept.1)
@@ -188,7 +204,7 @@ module _ (bytes : List ℕ) (base : Bool) (binary : Binary) (is : IsBinary bytes
         (λ e. among_has cmp t z one (kept_both (stands_in p) places ways back z (has_among cmp t z all e))))
         ∙ ap (cold_lines_of places) told_is
 
-    pub output_is : (known : ℕ) → known ≡ length binary.keys → text_of_lines (cold_lines_of (first_ways more more_keys known) p) ≡ cold_output base bytes text
+    pub output_is : (known : ℕ) → known ≡ length placed.keys → text_of_lines (cold_lines_of (first_ways more more_keys known) p) ≡ cold_output base bytes text
     output_is known is_known = ap (λ n. text_of_lines (cold_lines_of (first_ways more more_keys n) p)) is_known ∙ ap text_of_lines lines_are
 
 -- What was appended to nothing stands alone.

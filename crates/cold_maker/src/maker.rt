@@ -1,11 +1,11 @@
 // A profile text with the lines that never ran.
-ghost use Rattle.std.specs.Prelude.{◌≡◌, ◌≤◌, ◌^◌, ℕ, Bool, List, length};
+ghost use Rattle.std.specs.Prelude.{◌≡◌, ◌≤◌, ◌^◌, ℕ, Bool, List, [], length};
 ghost use Rattle.refusal.specs.Place.{JudgesUnlessNoMemory};
-ghost use Rattle.binary_places.specs.Binary.{IsBinary};
+ghost use Rattle.binary_places.specs.Binary.{IsBinary, IsPlaced};
 ghost use Rattle.output_model.specs.Cold.{cold_output};
 ghost use Rattle.profile_model.specs.Judging.{first_bad_of_profile};
 
-use binary_places::Binary;
+use binary_places::{Asked, Binary, Placed, places};
 use cold_tree::tree_of;
 use profile_text::{read, write};
 use refusal::Stop;
@@ -34,8 +34,21 @@ pub fn cold<'a>(
         JudgesUnlessNoMemory (first_bad_of_profile file text.now) result
         (λ out. out.items ≡ cold_output base bytes text.now) }
 {
-    let mut names = binary.names;
-    let mut keys = binary.keys;
+    let asked = Asked::all(alloc);
+    let placed = places(alloc, binary, &asked)?;
+    cold_of(alloc, placed, text, file)
+}
+
+/// The same by the places of a binary, all of which were asked for.
+fn cold_of<'a>(alloc: Global, placed: Placed<'a>, text: &'a [u8], file: u8) -> Result<Vec<u8>, Stop>
+    requires size { length text.now ≤ 2 ^ 28 }
+    requires placed { (bytes : List ℕ) × (base : Bool) × IsPlaced bytes base [] placed }
+    ensures { (bytes : List ℕ) (base : Bool) → IsPlaced bytes base [] placed.entry →
+        JudgesUnlessNoMemory (first_bad_of_profile file text.now) result
+        (λ out. out.items ≡ cold_output base bytes text.now) }
+{
+    let mut names = placed.names;
+    let mut keys = placed.keys;
     let known = keys.len();
     if known >= MOST || names.len() >= MOST {
         return Err(Stop::NoMemory);

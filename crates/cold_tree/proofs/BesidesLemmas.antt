@@ -15,6 +15,7 @@ use Rattle.profile_model.specs.Profile.{entered}
 use Rattle.profile_model.specs.Spelled.{Number, as_call, as_count, as_head, profile_by}
 use Rattle.profile_model.specs.Ways.{Way, same_step, to_function}
 use Rattle.profile_text.specs.Draft.{IsGivenItem, IsGivenWhat, number_told, what_told}
+use Rattle.profile_text.specs.Numbers.{counted, root_at, root_of, root_of_given}
 use Rattle.profile_text.specs.declared.item.Item.{Item}
 use Rattle.profile_text.specs.declared.item.What.{What}
 use Rattle.profile_text.specs.declared.item.What.TheVariants.{Head, Count, Target}
@@ -26,8 +27,8 @@ use Rattle.profile_tree.specs.Items.{AreMarked}
 use Rattle.profile_tree.specs.Known.{HasNames}
 use Rattle.profile_tree.specs.Said.{way_at, ways_said}
 use Rattle.profile_tree.specs.Steps.{name_at, named, steps_of, steps_of_given}
-use Rattle.cold_tree.proofs.PartLemmas.{all_weaker}
-use Rattle.cold_tree.specs.Besides.{counted, first_ways, has_mark, root_at, root_of, root_of_given, standing_keys, stands}
+use Rattle.profile_text.proofs.NumberLemmas.{all_weaker, item_there}
+use Rattle.cold_tree.specs.Besides.{first_ways, has_mark, standing_keys, stands}
 
 -- ---- some item of a list passes a test
 
@@ -81,11 +82,6 @@ no_more p i old none far =
     far ∙ sym (nothing_behind (filter p (range_with_len 0 i)))
     ∙ sym (ap (λ b. filter p (range_with_len 0 i) ++ cond b (i ∷ []) []) none) ∙ sym (filtered_more p i)
 
-key_there : (xs : List Key) (id : ℕ) → id < length xs → (key : Key) × (slice_get xs id ≡ Some key)
-key_there [] id low = absurd (omega (arith, low))
-key_there (x ∷ xs) zero low = (x, refl)
-key_there (x ∷ xs) (suc id) low = key_there xs id (omega (arith, low))
-
 module _ (names : List (List ℕ)) (keys : List Key) (key_names : All (HasNames (length names)) keys) where
   root_given : (id : ℕ) (key : Key) → slice_get keys id ≡ Some key → key.root.0 < length names
   root_given id key is = (all_to_each (HasNames (length names)) key keys key_names (given_among keys id key is)).0
@@ -101,7 +97,7 @@ module _ (names : List (List ℕ)) (keys : List Key) (key_names : All (HasNames 
       (all_among (λ id. has_mark keys marks id ≡ stands keys items (root_at keys id)) (range_with_len 0 known)
       (λ id h.
       let low = among_range 0 known id h in
-      let there = key_there keys id (omega (arith, low.1, few)) in
+      let there = item_there keys id (omega (arith, low.1, few)) in
       let root : root_at keys id ≡ there.0.root.0 = ap root_of_given there.1 in
       are_marked.each (root_at keys id) (omega (arith, root, root_given id there.0 there.1, size))))
 
@@ -159,7 +155,7 @@ module _ (names : List (List ℕ)) (keys : List Key) (names_apart : IsNumbered n
     key_tells : (k t : ℕ) → k < length keys → (nat_lt 0 t && same_function (way_by key) (way_at names keys k)) ≡ (nat_lt 0 t && (key.root.0 == root_of_given (slice_get keys k)))
     unfolding way_by
     key_tells k t within =
-        let other = key_there keys k within in
+        let other = item_there keys k within in
         ap (λ b. nat_lt 0 t && b)
         (ap (same_function (way_by key)) (way_is k other.0 other.1)
         ∙ same_root key.root.0 other.0.root.0 low (root_given names keys key_names k other.0 other.1)
@@ -222,7 +218,7 @@ module _ (names : List (List ℕ)) (keys : List Key) (names_apart : IsNumbered n
   pub stands_by_number : (items : List Item) → AllByRecursion (IsGivenItem (length names) (length keys)) items → (id : ℕ) → id < length keys
       → stands_in (counted names keys items) (way_at names keys id) ≡ stands keys items (root_at keys id)
   stands_by_number items given id within =
-      let there = key_there keys id within in
+      let there = item_there keys id within in
       let key = there.0 in
       let low = root_given names keys key_names id key there.1 in
       ap (stands_in (counted names keys items)) (way_is id key there.1)

@@ -1,2 +1,1 @@
 pub mod Besides
-pub mod Parts

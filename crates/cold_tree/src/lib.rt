@@ -6,7 +6,6 @@
 #![tactic(auto)]
 
 mod besides;
-mod parts;
 mod standing;
 mod tree;
 

@@ -1,18 +1,19 @@
 // The functions that stand in a profile.
 ghost use Rattle.std.specs.Prelude.{◌≡◌, ◌<◌, All, IfOk, length, slice_set, true};
 ghost use Rattle.std.specs.List.{AllByRecursion};
-ghost use Rattle.cold_tree.specs.Besides.{root_of, stands};
-ghost use Rattle.profile_text.specs.Draft.{IsGivenItem, IsGivenWhat};
+ghost use Rattle.cold_tree.specs.Besides.{stands};
+ghost use Rattle.profile_text.specs.Draft.{IsGivenItem};
 ghost use Rattle.profile_tree.specs.Items.{AreMarked};
 ghost use Rattle.profile_tree.specs.Known.{HasNames};
 
 use key_types::{Keys, NameId};
-use profile_text::{Item, What};
+use profile_text::{Item, root_of};
 use refusal::NoMemory;
 use std::alloc::Global;
 
 /// Of each of so many functions, whether it stands in the profile of these numbers: it was entered,
 /// or one of its keys has a count or a target.
+#[tactic(auto, using(profile_text::proofs::NumberLemmas::has_key, profile_text::proofs::NumberLemmas::root_low))]
 pub(crate) fn standing(
     alloc: Global,
     items: &[Item],
@@ -27,7 +28,7 @@ pub(crate) fn standing(
     let mut marks = vec![in alloc; false; names as usize]?;
     for item in items {
         if item.times > 0 {
-            mark(&mut marks, root_of(item.what, keys, names));
+            mark(&mut marks, root_of(item.what, keys));
         }
     }
     Ok(marks)
@@ -39,17 +40,4 @@ fn mark(marks: &mut Vec<bool>, function: NameId)
     ensures { marks.new.items ≡ slice_set marks.old.items function.0 true }
 {
     marks[function.0 as usize] = true;
-}
-
-/// The function that a number is of.
-fn root_of(what: What, keys: &Keys, names: u32) -> NameId
-    requires given { IsGivenWhat names (length keys.now) what }
-    requires key_names { All (HasNames names) keys.now }
-    ensures root { result.0 ≡ root_of keys.now what }
-    ensures given { result.0 < names }
-{
-    match what {
-        What::Head(name) => name,
-        What::Count(key) | What::Target(key, _) => keys.get(key).root,
-    }
 }

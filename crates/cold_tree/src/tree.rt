@@ -2,17 +2,17 @@
 ghost use Rattle.std.specs.Prelude.{◌≡◌, ◌≤◌, All, IfOk, length, map};
 ghost use Rattle.std.specs.List.{AllByRecursion};
 ghost use Rattle.cold_model.specs.Cold.{cold_lines_of};
-ghost use Rattle.cold_tree.specs.Besides.{counted, first_ways};
+ghost use Rattle.cold_tree.specs.Besides.{first_ways};
 ghost use Rattle.profile_laws.specs.Once.{StandOnce};
 ghost use Rattle.profile_text.specs.Draft.{IsGivenItem};
+ghost use Rattle.profile_text.specs.Numbers.{counted};
 ghost use Rattle.profile_tree.specs.Known.{HasNames};
 ghost use Rattle.profile_tree.specs.Told.{IsOf, told};
 
 use crate::besides::besides_of;
-use crate::parts::{calls_of, counts_of, heads_of};
 use crate::standing::standing;
 use key_types::{Keys, Names};
-use profile_text::Profile;
+use profile_text::{Profile, calls_of, counts_of, heads_of};
 use profile_tree::{Tree, from_counts_with};
 use refusal::NoMemory;
 use std::alloc::Global;

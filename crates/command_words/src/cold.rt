@@ -4,15 +4,8 @@ ghost use Rattle.std.specs.Option.{option_map};
 ghost use Rattle.command_model.specs.Cold.{cold_by, cold_of};
 ghost use Rattle.command_words.specs.Words.{cold_meaning, texts_of};
 
-use crate::command::option_count;
-use crate::options::{Has, Options, options_of};
-
-const COLD_HAS: Has = Has {
-    map: false,
-    base: true,
-    edges: false,
-    scaled: false,
-};
+use crate::command::{BASE_HAS, option_count};
+use crate::options::{Options, options_of};
 
 /// What `pgo-cold` is asked for: the profile in this file, with a line for each place of this
 /// binary in the functions that it has.
@@ -39,7 +32,7 @@ fn cold_in<'a>(options: &'a [Vec<u8>], operands: &'a [Vec<u8>]) -> Option<Cold<'
 {
     match operands {
         [binary, profile] => Some(Cold {
-            options: options_of(COLD_HAS, options)?,
+            options: options_of(BASE_HAS, options)?,
             binary,
             profile,
         }),

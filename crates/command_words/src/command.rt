@@ -23,8 +23,8 @@ const MAX_WEIGHT: u64 = 65_535;
 /// The most files of a merge.
 const MOST_PARTS: usize = 8;
 
-/// The options of `where` and of `lift`.
-const BASE_HAS: Has = Has {
+/// The options of `where`, of `lift` and of `pgo-cold`.
+pub(crate) const BASE_HAS: Has = Has {
     map: false,
     base: true,
     edges: false,

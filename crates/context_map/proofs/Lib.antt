@@ -1,3 +1,4 @@
+pub mod AskLemmas
 pub mod NameLemmas
 pub mod ParentLemmas
 pub mod CutLemmas

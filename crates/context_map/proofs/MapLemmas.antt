@@ -2,7 +2,7 @@
 use Rattle.std.proofs.Common.{◌≡◌, ℕ, zero, suc, ◌+◌, arith, Bool, true, false, List, [], ◌∷◌, Option, None, Some, refl, sym, ap, ◌∙◌, subst, map}
 use Rattle.std.specs.Prelude.{slice_get, find, option_and_then, ◌==◌, if◌then◌else◌}
 use Rattle.std.specs.Option.{option_map, is_some}
-use Rattle.std.specs.List.{enumerate_from}
+use Rattle.std.specs.List.{AllByRecursion, enumerate_from}
 use Rattle.address_spans.specs.declared.span.Span.{Span}
 use Rattle.address_spans.specs.Spans.{owner_at}
 use Rattle.key_types.specs.declared.ids.KeyId.{KeyId}
@@ -18,8 +18,11 @@ use Rattle.key_types.specs.Segments as segments
 use Rattle.key_types.proofs.ToldLemmas.{told-some, told-none}
 use Rattle.context_map.specs.Parts.{with_factor}
 use Rattle.context_map.specs.declared.entrance.Entrance.{Entrance}
-use Rattle.context_map.specs.Maps.{is_nameless, ArePartsOf, entrance_of, place_by, name_if}
-use Rattle.context_map.proofs.PartsLemmas.{chainless}
+use Rattle.span_cover.specs.Asked.{asks}
+use Rattle.span_cover.proofs.AskedLemmas.{asks-all}
+use Rattle.context_map.specs.Asked.{IsMapOver}
+use Rattle.context_map.specs.Maps.{is_nameless, ArePartsOf, IsMap, Shown, entrance_of, entry_of, place_by, name_if, wanted, wanted_over}
+use Rattle.context_map.proofs.PartsLemmas.{chainless, place-asked, place-left}
 
 inner : {X : Type 0} (x y : X) → Some x ≡ Some y → x ≡ y
 inner x y is = cc
@@ -74,16 +77,56 @@ unkeyed keys no_line f None none held same function = refl
 unkeyed keys no_line f (Some s) none held same function = absurd (cc)
 unkeyed keys (has_key key) f span none held same function = absurd (cc)
 
-pub tells : (rows : ℕ → ℕ → Option LineAndDisc) (base : Bool) (members : List Member) (keys : List Key) (parts : List Seg) (spans : List Span) (a : ℕ) (id : Option KeyId) (function : Option ℕ) → ArePartsOf rows base members keys parts spans
+tells-by : (rows : ℕ → ℕ → Option LineAndDisc) (base : Bool) (members : List Member) (keys : List Key) (parts : List Seg) (spans : List Span) (a : ℕ) (id : Option KeyId) (function : Option ℕ) → AllByRecursion (segments.IsGiven keys) parts
+    → segments.told keys parts a ≡ wanted rows base members a → is_some (owner_at spans a) ≡ is_nameless (place_at rows base members a)
     → segments.key_told parts a ≡ id → function_at members a ≡ function → Tells keys (place_at rows base members a) (place_by id function (owner_at spans a))
-tells rows base members keys parts spans a (Some id) function are is at =
-    let told = told-some keys parts a id are.given is in
-    let place = keyed (place_at rows base members a) (factor_at rows base members a) told.factor told.key (sym (are.tell a) ∙ told.both) in
+tells-by rows base members keys parts spans a (Some id) function given tell unnamed is at =
+    let told = told-some keys parts a id given is in
+    let place = keyed (place_at rows base members a) (factor_at rows base members a) told.factor told.key (sym tell ∙ told.both) in
     subst (λ p. Tells keys p (place_by (Some id) function (owner_at spans a))) (sym place) (id, refl, told.number)
-tells rows base members keys parts spans a None None are is at =
+tells-by rows base members keys parts spans a None None given tell unnamed is at =
     subst (λ p. Tells keys p (place_by None None (owner_at spans a))) (sym (out-function rows base members a at)) refl
-tells rows base members keys parts spans a None (Some f) are is at =
-    unkeyed keys (place_at rows base members a) (factor_at rows base members a) (owner_at spans a) (sym (are.tell a) ∙ told-none keys parts a is) (in-function rows base members a f at) (are.unnamed a) f
+tells-by rows base members keys parts spans a None (Some f) given tell unnamed is at =
+    unkeyed keys (place_at rows base members a) (factor_at rows base members a) (owner_at spans a) (sym tell ∙ told-none keys parts a is) (in-function rows base members a f at) unnamed f
+
+pub wanted-asked : (marks : List Bool) (rows : ℕ → ℕ → Option LineAndDisc) (base : Bool) (members : List Member) (a : ℕ) → asks marks (function_at members a) ≡ true → wanted_over marks rows base members a ≡ wanted rows base members a
+wanted-asked marks rows base members a asked = ap (λ p. with_factor p (factor_at rows base members a)) (place-asked marks rows base members a asked)
+
+pub tells : (marks : List Bool) (rows : ℕ → ℕ → Option LineAndDisc) (base : Bool) (members : List Member) (keys : List Key) (parts : List Seg) (spans : List Span) (a : ℕ) (function : Option ℕ) → ArePartsOf marks rows base members keys parts spans
+    → asks marks (function_at members a) ≡ true → function_at members a ≡ function → Tells keys (place_at rows base members a) (place_by (segments.key_told parts a) function (owner_at spans a))
+tells marks rows base members keys parts spans a function are asked at =
+    tells-by rows base members keys parts spans a (segments.key_told parts a) function are.given
+    (are.tell a ∙ wanted-asked marks rows base members a asked)
+    (are.unnamed a ∙ ap is_nameless (place-asked marks rows base members a asked)) refl at
+
+-- where an address is not asked for there is no segment
+pub no-segment : (marks : List Bool) (rows : ℕ → ℕ → Option LineAndDisc) (base : Bool) (members : List Member) (keys : List Key) (parts : List Seg) (spans : List Span) (a : ℕ) → ArePartsOf marks rows base members keys parts spans
+    → asks marks (function_at members a) ≡ false → segments.key_told parts a ≡ None
+no-segment marks rows base members keys parts spans a are unasked = by (segments.key_told parts a) refl
+  where
+    untold : segments.told keys parts a ≡ None
+    untold = are.tell a ∙ ap (λ p. with_factor p (factor_at rows base members a)) (place-left marks rows base members a unasked)
+
+    no_key : {X : Type 0} (x : X) → Some x ≡ None → ⊥
+    no_key x is = cc
+
+    by : (id : Option KeyId) → segments.key_told parts a ≡ id → segments.key_told parts a ≡ None
+    by None is = is
+    by (Some id) is = let told = told-some keys parts a id are.given is in absurd (no_key _ (sym told.both ∙ untold))
+
+-- a map of members by functions, of which all are asked for
+pub over-all : (rows : ℕ → ℕ → Option LineAndDisc) (base : Bool) (members : List Member) (keys : List Key) (shown : Shown) (marks : List Bool) → marks ≡ [] → IsMapOver marks rows base members keys shown → IsMap rows base members keys shown
+over-all rows base members keys shown marks none map = record {
+  place = λ a. map.place a (all a);
+  function = map.function;
+  entry = map.entry;
+  ascend = map.ascend;
+  given = map.given;
+  tell = λ a. map.tell a (all a);
+}
+  where
+    all : (a : ℕ) → asks marks (function_at members a) ≡ true
+    all a = ap (λ ms. asks ms (function_at members a)) none ∙ asks-all (function_at members a)
 
 -- entrances
 entered : (a : ℕ) (member : Member) → name_if a (entrance_of member) ≡ (if is_entered_at a member.pieces then member.name else None)
@@ -130,11 +173,8 @@ get-map f [] i = refl
 get-map f (x ∷ xs) zero = refl
 get-map f (x ∷ xs) (suc i) = get-map f xs i
 
-abbrev named_at : ℕ → List Entrance → Option ℕ → Option NameId
-named_at a entrances function = option_and_then (λ f. option_and_then (name_if a) (slice_get entrances f)) function
-
 entry-by : (members : List Member) (a : ℕ) (function : Option (ℕ × Member)) → function_of members a ≡ function
-    → named_at a (map entrance_of members) (option_map (λ f. f.0) function) ≡ option_and_then (λ f. if is_entered_at a f.1.pieces then f.1.name else None) function
+    → entry_of (map entrance_of members) a (option_map (λ f. f.0) function) ≡ option_and_then (λ f. if is_entered_at a f.1.pieces then f.1.name else None) function
 entry-by members a None is = refl
 entry-by members a (Some f) is =
     let there = found-at (λ m. holds_at 0 a m.1) 0 members f is in
@@ -144,6 +184,6 @@ entry-by members a (Some f) is =
     ∙ entered a f.1
 
 pub entry : (members : List Member) (a : ℕ) (entrances : List Entrance) (function : Option ℕ) → entrances ≡ map entrance_of members → function ≡ function_at members a
-    → named_at a entrances function ≡ entry_name members a
+    → entry_of entrances a function ≡ entry_name members a
 entry members a entrances function are is =
-    ap (λ es. named_at a es function) are ∙ ap (named_at a (map entrance_of members)) is ∙ entry-by members a (function_of members a) refl
+    ap (λ es. entry_of es a function) are ∙ ap (entry_of (map entrance_of members) a) is ∙ entry-by members a (function_of members a) refl

@@ -1,8 +1,8 @@
 -- The spans of innermost members, taken one by one.
-use Rattle.std.proofs.Common.{◌≡◌, ℕ, ◌+◌, ◌-◌, ◌^◌, ◌<◌, ◌≤◌, Bool, true, false, List, [], ◌∷◌, ◌++◌, Option, None, Some, refl, sym, ap, ◌∙◌, arith, subst, length, map, inl, inr}
+use Rattle.std.proofs.Common.{◌≡◌, ℕ, ◌-◌, ◌^◌, ◌<◌, ◌≤◌, Bool, true, false, List, [], ◌∷◌, ◌++◌, Option, None, Some, refl, sym, ap, ◌∙◌, arith, subst, length, map, inl, inr}
 use Rattle.std.specs.Prelude.{option_and_then, ◌==◌, if◌then◌else◌}
 use Rattle.std.specs.Option.{option_map, option_or, is_some}
-use Rattle.std.specs.List.{AllByRecursion, last_or, enumerate_from}
+use Rattle.std.specs.List.{last_or}
 use Rattle.address_spans.specs.declared.span.Span.{Span}
 use Rattle.address_spans.specs.Spans.{AreBetween, AreDisjoint, owner_at}
 use Rattle.address_spans.proofs.OverlayLemmas.{either}
@@ -10,11 +10,11 @@ use Rattle.address_spans.proofs.SpanLemmas.{held, missed-behind, owner-hit, owne
 use Rattle.key_types.specs.declared.key.Key.{Key}
 use Rattle.key_types.specs.declared.places.Seg.{Seg}
 use Rattle.chain_model.specs.declared.member.Member.{Member}
-use Rattle.chain_model.specs.Chains.{numbered, chain, innermost, path}
-use Rattle.chain_model.specs.Pass.{chain_from}
+use Rattle.chain_model.specs.Chains.{chain, function_at, innermost, path}
 use Rattle.chain_model.specs.Places.{outside, no_line, has_key, LineAndDisc, place_of, row_of, place_at, factor_at, key}
 use Rattle.chain_model.proofs.ChainLemmas.{are_paths}
-use Rattle.chain_model.proofs.PassLemmas.{left, taken, passed, step, chain-left, chain-taken, chain-passed, one_pass}
+use Rattle.span_cover.specs.Asked.{asks, innermost_asked}
+use Rattle.span_cover.proofs.AskedLemmas.{asked-there}
 use Rattle.context_map.specs.declared.named.Named.{Named}
 use Rattle.context_map.specs.declared.context.Context.{Context}
 use Rattle.context_map.specs.Contexts.{place_in, IsContext}
@@ -24,31 +24,7 @@ use Rattle.context_map.specs.Parts.{line_and_disc, with_factor, factor_of, shown
 use Rattle.context_map.proofs.PartLemmas.{Kept-same, Kept-more}
 use Rattle.line_model.specs.Rows.{Sequence}
 use Rattle.row_table.specs.Told.{told}
-use Rattle.context_map.specs.Maps.{table_of, rows_of, wanted, is_nameless, unnamed, ArePartsOf}
-
--- the numbers of a chain are those of members
-chain-all : (k a bound : ℕ) (xs : List (ℕ × Member)) → AllByRecursion (λ m. m.0 < bound) xs → AllByRecursion (λ m. m.0 < bound) (chain_from k a xs)
-chain-all k a bound [] all = tt
-chain-all k a bound (x ∷ xs) all = elim (step k a x.1) [
-  | left less ↦ subst (λ (ms : List (ℕ × Member)). AllByRecursion (λ m. m.0 < bound) ms) (sym (chain-left k a x xs less)) tt
-  | taken less held ↦ subst (λ (ms : List (ℕ × Member)). AllByRecursion (λ m. m.0 < bound) ms) (sym (chain-taken k a x xs less held)) (all.0, chain-all (k + 1) a bound xs all.1)
-  | passed less missed ↦ subst (λ (ms : List (ℕ × Member)). AllByRecursion (λ m. m.0 < bound) ms) (sym (chain-passed k a x xs less missed)) (chain-all k a bound xs all.1)
-]
-
-numbers-all : (n bound : ℕ) (xs : List Member) → n + length xs ≤ bound → AllByRecursion (λ m. m.0 < bound) (enumerate_from n xs)
-numbers-all n bound [] room = tt
-numbers-all n bound (x ∷ xs) room = (omega (arith, room), numbers-all (n + 1) bound xs (omega (arith, room)))
-
-last-all : (bound : ℕ) (o : Option (ℕ × Member)) (xs : List (ℕ × Member)) (n : ℕ) → ((m : ℕ × Member) → o ≡ Some m → m.0 < bound) → AllByRecursion (λ m. m.0 < bound) xs → option_map (λ m. m.0) (last_or o xs) ≡ Some n → n < bound
-last-all bound None [] n first all is = absurd (cc)
-last-all bound (Some m) [] n first all is = let e : m.0 ≡ n = cc in omega (arith, e, first m refl)
-last-all bound o (x ∷ xs) n first all is = last-all bound (Some x) xs n (λ m same. let e : x ≡ m = cc in subst (λ (y : ℕ × Member). y.0 < bound) e all.0) all.1 is
-
-pub innermost-there : (members : List Member) (a n : ℕ) → innermost members a ≡ Some n → n < length members
-innermost-there members a n is =
-    last-all (length members) None (chain members a) n (λ m same. absurd (cc))
-    (subst (λ (ms : List (ℕ × Member)). AllByRecursion (λ m. m.0 < length members) ms) (sym (one_pass members a))
-    (chain-all 0 a (length members) (numbered members) (numbers-all 0 (length members) members (omega arith)))) is
+use Rattle.context_map.specs.Maps.{table_of, rows_of, place_over, wanted_over, is_nameless, unnamed, ArePartsOf}
 
 -- without an innermost member there is no chain
 last-some : (x : ℕ × Member) (xs : List (ℕ × Member)) → option_map (λ (m : ℕ × Member). m.0) (last_or (Some x) xs) ≡ None → ⊥
@@ -62,14 +38,11 @@ no_last (x ∷ xs) is = absurd (last-some x xs is)
 pub chainless : (rows : ℕ → ℕ → Option LineAndDisc) (base : Bool) (members : List Member) (a : ℕ) → chain members a ≡ [] → place_at rows base members a ≡ outside
 chainless rows base members a none = ap (λ (ms : List (ℕ × Member)). place_of base (map (λ m. m.1) ms) (row_of rows (map (λ m. m.1) ms) a)) none
 
-pub out-place : (rows : ℕ → ℕ → Option LineAndDisc) (base : Bool) (members : List Member) (a : ℕ) → innermost members a ≡ None → place_at rows base members a ≡ outside
+out-place : (rows : ℕ → ℕ → Option LineAndDisc) (base : Bool) (members : List Member) (a : ℕ) → innermost members a ≡ None → place_at rows base members a ≡ outside
 out-place rows base members a none = chainless rows base members a (no_last (chain members a) none)
 
-pub out-wanted : (rows : ℕ → ℕ → Option LineAndDisc) (base : Bool) (members : List Member) (a : ℕ) → innermost members a ≡ None → wanted rows base members a ≡ None
-out-wanted rows base members a none = ap (λ p. with_factor p (factor_at rows base members a)) (out-place rows base members a none)
-
 -- with one its context says all
-pub in-place : (rows : ℕ → ℕ → Option LineAndDisc) (base : Bool) (members : List Member) (a n : ℕ) (context : Context) → innermost members a ≡ Some n → IsContext members base n context
+in-place : (rows : ℕ → ℕ → Option LineAndDisc) (base : Bool) (members : List Member) (a n : ℕ) (context : Context) → innermost members a ≡ Some n → IsContext members base n context
     → place_at rows base members a ≡ place_in base context.named (rows context.unit a)
 in-place rows base members a n context is all =
     ap (λ (ms : List (ℕ × Member)). place_of base (map (λ m. m.1) ms) (row_of rows (map (λ m. m.1) ms) a)) (are_paths members a n is)
@@ -82,27 +55,57 @@ in-factor rows base members a n context is all =
     ap (λ (ms : List (ℕ × Member)). factor_of base (row_of rows (map (λ m. m.1) ms) a)) (are_paths members a n is)
     ∙ ap (factor_of base) (all.row rows a)
 
-pub in-wanted : (rows : ℕ → ℕ → Option LineAndDisc) (base : Bool) (members : List Member) (a n : ℕ) (context : Context) → innermost members a ≡ Some n → IsContext members base n context
-    → wanted rows base members a ≡ shown base context.named (rows context.unit a)
-in-wanted rows base members a n context is all =
-    ap (λ p. with_factor p (factor_at rows base members a)) (in-place rows base members a n context is all)
-    ∙ ap (with_factor (place_in base context.named (rows context.unit a))) (in-factor rows base members a n context is all)
+-- the same for the functions that are asked for
+asked-some : (marks : List Bool) (members : List Member) (a n : ℕ) → innermost_asked marks members a ≡ Some n → (asks marks (function_at members a) ≡ true) × (innermost members a ≡ Some n)
+asked-some marks members a n is = by (asks marks (function_at members a)) refl is
+  where
+    by : (t : Bool) → asks marks (function_at members a) ≡ t → (if t then innermost members a else None) ≡ Some n → (asks marks (function_at members a) ≡ true) × (innermost members a ≡ Some n)
+    by true asked is = (asked, is)
+    by false asked is = absurd (cc)
+
+pub place-asked : (marks : List Bool) (rows : ℕ → ℕ → Option LineAndDisc) (base : Bool) (members : List Member) (a : ℕ) → asks marks (function_at members a) ≡ true → place_over marks rows base members a ≡ place_at rows base members a
+place-asked marks rows base members a asked = ap (λ t. if t then place_at rows base members a else outside) asked
+
+pub place-left : (marks : List Bool) (rows : ℕ → ℕ → Option LineAndDisc) (base : Bool) (members : List Member) (a : ℕ) → asks marks (function_at members a) ≡ false → place_over marks rows base members a ≡ outside
+place-left marks rows base members a unasked = ap (λ t. if t then place_at rows base members a else outside) unasked
+
+over-out-place : (marks : List Bool) (rows : ℕ → ℕ → Option LineAndDisc) (base : Bool) (members : List Member) (a : ℕ) → innermost_asked marks members a ≡ None → place_over marks rows base members a ≡ outside
+over-out-place marks rows base members a none = by (asks marks (function_at members a)) none
+  where
+    by : (t : Bool) → (if t then innermost members a else None) ≡ None → (if t then place_at rows base members a else outside) ≡ outside
+    by true none = out-place rows base members a none
+    by false none = refl
+
+over-out-wanted : (marks : List Bool) (rows : ℕ → ℕ → Option LineAndDisc) (base : Bool) (members : List Member) (a : ℕ) → innermost_asked marks members a ≡ None → wanted_over marks rows base members a ≡ None
+over-out-wanted marks rows base members a none = ap (λ p. with_factor p (factor_at rows base members a)) (over-out-place marks rows base members a none)
+
+over-in-place : (marks : List Bool) (rows : ℕ → ℕ → Option LineAndDisc) (base : Bool) (members : List Member) (a n : ℕ) (context : Context) → innermost_asked marks members a ≡ Some n → IsContext members base n context
+    → place_over marks rows base members a ≡ place_in base context.named (rows context.unit a)
+over-in-place marks rows base members a n context is all =
+    let some = asked-some marks members a n is in
+    place-asked marks rows base members a some.0 ∙ in-place rows base members a n context some.1 all
+
+over-in-wanted : (marks : List Bool) (rows : ℕ → ℕ → Option LineAndDisc) (base : Bool) (members : List Member) (a n : ℕ) (context : Context) → innermost_asked marks members a ≡ Some n → IsContext members base n context
+    → wanted_over marks rows base members a ≡ shown base context.named (rows context.unit a)
+over-in-wanted marks rows base members a n context is all =
+    ap (λ p. with_factor p (factor_at rows base members a)) (over-in-place marks rows base members a n context is all)
+    ∙ ap (with_factor (place_in base context.named (rows context.unit a))) (in-factor rows base members a n context (asked-some marks members a n is).1 all)
 
 -- how far the spans were taken: up to an address, with those that are left
-pub record PartsSoFar (rows : ℕ → ℕ → Option LineAndDisc) (base : Bool) (members : List Member) (most : ℕ) (left : List Span) (keys more : List Key) (parts : List Seg) (spans : List Span) (bound : ℕ) : Type 0 where
-  pub tell : TellBelow bound more (wanted rows base members) parts
+pub record PartsSoFar (marks : List Bool) (rows : ℕ → ℕ → Option LineAndDisc) (base : Bool) (members : List Member) (most : ℕ) (left : List Span) (keys more : List Key) (parts : List Seg) (spans : List Span) (bound : ℕ) : Type 0 where
+  pub tell : TellBelow bound more (wanted_over marks rows base members) parts
   pub ascend : AreBetween 0 bound spans
-  pub nameless : (a : ℕ) → a < bound → is_some (owner_at spans a) ≡ is_nameless (place_at rows base members a)
+  pub nameless : (a : ℕ) → a < bound → is_some (owner_at spans a) ≡ is_nameless (place_over marks rows base members a)
   pub left_ascend : AreBetween bound (2 ^ 64 - 1) left
-  pub owners : (a : ℕ) → bound ≤ a → owner_at left a ≡ innermost members a
+  pub owners : (a : ℕ) → bound ≤ a → owner_at left a ≡ innermost_asked marks members a
   pub used : HaveSegments (length keys) more parts
   pub kept : Kept keys more
   pub room : length keys ≤ most → length more ≤ most
 
-pub PartsSoFar-none : (rows : ℕ → ℕ → Option LineAndDisc) (base : Bool) (members : List Member) (most : ℕ) (cover : List Span) (keys : List Key) (parts : List Seg) (spans : List Span) → AreDisjoint cover
-    → ((a : ℕ) → owner_at cover a ≡ innermost members a) → parts ≡ [] → spans ≡ [] → PartsSoFar rows base members most cover keys keys parts spans 0
-PartsSoFar-none rows base members most cover keys parts spans disjoint owners no_parts no_spans = record {
-  tell = subst (λ (ps : List Seg). TellBelow 0 keys (wanted rows base members) ps) (sym no_parts) (TellBelow-start keys (wanted rows base members));
+pub PartsSoFar-none : (marks : List Bool) (rows : ℕ → ℕ → Option LineAndDisc) (base : Bool) (members : List Member) (most : ℕ) (cover : List Span) (keys : List Key) (parts : List Seg) (spans : List Span) → AreDisjoint cover
+    → ((a : ℕ) → owner_at cover a ≡ innermost_asked marks members a) → parts ≡ [] → spans ≡ [] → PartsSoFar marks rows base members most cover keys keys parts spans 0
+PartsSoFar-none marks rows base members most cover keys parts spans disjoint owners no_parts no_spans = record {
+  tell = subst (λ (ps : List Seg). TellBelow 0 keys (wanted_over marks rows base members) ps) (sym no_parts) (TellBelow-start keys (wanted_over marks rows base members));
   ascend = subst (λ (ss : List Span). AreBetween 0 0 ss) (sym no_spans) (omega arith);
   nameless = λ a below. absurd (omega (arith, below));
   left_ascend = disjoint;
@@ -130,14 +133,14 @@ unnamed-owner base (Some named) (Some row) span a low high = sym (lined (row.0 =
     lined true = refl
     lined false = refl
 
-pub PartsSoFar-more : (rows : ℕ → ℕ → Option LineAndDisc) (base : Bool) (members : List Member) (most : ℕ) (span : Span) (rest : List Span) (keys more all : List Key) (parts longer : List Seg) (spans wider : List Span) (bound : ℕ) (context : Context)
-    → PartsSoFar rows base members most (span ∷ rest) keys more parts spans bound → IsContext members base span.owner context
+pub PartsSoFar-more : (marks : List Bool) (rows : ℕ → ℕ → Option LineAndDisc) (base : Bool) (members : List Member) (most : ℕ) (span : Span) (rest : List Span) (keys more all : List Key) (parts longer : List Seg) (spans wider : List Span) (bound : ℕ) (context : Context)
+    → PartsSoFar marks rows base members most (span ∷ rest) keys more parts spans bound → IsContext members base span.owner context
     → Extends span.lo span.hi (λ a. shown base context.named (rows context.unit a)) more all parts longer → wider ≡ spans ++ unnamed context.named span → KeepUp more all parts longer → Kept more all → (length more ≤ most → length all ≤ most)
-    → PartsSoFar rows base members most rest keys all longer wider span.hi
-PartsSoFar-more rows base members most span rest keys more all parts longer spans wider bound context so_far is extended pushed keep_up kept room = record {
-  tell = extended (wanted rows base members)
-      (TellBelow-gap bound span.lo more (wanted rows base members) parts so_far.tell low (λ a from below. out-wanted rows base members a (gap a from below)))
-      (λ a from below. in-wanted rows base members a span.owner context (inside a from below) is);
+    → PartsSoFar marks rows base members most rest keys all longer wider span.hi
+PartsSoFar-more marks rows base members most span rest keys more all parts longer spans wider bound context so_far is extended pushed keep_up kept room = record {
+  tell = extended (wanted_over marks rows base members)
+      (TellBelow-gap bound span.lo more (wanted_over marks rows base members) parts so_far.tell low (λ a from below. over-out-wanted marks rows base members a (gap a from below)))
+      (λ a from below. over-in-wanted marks rows base members a span.owner context (inside a from below) is);
   ascend = subst (λ (ss : List Span). AreBetween 0 span.hi ss) (sym pushed)
       (AreBetween-append 0 span.lo span.hi spans (unnamed context.named span) (AreBetween-wider spans 0 bound span.lo so_far.ascend low) (AreBetween-unnamed context.named span full));
   nameless = λ a below. elim (either a span.lo) [
@@ -146,13 +149,13 @@ PartsSoFar-more rows base members most span rest keys more all parts longer span
         ∙ ap is_some (owner-append spans (unnamed context.named span) a ∙ ap (option_or (owner_at spans a)) (owner-before span.lo span.hi a (unnamed context.named span) (AreBetween-unnamed context.named span full) before) ∙ or_none (owner_at spans a))
         ∙ elim (either a bound) [
           | inl lower ↦ so_far.nameless a lower
-          | inr high ↦ none-some (owner_at spans a) (owner-behind 0 bound a spans so_far.ascend high) ∙ sym (ap is_nameless (out-place rows base members a (gap a high before)))
+          | inr high ↦ none-some (owner_at spans a) (owner-behind 0 bound a spans so_far.ascend high) ∙ sym (ap is_nameless (over-out-place marks rows base members a (gap a high before)))
         ]
     | inr from ↦
         ap (λ (ss : List Span). is_some (owner_at ss a)) pushed
         ∙ ap is_some (owner-append spans (unnamed context.named span) a ∙ ap (λ o. option_or o (owner_at (unnamed context.named span) a)) (owner-behind 0 bound a spans so_far.ascend (omega (arith, low, from))))
         ∙ unnamed-owner base context.named (rows context.unit a) span a from below
-        ∙ sym (ap is_nameless (in-place rows base members a span.owner context (inside a from below) is))
+        ∙ sym (ap is_nameless (over-in-place marks rows base members a span.owner context (inside a from below) is))
   ];
   left_ascend = so_far.left_ascend.2;
   owners = λ a from. sym (owner-miss span rest a (missed-behind span a from)) ∙ so_far.owners a (omega (arith, low, full, from));
@@ -167,39 +170,39 @@ PartsSoFar-more rows base members most span rest keys more all parts longer span
     full : span.lo < span.hi
     full = so_far.left_ascend.1
 
-    gap : (a : ℕ) → bound ≤ a → a < span.lo → innermost members a ≡ None
+    gap : (a : ℕ) → bound ≤ a → a < span.lo → innermost_asked marks members a ≡ None
     gap a from below = sym (so_far.owners a from) ∙ owner-before span.lo (2 ^ 64 - 1) a (span ∷ rest) (omega arith, full, so_far.left_ascend.2) below
 
-    inside : (a : ℕ) → span.lo ≤ a → a < span.hi → innermost members a ≡ Some span.owner
+    inside : (a : ℕ) → span.lo ≤ a → a < span.hi → innermost_asked marks members a ≡ Some span.owner
     inside a from below = sym (so_far.owners a (omega (arith, low, from))) ∙ owner-hit span rest a (held span a from below)
 
     or_none : (o : Option ℕ) → option_or o None ≡ o
     or_none None = refl
     or_none (Some x) = refl
 
-pub PartsSoFar-all : (rows : ℕ → ℕ → Option LineAndDisc) (base : Bool) (members : List Member) (most : ℕ) (rest : List Span) (keys more : List Key) (parts : List Seg) (spans : List Span) (bound : ℕ)
-    → PartsSoFar rows base members most rest keys more parts spans bound → rest ≡ [] → ArePartsOf rows base members more parts spans
-PartsSoFar-all rows base members most rest keys more parts spans bound so_far none = record {
+pub PartsSoFar-all : (marks : List Bool) (rows : ℕ → ℕ → Option LineAndDisc) (base : Bool) (members : List Member) (most : ℕ) (rest : List Span) (keys more : List Key) (parts : List Seg) (spans : List Span) (bound : ℕ)
+    → PartsSoFar marks rows base members most rest keys more parts spans bound → rest ≡ [] → ArePartsOf marks rows base members more parts spans
+PartsSoFar-all marks rows base members most rest keys more parts spans bound so_far none = record {
   ascend = AreBetween-wider _ 0 bound (2 ^ 64 - 1) so_far.tell.ascend end;
   given = so_far.tell.given;
-  tell = TellBelow-all bound more (wanted rows base members) parts so_far.tell (λ a from. out-wanted rows base members a (out a from));
+  tell = TellBelow-all bound more (wanted_over marks rows base members) parts so_far.tell (λ a from. over-out-wanted marks rows base members a (out a from));
   disjoint = AreBetween-wider spans 0 bound (2 ^ 64 - 1) so_far.ascend end;
   unnamed = λ a. elim (either a bound) [
     | inl lower ↦ so_far.nameless a lower
-    | inr high ↦ none-some (owner_at spans a) (owner-behind 0 bound a spans so_far.ascend high) ∙ sym (ap is_nameless (out-place rows base members a (out a high)))
+    | inr high ↦ none-some (owner_at spans a) (owner-behind 0 bound a spans so_far.ascend high) ∙ sym (ap is_nameless (over-out-place marks rows base members a (out a high)))
   ];
 }
   where
     end : bound ≤ 2 ^ 64 - 1
     end = reach bound (2 ^ 64 - 1) rest so_far.left_ascend
 
-    out : (a : ℕ) → bound ≤ a → innermost members a ≡ None
+    out : (a : ℕ) → bound ≤ a → innermost_asked marks members a ≡ None
     out a from = sym (so_far.owners a from) ∙ ap (λ (ss : List Span). owner_at ss a) none
 
-pub PartsSoFar-there : (rows : ℕ → ℕ → Option LineAndDisc) (base : Bool) (members : List Member) (most : ℕ) (span : Span) (rest : List Span) (keys more : List Key) (parts : List Seg) (spans : List Span) (bound : ℕ)
-    → PartsSoFar rows base members most (span ∷ rest) keys more parts spans bound → span.owner < length members
-PartsSoFar-there rows base members most span rest keys more parts spans bound so_far =
-    innermost-there members span.lo span.owner (sym (so_far.owners span.lo so_far.left_ascend.0) ∙ owner-hit span rest span.lo (held span span.lo (omega arith) so_far.left_ascend.1))
+pub PartsSoFar-there : (marks : List Bool) (rows : ℕ → ℕ → Option LineAndDisc) (base : Bool) (members : List Member) (most : ℕ) (span : Span) (rest : List Span) (keys more : List Key) (parts : List Seg) (spans : List Span) (bound : ℕ)
+    → PartsSoFar marks rows base members most (span ∷ rest) keys more parts spans bound → span.owner < length members
+PartsSoFar-there marks rows base members most span rest keys more parts spans bound so_far =
+    asked-there marks members span.lo span.owner (sym (so_far.owners span.lo so_far.left_ascend.0) ∙ owner-hit span rest span.lo (held span span.lo (omega arith) so_far.left_ascend.1))
 
 -- the rows of a unit with and without a table
 pub show-nameless : (base : Bool) (named : Option Named) (row : Option LineAndDisc) → named ≡ None → shown base named row ≡ None

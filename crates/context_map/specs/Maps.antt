@@ -15,7 +15,8 @@ use Rattle.row_table.specs.Told.{told}
 use Rattle.chain_model.specs.declared.member.Member.{Member}
 use Rattle.chain_model.specs.Chains.{function_at}
 use Rattle.chain_model.specs.Places as places
-use Rattle.chain_model.specs.Places.{Place, nameless, LineAndDisc, Tells}
+use Rattle.chain_model.specs.Places.{Place, outside, nameless, LineAndDisc, Tells}
+use Rattle.span_cover.specs.Asked.{asks}
 use Rattle.span_cover.specs.Stretches as stretches
 use Rattle.key_types.specs.Segments as segments
 use Rattle.context_map.specs.declared.named.Named.{Named}
@@ -36,6 +37,16 @@ abbrev pub wanted : (ℕ → ℕ → Option LineAndDisc) → Bool → List Membe
 wanted rows base members address =
     with_factor (places.place_at rows base members address) (places.factor_at rows base members address)
 
+-- The place of an address, by the functions that are asked for: where it is not asked for it counts as outside.
+abbrev pub place_over : List Bool → (ℕ → ℕ → Option LineAndDisc) → Bool → List Member → ℕ → Place
+place_over marks rows base members address =
+    if asks marks (function_at members address) then places.place_at rows base members address else outside
+
+-- The key and the factor of an address whose place is asked for.
+abbrev pub wanted_over : List Bool → (ℕ → ℕ → Option LineAndDisc) → Bool → List Member → ℕ → Option (Key × ℕ)
+wanted_over marks rows base members address =
+    with_factor (place_over marks rows base members address) (places.factor_at rows base members address)
+
 -- The place is nameless.
 abbrev pub is_nameless : Place → Bool
 is_nameless nameless = true
@@ -46,15 +57,16 @@ abbrev pub unnamed : Option Named → Span → List Span
 unnamed None span = span ∷ []
 unnamed (Some named) span = []
 
--- Segments tell the keys and factors of all addresses, and spans hold those whose place is nameless.
-pub record ArePartsOf (rows : ℕ → ℕ → Option LineAndDisc) (base : Bool) (members : List Member) (keys : List Key)
-    (parts : List Seg) (nameless : List Span) : Type 0 where
+-- Segments tell the keys and factors of all addresses that are asked for, and spans hold those of them whose place is
+-- nameless.
+pub record ArePartsOf (marks : List Bool) (rows : ℕ → ℕ → Option LineAndDisc) (base : Bool) (members : List Member)
+    (keys : List Key) (parts : List Seg) (nameless : List Span) : Type 0 where
   pub ascend : segments.AreSegments parts
   pub given : AllByRecursion (segments.IsGiven keys) parts
-  pub tell : (address : ℕ) → segments.told keys parts address ≡ wanted rows base members address
+  pub tell : (address : ℕ) → segments.told keys parts address ≡ wanted_over marks rows base members address
   pub disjoint : AreDisjoint nameless
   pub unnamed : (address : ℕ)
-      → is_some (owner_at nameless address) ≡ is_nameless (places.place_at rows base members address)
+      → is_some (owner_at nameless address) ≡ is_nameless (place_over marks rows base members address)
 
 -- Where a member is entered, and its name. Without pieces it is not entered.
 abbrev pub entrance_of : Member → Entrance
@@ -89,11 +101,14 @@ place_told shown address = place_by
 abbrev pub name_if : ℕ → Entrance → Option NameId
 name_if address entrance = if entrance.address == address then entrance.name else None
 
+-- The name of a function, by its number, where it is entered at an address.
+abbrev pub entry_of : List Entrance → ℕ → Option ℕ → Option NameId
+entry_of entrances address function =
+    option_and_then (λ number. option_and_then (name_if address) (slice_get entrances number)) function
+
 -- The name of the function that a map tells to be entered at an address.
 abbrev pub entry_told : Shown → ℕ → Option NameId
-entry_told shown address = option_and_then
-    (λ function. option_and_then (name_if address) (slice_get shown.entrances function))
-    (stretches.function_at shown.stretches address)
+entry_told shown address = entry_of shown.entrances address (stretches.function_at shown.stretches address)
 
 -- A map of members: at each address it tells the place, the function and the name of what is entered, and its segments
 -- hold exactly the addresses with a key, each with the number of its key and its factor.

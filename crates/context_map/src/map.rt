@@ -1,8 +1,10 @@
 ghost use Rattle.std.specs.Prelude.{◌≡◌, ◌≤◌, ◌<◌, ◌+◌, ◌^◌, length, IfOk};
 ghost use Rattle.key_types.specs.Segments.{HaveSegments, Kept};
+ghost use Rattle.context_map.specs.Asked.{AreFunctions, IsMapOver};
 ghost use Rattle.context_map.specs.Maps.{IsMap, rows_of};
 
-use crate::entrance::{Entrance, entrances_of};
+use crate::asked::Asked;
+use crate::functions::Functions;
 use crate::parts::parts_of;
 use crate::rules::Rules;
 use address_spans::{Span, owner_at};
@@ -10,7 +12,6 @@ use chain_model::Member;
 use key_types::{Keys, NameId, Places, Seg, Where, key_at};
 use refusal::NoMemory;
 use row_table::RowTable;
-use span_cover::{Stretches, cover, function_cover};
 use std::alloc::Global;
 use std::marker::Model;
 
@@ -22,8 +23,7 @@ const MOST_ADDED: u32 = 1 << 28;
 pub struct Map {
     segments: Vec<Seg>,
     nameless: Vec<Span>,
-    stretches: Stretches,
-    entrances: Vec<Entrance>,
+    functions: Functions,
 }
 
 impl Model for Map {
@@ -36,8 +36,8 @@ impl Model for Map {
     ghost view = { λ m. record {
       segments = m.segments.items;
       nameless = m.nameless.items;
-      stretches = m.stretches;
-      entrances = m.entrances.items;
+      stretches = m.functions.stretches;
+      entrances = m.functions.entrances;
     } };
 
     ghost invariant = { λ m. AreSegments m.segments.items × AreDisjoint m.nameless.items };
@@ -72,7 +72,7 @@ impl Places for Map {
         if let Some(key) = key_at(&self.segments, address) {
             return Where::At(key);
         }
-        if self.stretches.function(address).is_none() {
+        if self.functions.at(address).is_none() {
             return Where::Outside;
         }
         match owner_at(&self.nameless, address) {
@@ -82,17 +82,11 @@ impl Places for Map {
     }
 
     fn stretch(&self, address: u64) -> Option<u32> {
-        self.stretches.number(address)
+        self.functions.stretch(address)
     }
 
     fn entry_name(&self, address: u64) -> Option<NameId> {
-        let function = self.stretches.function(address)?;
-        let entrance = self.entrances.get(function)?;
-        if entrance.address == address {
-            entrance.name
-        } else {
-            None
-        }
+        self.functions.entry_name(address)
     }
 }
 
@@ -114,18 +108,42 @@ pub fn make(
     ensures kept { Kept keys.old keys.new }
     ensures added { length keys.new ≤ length keys.old + 2 ^ 28 }
 {
+    let functions = Functions::make(alloc, members)?;
+    let asked = Asked::all(alloc);
+    make_asked(alloc, members, rows, functions, &asked, keys, base)
+}
+
+/// The map of the members of a binary, whose functions these are, by those that are asked for: it
+/// tells the place of each address in them, and of all others only the function. Keys get numbers
+/// among those given before, as those of `make` do.
+///
+/// # Errors
+/// `NoMemory`, also for more than 2^28 new keys; there may then be more keys than before.
+pub fn make_asked(
+    alloc: Global,
+    members: &[Member],
+    rows: &[Option<RowTable>],
+    functions: Functions,
+    asked: &Asked,
+    keys: &mut Keys,
+    base: bool,
+) -> Result<Map, NoMemory>
+    requires few { length keys.old < 2 ^ 31 }
+    requires functions { AreFunctions members.now functions }
+    ensures map { IfOk result (λ map.
+        IsMapOver asked.now (rows_of rows.now) base members.now keys.new map) }
+    ensures used { IfOk result (λ map. HaveSegments (length keys.old) keys.new map.segments) }
+    ensures kept { Kept keys.old keys.new }
+    ensures added { length keys.new ≤ length keys.old + 2 ^ 28 }
+{
     let rules = Rules {
         base,
         most: keys.len() + MOST_ADDED,
     };
-    let cover = cover(alloc, members)?;
-    let parts = parts_of(alloc, members, &cover, rows, keys, rules)?;
-    let stretches = Stretches::make(alloc, &function_cover(alloc, members)?)?;
-    let entrances = entrances_of(alloc, members)?;
+    let parts = parts_of(alloc, members, asked, rows, keys, rules)?;
     Ok(Map {
         segments: parts.segments,
         nameless: parts.nameless,
-        stretches,
-        entrances,
+        functions,
     })
 }

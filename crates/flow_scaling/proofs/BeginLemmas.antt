@@ -1,11 +1,13 @@
 -- What phases begin with, and what they leave.
-use Rattle.std.proofs.Common.{◌≡◌, ℕ, zero, suc, ◌+◌, ◌-◌, ◌*◌, ◌^◌, ◌<◌, ◌≤◌, List, [], ◌∷◌, map, length, replicate, Option, inl, inr, refl, arith, ap, sym, ◌∙◌, subst, pow-suc}
+use Rattle.std.proofs.Common.{◌≡◌, ℕ, zero, suc, ◌+◌, ◌-◌, ◌*◌, ◌^◌, ◌<◌, ◌≤◌, List, [], ◌∷◌, map, length, replicate, inl, inr, refl, arith, ap, sym, ◌∙◌, subst, pow-suc}
 use Rattle.std.specs.Prelude.{ℤ, pos}
+use Rattle.std.specs.Global.{Vec}
 use Rattle.std.specs.List.{All}
+use Rattle.std.specs.Vec.{with_items}
 use Rattle.std.proofs.lemmas.Bool.{cases_lt}
 use Rattle.std.proofs.lemmas.Int.{ints}
 use Rattle.std.proofs.lemmas.Nat.{pow_below}
-use Rattle.std.proofs.lemmas.List.{get_or-replicate, get_or_past, get_or_default, length-map, length-replicate}
+use Rattle.std.proofs.lemmas.List.{get_or-replicate, get_or_past, get_or_default, length-map, length-replicate, with_items_is}
 use Rattle.std.proofs.lemmas.List.Elements.{All-weaker}
 use Rattle.std.proofs.lemmas.List.Sums.{sum_by-le}
 use Rattle.flow_model.specs.declared.arc.Arc.{Arc}
@@ -22,7 +24,6 @@ use Rattle.scaling_model.specs.Refining.{set_right, refined, rise_on}
 use Rattle.scaling_model.proofs.CoarseLemmas.{shifts_halve}
 use Rattle.scaling_model.proofs.HalvedLemmas.{coarse_nets_are_nets, coarse_cuts_are_cuts, coarse_starts_are_small}
 use Rattle.scaling_model.proofs.RefineLemmas.{refined_counts_fit}
-use Rattle.reached_sides.specs.declared.mark.Mark.{Mark}
 use Rattle.flow_network.specs.Flow.{holds}
 use Rattle.flow_network.specs.declared.flow.Nodes.{Nodes}
 use Rattle.path_search.specs.Ground.{arc_at, count_at, price_at, sides_of}
@@ -34,7 +35,8 @@ use Rattle.flow_balance.specs.State.{AreLater, IsDone, IsStart}
 use Rattle.flow_balance.proofs.AnswerLemmas.{cut_found}
 use Rattle.flow_balance.proofs.StateLemmas.{started}
 use Rattle.scaling_model.specs.Bound.{StartWithin}
-use Rattle.flow_scaling.specs.Phase.{AreLow, AreNear, CanBegin, HasCome, IsClosed, IsEvened}
+use Rattle.flow_scaling.specs.declared.state.State.{State}
+use Rattle.flow_scaling.specs.Phase.{AreLow, AreNear, CanBegin, HasCome, IsClosed, IsClosedIn, IsDoneIn, IsEvened, IsFresh, IsMarked, IsReady}
 use Rattle.flow_scaling.specs.Refining.{AreSetRight}
 use Rattle.flow_scaling.proofs.HalfLemmas.{half_at, halves_each, halves_of_coarse, inflow_doubled, outflow_doubled}
 use Rattle.flow_scaling.proofs.SizeLemmas.{blocks_coarse, sides_coarse}
@@ -249,36 +251,37 @@ first_can net units digits counts prices excess are is within start zeros =
     subst (λ (n : Network). CanBegin n 0 counts prices excess) (sym are)
     (first_begins net digits counts prices excess is within (subst (λ (n : Network). IsStart n counts excess) are start) zeros)
 
-evened_come : (net units : Network) (digits step shift : ℕ) (counts new_counts : List ℕ) (prices excess new_prices new_excess : List ℤ)
-    → units ≡ coarse shift net → shift ≡ digits - step → CanBegin units step counts prices excess
-    → IsEvened units counts prices excess new_counts new_prices new_excess → HasCome net digits step new_counts new_prices new_excess
-evened_come net units digits step shift counts new_counts prices excess new_prices new_excess are same begun evened =
+evened_come : (net units : Network) (digits step shift : ℕ) (old new : State) → units ≡ coarse shift net → shift ≡ digits - step
+    → CanBegin units step old.counts.items old.prices.items old.excess.items → IsEvened units old new → HasCome net digits step new
+evened_come net units digits step shift old new are same begun evened =
     let units_are : units ≡ coarse (digits - step) net = are ∙ ap (λ (k : ℕ). coarse k net) same in
     record {
-      done = subst (λ (n : Network). IsDone n new_counts new_prices new_excess) units_are evened.done;
-      near = near_later step counts new_counts prices excess new_prices new_excess begun.near evened.later;
-      low = low_later (step + 1) counts new_counts prices excess new_prices new_excess begun.low evened.later;
+      done = subst (λ (n : Network). IsDoneIn n new) units_are evened.done;
+      near = near_later step _ _ _ _ _ _ begun.near evened.later;
+      low = low_later (step + 1) _ _ _ _ _ _ begun.low evened.later;
     }
 
-pub first_come : (net units : Network) (digits : ℕ) (counts new_counts : List ℕ) (prices excess new_prices new_excess : List ℤ)
-    → units ≡ coarse digits net → CanBegin units 0 counts prices excess
-    → IsEvened units counts prices excess new_counts new_prices new_excess → HasCome net digits 0 new_counts new_prices new_excess
-first_come net units digits counts new_counts prices excess new_prices new_excess are begun evened =
+pub first_come : (net units : Network) (digits : ℕ) (old new : State) (counts : List ℕ) (prices excess : List ℤ) → IsEvened units old new
+    → units ≡ coarse digits net → old.counts.items ≡ counts → old.prices.items ≡ prices → old.excess.items ≡ excess
+    → CanBegin units 0 counts prices excess → HasCome net digits 0 new
+first_come net units digits old new counts prices excess evened are same_counts same_prices same_excess begun =
     let same : digits ≡ digits - 0 = omega arith in
-    evened_come net units digits 0 digits counts new_counts prices excess new_prices new_excess are same begun evened
+    evened_come net units digits 0 digits old new are same (rw (same_counts, same_prices, same_excess) begun) evened
 
 -- what was least, in units of twice the size
-done_before : (net : Network) (digits step : ℕ) (counts : List ℕ) (prices excess : List ℤ) → step < digits
-    → HasCome net digits step counts prices excess → IsDone (coarse (digits - step - 1 + 1) net) counts prices excess
-done_before net digits step counts prices excess before come =
+done_before : (net : Network) (digits step : ℕ) (held : State) → step < digits → HasCome net digits step held
+    → IsDoneIn (coarse (digits - step - 1 + 1) net) held
+done_before net digits step held before come =
     let same : digits - step ≡ digits - step - 1 + 1 = omega (arith, before) in
-    subst (λ (k : ℕ). IsDone (coarse k net) counts prices excess) same come.done
+    subst (λ (k : ℕ). IsDoneIn (coarse k net) held) same come.done
 
-pub next_begun : (net units : Network) (digits step : ℕ) (counts doubled : List ℕ) (prices excess : List ℤ) → units ≡ coarse (digits - step - 1) net
-    → doubled ≡ map (λ n. 2 * n) counts → IsNet net → step < digits → HasCome net digits step counts prices excess
-    → AreSetRight units doubled prices doubled excess 0
-next_begun net units digits step counts doubled prices excess are twice is before come =
-    let begun = doubled_begins net (digits - step - 1) counts prices excess is (done_before net digits step counts prices excess before come) in
+pub next_begun : (net units : Network) (digits step : ℕ) (held : State) (doubled : List ℕ) → units ≡ coarse (digits - step - 1) net
+    → doubled ≡ map (λ n. 2 * n) held.counts.items → IsNet net → step < digits → HasCome net digits step held
+    → AreSetRight units doubled held.prices.items doubled held.excess.items 0
+next_begun net units digits step held doubled are twice is before come =
+    let prices = held.prices.items in
+    let excess = held.excess.items in
+    let begun = doubled_begins net (digits - step - 1) held.counts.items prices excess is (done_before net digits step held before come) in
     subst (λ (n : Network). AreSetRight n doubled prices doubled excess 0) (sym are)
     (subst (λ (list : List ℕ). AreSetRight (coarse (digits - step - 1) net) list prices list excess 0) (sym twice) begun)
 
@@ -297,41 +300,79 @@ doubled_small step counts doubled excess few low twice place =
     let at = ap (λ (list : List ℕ). count_at list place) twice ∙ doubled_at counts place in
     omega (arith, small, at)
 
-pub next_can : (net units : Network) (digits step : ℕ) (counts doubled : List ℕ) (prices excess : List ℤ) (new_counts : List ℕ) (new_excess : List ℤ)
-    → units ≡ coarse (digits - step - 1) net → doubled ≡ map (λ n. 2 * n) counts → IsNet net → step < digits → digits ≤ 36
-    → HasCome net digits step counts prices excess → AreSetRight units doubled prices new_counts new_excess (length (arcs_of units))
-    → CanBegin units (step + 1) new_counts prices new_excess
-next_can net units digits step counts doubled prices excess new_counts new_excess are twice is before most come right =
+pub next_can : (net units : Network) (digits step : ℕ) (held : State) (doubled new_counts : List ℕ) (new_excess : List ℤ)
+    → units ≡ coarse (digits - step - 1) net → doubled ≡ map (λ n. 2 * n) held.counts.items → IsNet net → step < digits → digits ≤ 36
+    → HasCome net digits step held → AreSetRight units doubled held.prices.items new_counts new_excess (length (arcs_of units))
+    → CanBegin units (step + 1) new_counts held.prices.items new_excess
+next_can net units digits step held doubled new_counts new_excess are twice is before most come right =
     let there = coarse (digits - step - 1) net in
+    let prices = held.prices.items in
     let right_there = subst (λ (n : Network). AreSetRight n doubled prices new_counts new_excess (length (arcs_of n))) are right in
     let right_twice = subst (λ (list : List ℕ). AreSetRight there list prices new_counts new_excess (length (arcs_of there))) twice right_there in
     subst (λ (n : Network). CanBegin n (step + 1) new_counts prices new_excess) (sym are)
-    (next_begins net (digits - step - 1) (step + 1) counts prices excess new_counts new_excess is (omega (arith, before, most))
-    (done_before net digits step counts prices excess before come) come.near come.low right_twice)
+    (next_begins net (digits - step - 1) (step + 1) held.counts.items prices held.excess.items new_counts new_excess is (omega (arith, before, most))
+    (done_before net digits step held before come) come.near come.low right_twice)
 
-pub next_come : (net units : Network) (digits step : ℕ) (counts new_counts : List ℕ) (prices excess new_prices new_excess : List ℤ)
-    → units ≡ coarse (digits - step - 1) net → CanBegin units (step + 1) counts prices excess
-    → IsEvened units counts prices excess new_counts new_prices new_excess → HasCome net digits (step + 1) new_counts new_prices new_excess
-next_come net units digits step counts new_counts prices excess new_prices new_excess are begun evened =
+-- there is a price for each side
+pub priced_in : (net : Network) (digits step : ℕ) (held : State) → HasCome net digits step held → length held.prices.items ≡ sides_of net
+priced_in net digits step held come = come.done.state.ground.priced ∙ sides_coarse (digits - step) net
+
+pub fresh_priced : (net : Network) (held : State) → IsFresh net held → length held.prices.items ≡ sides_of net
+fresh_priced net held fresh = ap length fresh.prices ∙ length-replicate (sides_of net) (pos 0)
+
+-- and so in units of any size
+pub priced_units : (net units : Network) (shift : ℕ) (held : State) → units ≡ coarse shift net → length held.prices.items ≡ sides_of net
+    → length held.prices.items ≡ sides_of units
+priced_units net units shift held are priced = priced ∙ sym (ap sides_of are ∙ sides_coarse shift net)
+
+pub next_come : (net units : Network) (digits step : ℕ) (old new : State) (counts : List ℕ) (prices excess : List ℤ) → IsEvened units old new
+    → units ≡ coarse (digits - step - 1) net → old.counts.items ≡ counts → old.prices.items ≡ prices → old.excess.items ≡ excess
+    → CanBegin units (step + 1) counts prices excess → HasCome net digits (step + 1) new
+next_come net units digits step old new counts prices excess evened are same_counts same_prices same_excess begun =
     let same : digits - step - 1 ≡ digits - (step + 1) = omega arith in
-    evened_come net units digits (step + 1) (digits - step - 1) counts new_counts prices excess new_prices new_excess are same begun evened
+    evened_come net units digits (step + 1) (digits - step - 1) old new are same (rw (same_counts, same_prices, same_excess) begun) evened
+
+-- a vector whose slice was written holds what was written
+pub written : {A : Type 0} (was : Vec A) (new slice : List A) → length new ≡ length slice → length slice ≡ was.len → (with_items was new).items ≡ new
+written was new slice same long = with_items_is was new (same ∙ long)
+
+-- what a state holds can be balanced
+pub ready_in : (net : Network) (phases : ℕ) (held : State) (counts : List ℕ) (prices excess : List ℤ) → held.counts.items ≡ counts
+    → held.prices.items ≡ prices → held.excess.items ≡ excess → CanBegin net phases counts prices excess → IsMarked held → IsReady net held
+ready_in net phases held counts prices excess same_counts same_prices same_excess begun marked = record {
+  state = rw (same_counts, same_prices, same_excess) begun.state;
+  few = rw same_excess begun.few;
+  marked = marked;
+}
+
+-- and what it holds was balanced
+pub evened_in : (net : Network) (old new : State) (counts more_counts : List ℕ) (prices excess more_prices more_excess : List ℤ)
+    → old.counts.items ≡ counts → old.prices.items ≡ prices → old.excess.items ≡ excess
+    → new.counts.items ≡ more_counts → new.prices.items ≡ more_prices → new.excess.items ≡ more_excess
+    → IsDone net more_counts more_prices more_excess × AreLater counts prices excess more_counts more_prices more_excess → IsEvened net old new
+evened_in net old new counts more_counts prices excess more_prices more_excess was_counts was_prices was_excess are_counts are_prices are_excess both = record {
+  done = rw (are_counts, are_prices, are_excess) both.0;
+  later = rw (was_counts, was_prices, was_excess, are_counts, are_prices, are_excess) both.1;
+}
 
 -- behind the last phase
-pub all_done : (net : Network) (digits step : ℕ) (counts : List ℕ) (prices excess : List ℤ) → digits ≤ step → HasCome net digits step counts prices excess
-    → IsDone net counts prices excess
-all_done net digits step counts prices excess past come =
+pub all_done : (net : Network) (digits step : ℕ) (held : State) → digits ≤ step → HasCome net digits step held → IsDoneIn net held
+all_done net digits step held past come =
     let none : digits - step ≡ 0 = omega (arith, past) in
     let same : coarse (digits - step) net ≡ net = ap (λ (shift : ℕ). coarse shift net) none ∙ (shifts_halve net).0 in
-    subst (λ (n : Network). IsDone n counts prices excess) same come.done
+    subst (λ (n : Network). IsDoneIn n held) same come.done
 
 -- ---- a cut
 
-pub closed_is_cut : (net : Network) (counts : List ℕ) (prices excess : List ℤ) (marks : List (Option Mark)) (nodes : Nodes) → IsNet net
-    → IsClosed net counts prices excess marks → TellsReached net marks nodes → IsCutOf net nodes
-closed_is_cut net counts prices excess marks nodes is closed tell =
+pub closed_in : (net units : Network) (shift : ℕ) (held : State) → units ≡ coarse shift net → IsClosedIn units held → IsClosed net held
+closed_in net units shift held are closed = record { shift = shift; closed = subst (λ (n : Network). IsClosedIn n held) are closed }
+
+pub closed_is_cut : (net : Network) (held : State) (nodes : Nodes) → IsNet net → IsClosed net held
+    → TellsReached net held.work.search.marks nodes → IsCutOf net nodes
+closed_is_cut net held nodes is closed tell =
     let blocks = blocks_coarse closed.shift net in
     let sides = sides_coarse closed.shift net in
-    let found = cut_found (coarse closed.shift net) counts prices excess marks nodes closed.closed (record {
+    let found = cut_found (coarse closed.shift net) _ _ _ _ nodes closed.closed (record {
       sides = (tell.sides.0 ∙ sym blocks, tell.sides.1 ∙ sym blocks);
       same = λ side within. tell.same side (omega (arith, within, sides));
     }) in

@@ -19,6 +19,7 @@ mod phase;
 mod phases;
 mod refining;
 mod scaled;
+mod state;
 
 pub use digits::fits;
 pub use ledger::{Ledger, Steps, Tally};

@@ -2,9 +2,8 @@
 ghost use Rattle.std.specs.Prelude.{◌≡◌, ◌+◌, ◌^◌, ◌<◌, ◌≤◌, length, true, false, IfOk, OnOk};
 ghost use Rattle.flow_model.specs.Network.{arcs_of};
 ghost use Rattle.flow_balance.specs.Excess.{surplus};
-ghost use Rattle.flow_balance.specs.State.{IsClosedFrom, IsState};
+ghost use Rattle.flow_balance.specs.State.{AreLater, IsClosedFrom, IsDone, IsState};
 ghost use Rattle.scaling_model.specs.Bound.{RisesWithin};
-ghost use Rattle.flow_scaling.specs.Phase.{IsEvened};
 
 use crate::ledger::{Ledger, tell};
 use flow_balance::{Outcome, Workspace, balance};
@@ -28,7 +27,8 @@ pub(crate) fn run_phase<L: Ledger>(
     requires room { L.ticks ledger.old + length (arcs_of net.now) < 2 ^ 64 }
     ensures marked { OnOk result (length work.new.search.marks ≡ length prices.new) }
     ensures evened { IfOk result (λ is_even. is_even ≡ true
-        → IsEvened net.now counts.old prices.old excess.old counts.new prices.new excess.new) }
+        → IsDone net.now counts.new prices.new excess.new
+        × AreLater counts.old prices.old excess.old counts.new prices.new excess.new) }
     ensures closed { IfOk result (λ is_even. is_even ≡ false
         → IsClosedFrom net.now counts.new prices.new excess.new work.new.search.marks) }
     ensures ticks { RisesWithin (length (arcs_of net.now))

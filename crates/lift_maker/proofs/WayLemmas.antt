@@ -1,19 +1,26 @@
 -- The ways of a binary's addresses, behind the names and keys that a text has added to those of the binary.
 use Rattle.std.proofs.Common.{◌≡◌, ℕ, ◌<◌, ◌≤◌, Bool, List, [], ◌∷◌, ◌++◌, map, length, All, get_or, Option, None, Some, refl, sym, ap, ◌∙◌, arith}
-use Rattle.std.specs.List.{AllByRecursion}
+use Rattle.std.specs.List.{AllByRecursion, zip}
 use Rattle.std.specs.Option.{option_map, unwrap_or}
 use Rattle.std.proofs.lemmas.Option.{slice_get-get_or}
 use Rattle.binary_model.specs.Places.{Place, at_way, nameless, no_line, outside}
-use Rattle.binary_places.specs.Binary.{IsBinary}
-use Rattle.binary_places.specs.declared.binary.Binary.{Binary}
+use Rattle.asked_laws.specs.Alike.{AreAlikeIn, AreAlikeInBlocks}
+use Rattle.asked_laws.proofs.LiftLemmas.{lifts_ask_no_more}
+use Rattle.binary_places.specs.Binary.{IsPlaced}
+use Rattle.binary_places.specs.declared.binary.Placed.{Placed}
+use Rattle.block_model.specs.Function.{Function}
+use Rattle.context_map.specs.Maps.{place_told}
 use Rattle.key_types.specs.Segments.{segment_at}
 use Rattle.key_types.specs.declared.key.Frame.{Frame}
 use Rattle.key_types.specs.declared.key.Key.{Key}
 use Rattle.key_types.specs.declared.places.Seg.{Seg}
 use Rattle.key_types.specs.declared.places.Where.{Where}
 use Rattle.line_lift.specs.Lift.{HaveKeys, way_in}
-use Rattle.output_model.specs.Program.{program_of, way_at, way_of_place}
+use Rattle.output_model.specs.Lift.{held_by, repaired_in}
+use Rattle.output_model.specs.Program.{Program, way_at, way_of_place}
+use Rattle.repair_model.specs.Text.{repairs_of}
 use Rattle.profile_lists.specs.Segments.{AllFit}
+use Rattle.profile_maker.specs.Asked.{program_asked}
 use Rattle.profile_maker.proofs.NameLemmas.{keys_have_names}
 use Rattle.profile_maker.proofs.SegmentLemmas.{segments_fit}
 use Rattle.profile_maker.proofs.ShownLemmas.{programs_shown}
@@ -65,15 +72,16 @@ by_number : (f : ℕ → Way) (segment : Option Seg)
 by_number f None = refl
 by_number f (Some segment) = refl
 
--- The segments of a binary still tell its ways.
-pub ways_stay : (bytes : List ℕ) (base : Bool) (binary : Binary) (more : List (List ℕ)) (more_keys : List Key) → IsBinary bytes base binary
-    → Kept binary.names more → Kept binary.keys more_keys
-    → (address : ℕ) → way_in more more_keys binary.map.segments address ≡ way_at (program_of bytes base) address
-ways_stay bytes base binary more more_keys is kept keys_kept address =
-    let shown = programs_shown bytes base binary is in
-    by_number (said.way_at more more_keys) (segment_at binary.map.segments address)
+-- The segments of a binary still tell its ways, as far as they were asked for.
+pub ways_stay : (bytes : List ℕ) (base : Bool) (marks : List Bool) (placed : Placed) (more : List (List ℕ)) (more_keys : List Key) → IsPlaced bytes base marks placed
+    → Kept placed.names more → Kept placed.keys more_keys
+    → (address : ℕ) → way_in more more_keys placed.map.segments address ≡ way_at (program_asked bytes base marks placed) address
+ways_stay bytes base marks placed more more_keys is kept keys_kept address =
+    let shown = programs_shown bytes base marks placed is in
+    by_number (said.way_at more more_keys) (segment_at placed.map.segments address)
     ∙ ap (option_map (said.way_at more more_keys)) (shown.keys_told address)
-    ∙ place_same binary.names more binary.keys more_keys (keys_have_names bytes base binary is) kept keys_kept _ _ (shown.places address)
+    ∙ place_same placed.names more placed.keys more_keys (keys_have_names bytes base marks placed is) kept keys_kept
+    ((program_asked bytes base marks placed).place address) (place_told placed.map address) (shown.places address)
 
 have_keys : (n m : ℕ) → n ≤ m → (segments : List Seg) → AllFit n segments → HaveKeys m segments
 have_keys n m le [] fit = tt
@@ -82,7 +90,19 @@ have_keys n m le (segment ∷ segments) fit =
     (omega (arith, here, le), have_keys n m le segments fit.2)
 
 -- Its keys are still among all keys.
-pub keys_stay : (bytes : List ℕ) (base : Bool) (binary : Binary) (more_keys : List Key) → IsBinary bytes base binary → Kept binary.keys more_keys
-    → HaveKeys (length more_keys) binary.map.segments
-keys_stay bytes base binary more_keys is keys_kept =
-    have_keys (length binary.keys) (length more_keys) (kept_grows binary.keys more_keys keys_kept) binary.map.segments (segments_fit bytes base binary is)
+pub keys_stay : (bytes : List ℕ) (base : Bool) (marks : List Bool) (placed : Placed) (more_keys : List Key) → IsPlaced bytes base marks placed → Kept placed.keys more_keys
+    → HaveKeys (length more_keys) placed.map.segments
+keys_stay bytes base marks placed more_keys is keys_kept =
+    have_keys (length placed.keys) (length more_keys) (kept_grows placed.keys more_keys keys_kept) placed.map.segments (segments_fit bytes base marks placed is)
+
+-- What is held in the blocks is what the whole binary tells.
+first_of : {B : Type 0} (P : Function → Type 0) (funs : List Function) (others : List B) → AllByRecursion P funs → AllByRecursion P (map (λ it. it.0) (zip funs others))
+first_of P [] others all = tt
+first_of P (fun ∷ funs) [] all = tt
+first_of P (fun ∷ funs) (other ∷ others) all = (all.0, first_of P funs others all.1)
+
+pub held_same : (program other : Program) (funs : List Function) (out : List ℕ) → AreAlikeInBlocks program other funs
+    → held_by (way_at program) (repaired_in funs out) ≡ held_by (way_at other) (repaired_in funs out)
+held_same program other funs out alike =
+    lifts_ask_no_more program other (repaired_in funs out)
+    (first_of (λ (fun : Function). AllByRecursion (AreAlikeIn program other) fun.blocks) funs (map (λ it. it.1) (repairs_of funs out)) alike)

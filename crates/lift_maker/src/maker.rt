@@ -15,10 +15,12 @@ ghost use Rattle.profile_text.specs.Draft.{IsGivenItem};
 ghost use Rattle.profile_text.specs.Text.{TellText};
 ghost use Rattle.profile_tree.specs.Known.{HasNames};
 ghost use Rattle.lift_maker.specs.Lift.{Lifts, first_bad_of_lines};
+ghost use Rattle.lift_maker.specs.Placed.{IsPlacedIn};
 
-use binary_places::Binary;
+use binary_places::{Asked, Binary, Placed, places};
 use cfg_text::Fun;
 use key_types::{Keys, Names, Seg};
+use profile_maker::ask_blocks;
 use profile_text::{Profile, write};
 use refusal::{NoMemory, Stop};
 use repair_check::failed_line;
@@ -60,16 +62,33 @@ pub fn lift<'a>(
         → JudgesUnlessNoMemory (first_bad_of_lines file (functions_of blocks) text.now) result
         (Lifts bytes base blocks text.now) }
 {
-    let (mut names, mut keys) = (binary.names, binary.keys);
+    let placed = placed_for(alloc, binary, funs)?;
+    let (mut names, mut keys) = (placed.names, placed.keys);
     let part = read_part(alloc, text, file, &mut names, &mut keys)?;
     let repairs = repair_text::read(alloc, text, file, funs)?;
     let failed = failed_line(alloc, funs, &repairs)?;
     if let Some(line) = failed {
         return Ok(Lifted::Failed(line));
     }
-    let segments = binary.map.segments();
+    let segments = placed.map.segments();
     let out = text_of(alloc, &part, segments, funs, &repairs, &keys, &names)?;
     Ok(Lifted::Text(out))
+}
+
+/// The places of a binary, of the functions that the blocks of these functions ask for.
+fn placed_for<'a>(
+    alloc: Global,
+    binary: Binary<'a>,
+    funs: &[Fun<'_>],
+) -> Result<Placed<'a>, NoMemory>
+    requires { (bytes : List ℕ) × (base : Bool) × IsBinary bytes base binary }
+    ensures { IfOk result (λ placed. (bytes : List ℕ) (base : Bool)
+        → IsBinary bytes base binary.entry
+        → IsPlacedIn bytes base (map function_of funs.now) placed) }
+{
+    let mut asked = Asked::none(alloc, binary.members.len())?;
+    ask_blocks(&binary.functions, funs, &mut asked);
+    places(alloc, binary, &asked)
 }
 
 /// The numbers of a text as a profile, whose names and keys are added to those of a binary.

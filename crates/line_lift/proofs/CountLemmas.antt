@@ -1,6 +1,6 @@
 -- The profile that is stated counts the same as the lifted one.
 use Rattle.std.proofs.Common.{◌≡◌, ℕ, suc, zero, ◌+◌, ◌<◌, ◌==◌, ◌||◌, ◌&&◌, Bool, true, false, cond, not, List, [], ◌∷◌, ◌++◌, map, filter, length, get_or, is_some, sum_by, Option, None, Some, refl, sym, ap, subst, ◌∙◌, arith, add-zero, zero-add, inl, inr}
-use Rattle.std.specs.List.{AllByRecursion, flat_map, range_with_len}
+use Rattle.std.specs.List.{AllByRecursion, filter_map, flat_map, range_with_len}
 use Rattle.std.specs.List.Sorted.{IsStrictlySortedBy}
 use Rattle.std.specs.Option.{unwrap_or}
 use Rattle.std.specs.Ordering.{is_eq}
@@ -19,20 +19,19 @@ use Rattle.profile_model.specs.Spelled.{Number, profile_by}
 use Rattle.profile_model.specs.Ways.{Way, same_name, same_way}
 use Rattle.profile_model.proofs.OrderLemmas.{ways_tell_apart}
 use Rattle.profile_model.proofs.OrderedLemmas.{Above, has-head, ordered_is_in_order}
-use Rattle.profile_lists.specs.declared.pairs.Call.{Call}
+use Rattle.profile_text.proofs.NumberLemmas.{stated_is_told}
 use Rattle.profile_text.specs.Draft.{IsGivenItem, number_told, what_told}
+use Rattle.profile_text.specs.Numbers.{call_in, head_in}
 use Rattle.profile_text.specs.declared.item.Item.{Item}
 use Rattle.profile_text.specs.declared.item.What.{What}
 use Rattle.profile_text.specs.declared.item.What.TheVariants as what
 use Rattle.profile_tree.proofs.ListLemmas.{among_has, bool_cases, has_among, one_of_range, sum_filter, sum_map, sum_none, sum_same}
 use Rattle.profile_tree.proofs.SumLemmas.{Given, ways_apart}
 use Rattle.profile_tree.proofs.WayLemmas.{same_ways, way_itself}
-use Rattle.profile_tree.specs.Said.{calls_said, heads_said, stated, way_at}
-use Rattle.profile_tree.specs.Steps.{name_at}
-use Rattle.profile_tree.specs.declared.head.Head.{Head}
+use Rattle.profile_tree.specs.Said.{stated, way_at}
 use Rattle.profile_tree.specs.declared.key_count.KeyCount.{KeyCount}
 use Rattle.line_lift.specs.Largest.{IsLargest}
-use Rattle.line_lift.specs.Stated.{call_by, call_in, head_by, head_in, held_first, held_in, kept_by, kept_in, lifted_counts}
+use Rattle.line_lift.specs.Stated.{held_first, held_in, kept_by, kept_in, lifted_counts}
 use Rattle.line_lift.proofs.AmongLemmas.{Among, all_among, among_map, among_map_back, among_range}
 use Rattle.line_lift.proofs.HeldLemmas.{AreHeld, IsHeldAs, held_as}
 
@@ -195,45 +194,15 @@ module _ (names : List (List ℕ)) (keys : List Key) (numbered : Given names key
   held_alike : (w : Way) → counted_for w (map told_count (held_first held (length held))) ≡ counted_for w (map (λ way. (way, held_count pairs way)) (held_ways pairs))
   held_alike w = held_sum w 0 (length held) ∙ bool_cases (has cmp w (held_ways pairs)) (held_here w) (not_held_here w) ∙ sym (told_sum w)
 
-  -- ---- calls and heads
-
-  calls_alike : (items : List Item) → calls_said names keys (flat_map call_in items) ≡ (profile_by (map (number_told names keys) items)).calls
-  unfolding profile_by
-  calls_alike [] = refl
-  calls_alike (item ∷ items) =
-      map-append (λ (call : Call). (way_at names keys call.key.0, name_at names call.callee.0, call.times)) (call_in item) (flat_map call_in items)
-      ∙ ap (λ ys. calls_said names keys (call_in item) ++ ys) (calls_alike items)
-      ∙ by item.what
-    where
-      by : (w : What) → calls_said names keys (call_by w item.times) ++ (profile_by (map (number_told names keys) items)).calls
-          ≡ (profile_by (record { line = item.line; what = what_told names keys w; times = item.times } ∷ map (number_told names keys) items)).calls
-      by (what.Head name) = refl
-      by (what.Count key) = refl
-      by (what.Target key name) = refl
-
-  heads_alike : (items : List Item) → heads_said names (flat_map head_in items) ≡ (profile_by (map (number_told names keys) items)).heads
-  unfolding profile_by
-  heads_alike [] = refl
-  heads_alike (item ∷ items) =
-      map-append (λ (head : Head). (name_at names head.name.0, head.times)) (head_in item) (flat_map head_in items)
-      ∙ ap (λ ys. heads_said names (head_in item) ++ ys) (heads_alike items)
-      ∙ by item.what
-    where
-      by : (w : What) → heads_said names (head_by w item.times) ++ (profile_by (map (number_told names keys) items)).heads
-          ≡ (profile_by (record { line = item.line; what = what_told names keys w; times = item.times } ∷ map (number_told names keys) items)).heads
-      by (what.Head name) = refl
-      by (what.Count key) = refl
-      by (what.Target key name) = refl
-
   -- The profile that is stated counts as the lifted one.
   pub stated_alike : (items : List Item) → AllByRecursion (IsGivenItem (length names) (length keys)) items
-      → CountTheSame (stated names keys (lifted_counts held items) (flat_map call_in items) (flat_map head_in items)) (lifted pairs (profile_by (map (number_told names keys) items)))
+      → CountTheSame (stated names keys (lifted_counts held items) (filter_map call_in items) (filter_map head_in items)) (lifted pairs (profile_by (map (number_told names keys) items)))
   stated_alike items given = record {
     keys = λ w.
         ap (counted_for w) (map-append told_count (held_first held (length held)) (flat_map (kept_in held) items))
         ∙ counted_append w (map told_count (held_first held (length held))) (map told_count (flat_map (kept_in held) items))
         ∙ (λ i. held_alike w i + counted_for w (kept_alike items given i))
         ∙ sym (counted_append w (map (λ way. (way, held_count pairs way)) (held_ways pairs)) (filter (λ it. not (is_held pairs it.0)) (profile_by (map (number_told names keys) items)).counts));
-    targets = λ w name i. sum_by (λ c. c.2) (filter (λ c. same_way w c.0 && same_name name c.1) (calls_alike items i));
-    heads = λ name i. sum_by (λ h. h.1) (filter (λ h. same_name name h.0) (heads_alike items i));
+    targets = λ w name i. sum_by (λ c. c.2) (filter (λ c. same_way w c.0 && same_name name c.1) (stated_is_told names keys items i).calls);
+    heads = λ name i. sum_by (λ h. h.1) (filter (λ h. same_name name h.0) (stated_is_told names keys items i).heads);
   }

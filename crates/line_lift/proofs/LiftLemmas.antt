@@ -1,6 +1,6 @@
 -- The lines of what is stated are those of what is lifted.
 use Rattle.std.proofs.Common.{◌≡◌, ℕ, ◌<◌, All, List, [], Option, arith, None, get_or, length, map}
-use Rattle.std.specs.List.{AllByRecursion, flat_map}
+use Rattle.std.specs.List.{AllByRecursion, filter_map}
 use Rattle.block_model.specs.Function.{Function}
 use Rattle.key_types.specs.Numbers.{IsNumbered}
 use Rattle.key_types.specs.Segments.{key_told}
@@ -10,6 +10,7 @@ use Rattle.output_model.specs.Lift.{held_by}
 use Rattle.profile_laws.proofs.CountLemmas.{lines_are_by_counts}
 use Rattle.profile_model.specs.Profile.{lines_of}
 use Rattle.profile_text.specs.Draft.{IsGivenItem}
+use Rattle.profile_text.specs.Numbers.{call_in, head_in}
 use Rattle.profile_text.specs.declared.item.Item.{Item}
 use Rattle.profile_tree.proofs.SumLemmas.{Given}
 use Rattle.profile_tree.specs.Known.{HasNames}
@@ -19,7 +20,7 @@ use Rattle.line_lift.specs.Held.{HaveKeys, IsCountOfKey}
 use Rattle.line_lift.specs.Largest.{IsLargest}
 use Rattle.line_lift.specs.Lift.{lifted_by, way_in}
 use Rattle.line_lift.specs.Spans.{IsOwnerOver, counted, span_of}
-use Rattle.line_lift.specs.Stated.{call_in, head_in, lifted_counts}
+use Rattle.line_lift.specs.Stated.{lifted_counts}
 use Rattle.line_lift.proofs.CountLemmas.{stated_alike}
 use Rattle.line_lift.proofs.HeldLemmas.{are_held}
 
@@ -29,7 +30,7 @@ pub lifted_lines :
     → length held ≡ length keys
     → ((a : ℕ) → IsLargest (IsOwnerOver (map span_of (counted funs)) a) (spans a))
     → ((id : ℕ) → id < length keys → IsLargest (IsCountOfKey (key_told segments) spans id) (get_or held id None))
-    → lines_of (stated names keys (lifted_counts held items) (flat_map call_in items) (flat_map head_in items)) ≡ lines_of (lifted_by names keys segments funs items)
+    → lines_of (stated names keys (lifted_counts held items) (filter_map call_in items) (filter_map head_in items)) ≡ lines_of (lifted_by names keys segments funs items)
 lifted_lines names keys segments funs items spans held numbered known given len over of_keys =
     lines_are_by_counts _ _
     (stated_alike names keys numbered (held_by (way_in names keys segments) funs) held (are_held names keys segments funs known numbered spans held len over of_keys) items given)

@@ -1,39 +1,19 @@
--- That what is stated is of given keys and names, and each once.
+-- That the counts that are stated are of given keys, and each once.
 use Rattle.std.proofs.Common.{◌≡◌, ℕ, zero, suc, ◌+◌, ◌<◌, Bool, true, false, cond, All, List, [], ◌∷◌, ◌++◌, length, get_or, is_some, Option, None, Some, append_assoc, append-nil, refl, sym, ap, subst, ◌∙◌, arith, inl, inr}
 use Rattle.std.specs.List.{AllByRecursion, flat_map, range_with_len}
 use Rattle.std.proofs.lemmas.Bool.{true≢false}
 use Rattle.std.proofs.lemmas.List.Elements.{All-from_recursion}
 use Rattle.profile_laws.specs.Once.{StandOnce}
-use Rattle.profile_lists.specs.declared.pairs.Call.{Call}
 use Rattle.profile_text.specs.Draft.{IsGivenItem, IsGivenWhat}
 use Rattle.profile_text.specs.declared.item.Item.{Item}
 use Rattle.profile_text.specs.declared.item.What.{What}
 use Rattle.profile_text.specs.declared.item.What.TheVariants as what
-use Rattle.profile_tree.specs.Known.{IsGiven, called_from}
-use Rattle.profile_tree.specs.declared.head.Head.{Head}
 use Rattle.profile_tree.specs.declared.key_count.KeyCount.{KeyCount}
-use Rattle.line_lift.specs.Stated.{call_by, call_in, head_by, head_in, held_first, held_in, kept_by, kept_in, lifted_counts}
+use Rattle.line_lift.specs.Stated.{held_first, held_in, kept_by, kept_in, lifted_counts}
 use Rattle.line_lift.proofs.AmongLemmas.{Among, all_among, among_all, among_either, among_flat_back, among_range}
 use Rattle.line_lift.proofs.OnceLemmas.{AreOnce, once_append, once_flat, once_from, once_range, once_to}
 
 -- ---- what a number tells of
-
--- The number that a count, a call or a head is of.
-call_of : (w : What) (times : ℕ) (call : Call) → Among call (call_by w times) → w ≡ what.Target call.key call.callee
-call_of (what.Head name) times call h = absurd h
-call_of (what.Count key) times call h = absurd h
-call_of (what.Target key name) times call h = elim h as (λ _. what.Target key name ≡ what.Target call.key call.callee) [
-  | inl e ↦ ap (λ (c : Call). what.Target c.key c.callee) (sym e)
-  | inr none ↦ absurd none
-]
-
-head_of : (w : What) (times : ℕ) (head : Head) → Among head (head_by w times) → w ≡ what.Head head.name
-head_of (what.Head name) times head h = elim h as (λ _. what.Head name ≡ what.Head head.name) [
-  | inl e ↦ ap (λ (c : Head). what.Head c.name) (sym e)
-  | inr none ↦ absurd none
-]
-head_of (what.Count key) times head h = absurd h
-head_of (what.Target key name) times head h = absurd h
 
 -- A count that is kept is that of a key that is not held.
 record IsKept (held : List (Option ℕ)) (w : What) (count : KeyCount) : Type 0 where
@@ -108,33 +88,7 @@ counts_once held items once =
     let kept = kept_of held item.0.what item.0.times y item.2 in
     true≢false (sym of.held ∙ ap (λ id. is_some (get_or held id None)) (sym of.is ∙ same) ∙ kept.not_held)))
 
-pub calls_once : (items : List Item) → StandOnce (λ item. item.what) items → StandOnce called_from (flat_map call_in items)
-calls_once items once =
-    once_to called_from (flat_map call_in items)
-    (once_flat (λ (item : Item). item.what) called_from call_in items
-    (λ item. one item.what item.times)
-    (λ x y s t left right e. call_of x.what x.times s left ∙ (λ i. what.Target (record { 0 = (e i).0 }) (record { 0 = (e i).1 })) ∙ sym (call_of y.what y.times t right))
-    (once_from (λ (item : Item). item.what) items once))
-  where
-    one : (w : What) (times : ℕ) → AreOnce called_from (call_by w times)
-    one (what.Head name) times = tt
-    one (what.Count key) times = tt
-    one (what.Target key name) times = ((λ y h. absurd h), tt)
-
-pub heads_once : (items : List Item) → StandOnce (λ item. item.what) items → StandOnce (λ head. head.name.0) (flat_map head_in items)
-heads_once items once =
-    once_to (λ (head : Head). head.name.0) (flat_map head_in items)
-    (once_flat (λ (item : Item). item.what) (λ (head : Head). head.name.0) head_in items
-    (λ item. one item.what item.times)
-    (λ x y s t left right e. head_of x.what x.times s left ∙ (λ i. what.Head (record { 0 = e i })) ∙ sym (head_of y.what y.times t right))
-    (once_from (λ (item : Item). item.what) items once))
-  where
-    one : (w : What) (times : ℕ) → AreOnce (λ (head : Head). head.name.0) (head_by w times)
-    one (what.Head name) times = ((λ y h. absurd h), tt)
-    one (what.Count key) times = tt
-    one (what.Target key name) times = tt
-
--- ---- of given keys and names
+-- ---- of given keys
 
 module _ (names keys : ℕ) (items : List Item) (given : AllByRecursion (IsGivenItem names keys) items) where
   -- what an item tells of was given
@@ -153,16 +107,6 @@ module _ (names keys : ℕ) (items : List Item) (given : AllByRecursion (IsGiven
             let item = among_flat_back (kept_in held) count items r in
             given_of item.0 (what.Count count.key) item.1 (kept_of held item.0.what item.0.times count item.2).is
       ]))
-
-  pub calls_given : All (IsGiven keys names) (flat_map call_in items)
-  calls_given = All-from_recursion (IsGiven keys names) (flat_map call_in items) (all_among (IsGiven keys names) (flat_map call_in items)
-      (λ call h. let item = among_flat_back call_in call items h in
-      given_of item.0 (what.Target call.key call.callee) item.1 (call_of item.0.what item.0.times call item.2)))
-
-  pub heads_given : All (λ head. head.name.0 < names) (flat_map head_in items)
-  heads_given = All-from_recursion (λ head. head.name.0 < names) (flat_map head_in items) (all_among (λ head. head.name.0 < names) (flat_map head_in items)
-      (λ head h. let item = among_flat_back head_in head items h in
-      given_of item.0 (what.Head head.name) item.1 (head_of item.0.what item.0.times head item.2)))
 
 -- ---- loops
 

@@ -1,12 +1,10 @@
--- The numbers of a profile, with repaired counts.
+-- The counts of a profile, with repaired ones.
 use Rattle.std.specs.Prelude.{ℕ, List, [], ◌∷◌, ◌++◌, cond, is_some, length, slice_index_or, Option, None, Some}
 use Rattle.std.specs.List.{flat_map, range_with_len}
 use Rattle.key_types.specs.declared.ids.KeyId.{KeyId}
-use Rattle.profile_lists.specs.declared.pairs.Call.{Call}
 use Rattle.profile_text.specs.declared.item.Item.{Item}
 use Rattle.profile_text.specs.declared.item.What.{What}
 use Rattle.profile_text.specs.declared.item.What.TheVariants as what
-use Rattle.profile_tree.specs.declared.head.Head.{Head}
 use Rattle.profile_tree.specs.declared.key_count.KeyCount.{KeyCount}
 
 -- The count of a key, if it is held.
@@ -23,23 +21,6 @@ kept_by held (what.Target key name) times = []
 
 abbrev pub kept_in : List (Option ℕ) → Item → List KeyCount
 kept_in held item = kept_by held item.what item.times
-
--- The calls that a number tells of, and the entries.
-abbrev pub call_by : What → ℕ → List Call
-call_by (what.Head name) times = []
-call_by (what.Count key) times = []
-call_by (what.Target key name) times = record { key = key; callee = name; times = times } ∷ []
-
-abbrev pub call_in : Item → List Call
-call_in item = call_by item.what item.times
-
-abbrev pub head_by : What → ℕ → List Head
-head_by (what.Head name) times = record { name = name; times = times } ∷ []
-head_by (what.Count key) times = []
-head_by (what.Target key name) times = []
-
-abbrev pub head_in : Item → List Head
-head_in item = head_by item.what item.times
 
 -- The counts of the keys that are held, and behind them those of the first of some numbers whose keys are not.
 abbrev pub held_first : List (Option ℕ) → ℕ → List KeyCount

@@ -12,10 +12,10 @@ ghost use Rattle.line_lift.specs.Lift.{lifted_by, repaired};
 
 use crate::held::held_counts;
 use crate::spans::{largest_first, spans_of};
-use crate::stated::{calls_of, heads_of, lifted_counts};
+use crate::stated::lifted_counts;
 use cfg_text::Fun;
 use key_types::{Keys, Names, Seg};
-use profile_text::Profile;
+use profile_text::{Profile, calls_of, heads_of};
 use profile_tree::{Tree, from_counts};
 use refusal::NoMemory;
 use repair_text::Repair;

@@ -1,10 +1,10 @@
-// The numbers of a profile, with repaired counts.
+// The counts of a profile, with repaired ones.
 ghost use Rattle.std.specs.Prelude.{◌≡◌, ◌++◌, ◌≤◌, ◌^◌, IfOk, None, OnOk, flat_map, is_some, length, slice_index_or};
-ghost use Rattle.line_lift.specs.Stated.{call_in, head_in, held_in, kept_in, lifted_counts};
+ghost use Rattle.line_lift.specs.Stated.{held_in, kept_in, lifted_counts};
 
 use key_types::KeyId;
 use profile_text::{Item, What};
-use profile_tree::{Call, Head, KeyCount};
+use profile_tree::KeyCount;
 use refusal::NoMemory;
 use std::alloc::Global;
 
@@ -58,48 +58,4 @@ fn is_held(held: &[Option<u64>], key: KeyId) -> bool
         Some(count) => count.is_some(),
         None => false,
     }
-}
-
-/// The calls that a profile tells.
-pub(crate) fn calls_of(alloc: Global, items: &[Item]) -> Result<Vec<Call>, NoMemory>
-    ensures { IfOk result (λ calls. calls.items ≡ flat_map call_in items.now) }
-{
-    let mut calls = Vec::new(alloc);
-    for item in items {
-        push_call(&mut calls, item)?;
-    }
-    Ok(calls)
-}
-
-/// Appends the calls that a number tells of.
-fn push_call(calls: &mut Vec<Call>, item: &Item) -> Result<(), NoMemory>
-    ensures { OnOk result (calls.new.items ≡ calls.old.items ++ call_in item.now) }
-{
-    if let What::Target(key, callee) = item.what {
-        let times = item.times;
-        calls.push(Call { key, callee, times })?;
-    }
-    Ok(())
-}
-
-/// The entries of functions that a profile tells.
-pub(crate) fn heads_of(alloc: Global, items: &[Item]) -> Result<Vec<Head>, NoMemory>
-    ensures { IfOk result (λ heads. heads.items ≡ flat_map head_in items.now) }
-{
-    let mut heads = Vec::new(alloc);
-    for item in items {
-        push_head(&mut heads, item)?;
-    }
-    Ok(heads)
-}
-
-/// Appends the entries that a number tells of.
-fn push_head(heads: &mut Vec<Head>, item: &Item) -> Result<(), NoMemory>
-    ensures { OnOk result (heads.new.items ≡ heads.old.items ++ head_in item.now) }
-{
-    if let What::Head(name) = item.what {
-        let times = item.times;
-        heads.push(Head { name, times })?;
-    }
-    Ok(())
 }

@@ -14,13 +14,14 @@ use Rattle.profile_model.specs.Merge.{both, first_bad_of_summed, merged, sum_ite
 use Rattle.profile_model.specs.Profile.{Profile}
 use Rattle.profile_model.specs.Spelled.{What, number_in, numbers_of, profile_by, spelled}
 use Rattle.profile_text.specs.Draft.{Kept, what_told}
+use Rattle.profile_text.specs.Numbers.{counted}
 use Rattle.profile_text.specs.Text.{TellText}
 use Rattle.profile_text.specs.declared.item.Item.{Item}
 use Rattle.merge_laws.proofs.SumLemmas.{number_in-behind, number_in-both, number_in-merged, number_in-one, number_in-weighed}
 use Rattle.profile_merge.proofs.MergeLemmas.{first_over_is_first_bad, nothing_is_summed, raised_sums_count_both, sums_stay_with_more}
 use Rattle.profile_merge.specs.Laws.{AreNumbered, place_over}
 use Rattle.profile_merge.specs.Sums.{AddsPart, StaySumsOf, Sums, first_over}
-use Rattle.profile_merge.specs.Told.{AreSumsIn, part_told}
+use Rattle.profile_merge.specs.Told.{AreSumsIn}
 use Rattle.merge_maker.specs.Merge.{IsMergeOf, State}
 
 -- sums of a profile are those of each that counts the same
@@ -66,7 +67,7 @@ kept_itself xs = λ n x is. is
 
 -- What was read of a text is what it spells.
 pub part_is_spelled : (names : List (List ℕ)) (keys : List Key) (text : List ℕ) (items : List Item) (more : List (List ℕ)) (more_keys : List Key)
-    → TellText names keys text items more more_keys → part_told more more_keys items ≡ spelled text
+    → TellText names keys text items more more_keys → counted more more_keys items ≡ spelled text
 part_is_spelled names keys text items more more_keys tells = ap profile_by (tells.told.tell more more_keys (kept_itself more) (kept_itself more_keys))
 
 -- A text that was read and added behind others is summed with them.

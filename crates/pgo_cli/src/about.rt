@@ -35,6 +35,9 @@ usage:
   pgo --help KIND             what helps where a file is refused for this kind
   pgo --version               the version
 
+A second program, `pgo-cold`, adds lines of count 0 to a profile, for what never
+ran: the last step before clang (`pgo-cold --help`).
+
 PERF is what `perf script -F ip,brstack` prints, in a file. BIN is a 64-bit ELF
 file with DWARF 4 or 5, HEX an address in hexadecimal digits. CFG is a block
 text, as `contrib/blocks BIN` prints it, OUT what `pgo build` printed. N is at
@@ -58,7 +61,8 @@ if you see:
   BadLine                print ip,brstack and no further fields; more by
                          `pgo --help BadLine`
   Compressed             `objcopy --decompress-debug-sections BIN PLAIN`
-  NotElf                 the program comes first, then the text
+  NotElf                 the program comes first, then the text; unpack it, and
+                         see that it is not empty
   usage                  options come in front, each once; NAME stands behind
                          `--map=` without a space; HEX is never decimal, and N
                          and W always are

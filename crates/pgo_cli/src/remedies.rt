@@ -9,7 +9,7 @@ pub(crate) const REMEDIES: [Topic; 59] = [
         text: b"\
 NotElf: no ELF file.
 What helps: the program first, then the text; in place of a script the program
-that it starts.
+that it starts; unpack a packed file, and see that it is not empty.
 ",
     },
     Topic {
@@ -146,7 +146,8 @@ What helps: build or copy the file again, with all its debug sections.
         text: b"\
 TooDeep: more than 1,024 entries of debugging information in one another; in a
 profile text more than 256 spaces in front of a line.
-What helps: build with less debugging information (`-gline-tables-only`).
+What helps: build with less debugging information (`-gline-tables-only`); a
+profile text as the tool printed it.
 ",
     },
     Topic {
@@ -288,7 +289,9 @@ names, or `--fit`.
         text: b"\
 BadLine: a line that has not the form of its text.
 What helps: of a branch text by how the line looks; a block text as
-`contrib/blocks` prints it.
+`contrib/blocks` prints it; a repair text as `pgo build` printed it; a profile
+text may be one of another tool, or in a binary form (docs/USING.md, \"Profiles
+of other tools\").
 The line looks like:
 - `PERFILE2` and bytes, in line 1: the recording itself; `perf script -i
   perf.data -F ip,brstack` prints its text.
@@ -417,7 +420,9 @@ What helps: the block text of which the repair was made.
         word: b"Missing",
         text: b"\
 Missing: a function, block or edge of the block text is not told of.
-What helps: the whole repair: it was cut off, or has another block text.
+What helps: what `pgo build` printed, in place of what `pgo profile` did, which
+has no repairs (the usual cause); else the whole repair: it was cut off, or has
+another block text.
 ",
     },
     Topic {

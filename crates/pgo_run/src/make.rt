@@ -51,7 +51,7 @@ pub(crate) fn summary_output(alloc: Global, functions: u64) -> Result<Vec<u8>, H
     let counts = in_file(2, samples_of(alloc, functions))?;
     let block_text = case_file(alloc, CasePart::Cfg, functions)?;
     let funs = in_file(3, functions_in(alloc, &block_text))?;
-    let text = summarize(alloc, &binary, counts, &funs)?;
+    let text = summarize(alloc, binary, counts, &funs)?;
     Ok(text)
 }
 

@@ -33,6 +33,6 @@ pub(crate) fn output<I: Inputs>(
     let file = read_file(alloc, inputs, 1, binary, MAX_BINARY)?;
     let binary = in_file(1, read(alloc, &file, options.base))?;
     let counts = sampled(alloc, inputs, perf, options.map, &binary.loads)?;
-    let text = make(alloc, &binary, counts)?;
+    let text = make(alloc, binary, counts)?;
     Ok(text)
 }

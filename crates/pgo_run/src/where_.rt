@@ -11,7 +11,7 @@ ghost use Rattle.pgo_run.specs.Output.{Carries};
 use crate::halt::{Halt, in_file};
 use crate::order::{MAX_BINARY, read_file};
 use answer_text::place_line;
-use binary_places::read;
+use binary_places::{Asked, places, read};
 use command_words::Options;
 use io_edge::Inputs;
 use key_types::Places;
@@ -46,10 +46,13 @@ fn line_of(alloc: Global, file: &[u8], base: bool, address: u64) -> Result<Vec<u
         (λ out. out.items ≡ where_text (place_of_address file.now base address)) }
 {
     let binary = read(alloc, file, base)?;
+    let mut asked = Asked::none(alloc, binary.members.len())?;
+    asked.ask(&binary.functions, address);
+    let placed = places(alloc, binary, &asked)?;
     Ok(place_line(
         alloc,
-        &binary.names,
-        &binary.keys,
-        binary.map.place(address),
+        &placed.names,
+        &placed.keys,
+        placed.map.place(address),
     )?)
 }

@@ -1,9 +1,11 @@
-pub mod BuiltLemmas
+pub mod SegmentLemmas
 pub mod NameLemmas
+pub mod ShownLemmas
+pub mod AskedLemmas
+pub mod AlikeLemmas
 pub mod OutputLemmas
 pub mod RepairLemmas
-pub mod SegmentLemmas
+pub mod BuiltLemmas
 pub mod KeyWayLemmas
 pub mod SampleLemmas
-pub mod ShownLemmas
 pub mod SummaryLemmas

@@ -1,8 +1,9 @@
 -- Names and keys that a map tells were given numbers.
-use Rattle.std.proofs.Common.{◌≡◌, ℕ, ◌<◌, ◌+◌, ◌-◌, ◌^◌, suc, Bool, true, false, cond, List, [], ◌∷◌, length, get_or, Option, None, Some, refl, sym, ap, subst, ◌∙◌, arith}
+use Rattle.std.proofs.Common.{◌≡◌, ℕ, ◌<◌, ◌+◌, ◌-◌, ◌^◌, suc, Bool, true, false, cond, List, [], ◌∷◌, length, get_or, Option, None, Some, refl, sym, ap, subst, ◌∙◌, arith, inl, inr}
 use Rattle.std.specs.Prelude.{find, slice_get, option_and_then, if◌then◌else◌}
 use Rattle.std.specs.Option.{option_map}
 use Rattle.std.specs.List.{All, AllByRecursion, enumerate_from}
+use Rattle.std.proofs.lemmas.Bool.{cases_Bool}
 use Rattle.std.proofs.lemmas.Option.{slice_get_within, slice_get-get_or}
 use Rattle.key_types.specs.declared.ids.KeyId.{KeyId}
 use Rattle.key_types.specs.declared.ids.NameId.{NameId}
@@ -22,10 +23,11 @@ use Rattle.address_spans.specs.Spans.{owner_at}
 use Rattle.context_map.specs.Maps.{place_by, place_told}
 use Rattle.profile_tree.specs.Known.{HasNames}
 use Rattle.binary_model.specs.Places.{Place, at_way, nameless, no_line, outside, place_of_address}
-use Rattle.binary_places.specs.Binary.{IsGiven, TellsNamed}
+use Rattle.binary_places.specs.Binary.{IsGiven, IsPlaced, TellsNamed, asks_in}
+use Rattle.binary_places.specs.declared.binary.Placed.{Placed}
 use Rattle.binary_places.proofs.ShownLemmas.{places_shown}
 use Rattle.profile_maker.specs.MapLaws.{EntriesAreGiven, KeysHaveNames, PlacesAreGiven}
-use Rattle.profile_maker.proofs.SegmentLemmas.{address_of_key}
+use Rattle.profile_maker.proofs.SegmentLemmas.{address_of_key, nothing_at}
 
 -- ---- keys of addresses
 
@@ -45,10 +47,32 @@ known names keys no_line answer id shows is = absurd (let e : NoLine ≡ At id =
 known names keys (at_way way) answer id shows is =
     subst (IsKnown names keys) (same_id shows.0 id (sym shows.1 ∙ is)) (record { key = shows.2.key; at_number = shows.2.at_number; given = shows.2.given })
 
+no_place : (id : KeyId) (function span : Option ℕ) → place_by None function span ≡ At id → ⊥
+no_place id None span is = cc
+no_place id (Some f) None is = cc
+no_place id (Some f) (Some s) is = cc
+
+-- an address whose place has a key was asked for
+asked_place : (file : List ℕ) (base : Bool) (marks : List Bool) (placed : Placed) → IsPlaced file base marks placed → (address : ℕ) (id : KeyId)
+    → place_told placed.map address ≡ At id → asks_in file marks address ≡ true
+asked_place file base marks placed is address id at = elim (cases_Bool (asks_in file marks address)) [
+  | inl asked ↦ asked
+  | inr other ↦
+      let function = stretches.function_at placed.map.stretches address in
+      let span = owner_at placed.map.nameless address in
+      absurd (no_place id function span (sym (ap (λ key. place_by key function span) (nothing_at file base marks placed is address other)) ∙ at))
+]
+
+known_at : (file : List ℕ) (base : Bool) (marks : List Bool) (placed : Placed) → IsPlaced file base marks placed → (address : ℕ) (id : KeyId)
+    → place_told placed.map address ≡ At id → IsKnown placed.names placed.keys id
+known_at file base marks placed is address id at =
+    known placed.names placed.keys (place_of_address file base address) (place_told placed.map address) id
+    (places_shown file base marks placed is address (asked_place file base marks placed is address id at)) at
+
 pub places_are_given : PlacesAreGiven
-places_are_given file base binary is address id at =
-    let k = known binary.names binary.keys (place_of_address file base address) (place_told binary.map address) id (places_shown file base binary is address) at in
-    slice_get_within binary.keys id.0 k.key k.at_number
+places_are_given file base marks placed is address id at =
+    let k = known_at file base marks placed is address id at in
+    slice_get_within placed.keys id.0 k.key k.at_number
 
 -- ---- names of keys
 
@@ -60,15 +84,15 @@ same_key : (k l : Key) → Some k ≡ Some l → k ≡ l
 same_key k l is = cc
 
 pub keys_have_names : KeysHaveNames
-keys_have_names file base binary is n d low =
-    let holds = address_of_key n 0 (2 ^ 64 - 1) binary.map.segments is.map.ascend (is.used n (omega arith) low) in
-    let told_key : key_told binary.map.segments holds.at ≡ Some holds.segment.key = ap (option_map (λ segment. segment.key)) holds.is in
-    let at : place_told binary.map holds.at ≡ At holds.segment.key =
-    ap (λ o. place_by o (stretches.function_at binary.map.stretches holds.at) (owner_at binary.map.nameless holds.at)) told_key in
-    let k = known binary.names binary.keys (place_of_address file base holds.at) (place_told binary.map holds.at) holds.segment.key (places_shown file base binary is holds.at) at in
-    let same : k.key ≡ get_or binary.keys n d =
-    same_key k.key (get_or binary.keys n d) (sym k.at_number ∙ ap (slice_get binary.keys) holds.key_is ∙ slice_get-get_or binary.keys n d low) in
-    subst (HasNames (length binary.names)) same (k.given.root, each (λ (call : Frame). call.name.0 < length binary.names) k.key.calls k.given.calls)
+keys_have_names file base marks placed is n d low =
+    let holds = address_of_key n 0 (2 ^ 64 - 1) placed.map.segments is.map.ascend (is.used n (omega arith) low) in
+    let told_key : key_told placed.map.segments holds.at ≡ Some holds.segment.key = ap (option_map (λ segment. segment.key)) holds.is in
+    let at : place_told placed.map holds.at ≡ At holds.segment.key =
+    ap (λ o. place_by o (stretches.function_at placed.map.stretches holds.at) (owner_at placed.map.nameless holds.at)) told_key in
+    let k = known_at file base marks placed is holds.at holds.segment.key at in
+    let same : k.key ≡ get_or placed.keys n d =
+    same_key k.key (get_or placed.keys n d) (sym k.at_number ∙ ap (slice_get placed.keys) holds.key_is ∙ slice_get-get_or placed.keys n d low) in
+    subst (HasNames (length placed.names)) same (k.given.root, each (λ (call : Frame). call.name.0 < length placed.names) k.key.calls k.given.calls)
 
 -- ---- names of members
 
@@ -109,7 +133,7 @@ entered_name names (Some m) address name all is = by (is_entered_at address m.1.
     by false e = absurd (cc)
 
 pub entries_are_given : EntriesAreGiven
-entries_are_given file base binary is address name at =
-    entered_name binary.names (function_of is.members address) address name
-    (λ m found. found_fits binary.names (λ member. holds_at 0 address member.1) 0 is.members (all_fit binary.names _ is.members is.told) m found)
+entries_are_given file base marks placed is address name at =
+    entered_name placed.names (function_of is.members address) address name
+    (λ m found. found_fits placed.names (λ member. holds_at 0 address member.1) 0 is.members (all_fit placed.names _ is.members is.told) m found)
     (sym (is.map.entry address) ∙ at)

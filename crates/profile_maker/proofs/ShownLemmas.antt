@@ -1,10 +1,10 @@
--- The map of a binary shows the program that the binary tells.
-use Rattle.std.proofs.Common.{◌≡◌, ◌+◌, ◌==◌, ◌&&◌, ℕ, Bool, true, false, cond, List, [], ◌∷◌, ◌++◌, map, Option, None, Some, refl, sym, ap, subst, ◌∙◌}
-use Rattle.std.specs.Prelude.{IsSome, find, slice_get, unwrap_or, option_and_then, if◌then◌else◌}
-use Rattle.std.specs.List.{enumerate_from, list_any}
+-- The map of a binary shows the program that the binary tells, as far as it was asked for.
+use Rattle.std.proofs.Common.{◌≡◌, ◌++◌, ℕ, Bool, true, false, List, [], ◌∷◌, map, Option, None, Some, refl, sym, ap, subst, ◌∙◌, inl, inr}
+use Rattle.std.specs.Prelude.{IsSome, slice_get, unwrap_or, option_and_then, if◌then◌else◌}
 use Rattle.std.specs.Option.{option_map}
-use Rattle.std.proofs.lemmas.Bool.{true≢false}
+use Rattle.std.proofs.lemmas.Bool.{cases_Bool, true≢false}
 use Rattle.std.proofs.lemmas.Option.{slice_get_within}
+use Rattle.address_spans.specs.Spans.{owner_at}
 use Rattle.key_types.specs.declared.ids.KeyId.{KeyId}
 use Rattle.key_types.specs.declared.ids.NameId.{NameId}
 use Rattle.key_types.specs.declared.key.Frame.{Frame}
@@ -14,31 +14,35 @@ use Rattle.key_types.specs.declared.places.Where.{Where}
 use Rattle.key_types.specs.declared.places.Where.TheVariants.{Outside, Nameless, NoLine, At}
 use Rattle.key_types.specs.Discriminators as packed
 use Rattle.chain_model.specs.declared.member.Member.{Member}
-use Rattle.chain_model.specs.Chains.{chain, function_of, holds_at, piece_holds}
+use Rattle.chain_model.specs.Chains.{chain, function_of}
 use Rattle.chain_model.specs.Places as by_number
-use Rattle.chain_model.specs.Places.{LineAndDisc, Tells, chain_members, entry_name, factor_at, is_entered_at, row_of}
+use Rattle.chain_model.specs.Places.{LineAndDisc, Tells, chain_members, factor_at, is_entered_at, row_of}
 use Rattle.chain_model.proofs.ChainLemmas.{begin_with_the_function}
 use Rattle.entry_facts.specs.Meaning.{IsNumberOf}
 use Rattle.tree_model.specs.Members.{Told}
-use Rattle.inline_tree.specs.Told.{AreTold, IsTold}
 use Rattle.key_types.specs.Segments as segments
-use Rattle.key_types.specs.Segments.{segment_at, key_told}
+use Rattle.key_types.specs.Segments.{segment_at}
 use Rattle.line_model.specs.declared.row.Row.{Row}
 use Rattle.line_model.specs.Rows.{Sequence, row_among}
 use Rattle.row_table.specs.Told.{data_of, told}
+use Rattle.span_cover.specs.Stretches as stretches
 use Rattle.context_map.specs.Parts.{line_and_disc, with_factor}
 use Rattle.context_map.specs.Maps as maps
 use Rattle.context_map.specs.Maps.{place_told, rows_of}
 use Rattle.profile_model.specs.Ways.{to_body, to_call, to_function}
 use Rattle.profile_tree.specs.Steps.{frame_step, named, at_line, steps_of, steps_of_given}
-use Rattle.binary_model.specs.Addresses.{entered_at, factor_of_address, function_of_address}
+use Rattle.binary_model.specs.Addresses.{entered_at, factor_of_address}
 use Rattle.binary_model.specs.Binary.{members_in, tables_in}
-use Rattle.binary_model.specs.Places.{Place, outside, nameless, no_line, at_way, name_of, names_of, numbered_from, row_in, way_of}
-use Rattle.binary_places.specs.Binary.{IsWay, TellsNamed}
+use Rattle.binary_model.specs.Places.{Place, outside, nameless, no_line, at_way, name_of, names_of, numbered_from, place_of_address, row_in, way_of}
+use Rattle.binary_places.specs.Binary.{IsPlaced, IsWay, TellsNamed, asks_in}
+use Rattle.binary_places.specs.declared.binary.Placed.{Placed}
+use Rattle.binary_places.proofs.FunctionLemmas.{SameFound, SameName, function_same, same_found}
 use Rattle.binary_places.proofs.NumberLemmas.{are-told}
 use Rattle.binary_places.proofs.ShownLemmas.{places_shown}
 use Rattle.profile_writer.specs.Told.{TellsName, TellsPlace, key_of}
+use Rattle.profile_maker.specs.Asked.{lack_of, program_asked}
 use Rattle.profile_maker.specs.Laws.{BinariesShowPrograms}
+use Rattle.profile_maker.proofs.SegmentLemmas.{asked_of, nothing_at}
 
 -- ---- places
 
@@ -64,60 +68,21 @@ place_shown names keys (at_way way) answer shown =
       },
     )
 
--- ---- the same member by two numberings of names
+-- an answer without a key tells what it lacks
+lack_shown : (names : List (List ℕ)) (keys : List Key) (answer : Where) → key_of answer ≡ None → TellsPlace names keys (lack_of answer) answer
+lack_shown names keys Outside none = refl
+lack_shown names keys Nameless none = refl
+lack_shown names keys NoLine none = refl
+lack_shown names keys (At key) none = absurd (cc)
+
+asked_shown : (b : Bool) (names : List (List ℕ)) (keys : List Key) (place : Place) (answer : Where) → (b ≡ true → TellsNamed names keys place answer)
+    → (b ≡ false → key_of answer ≡ None) → TellsPlace names keys (if b then place else lack_of answer) answer
+asked_shown true names keys place answer told none = place_shown names keys place answer (told refl)
+asked_shown false names keys place answer told none = lack_shown names keys answer (none refl)
+
+-- ---- the same name by two numberings of names
 
 module _ (names others : List (List ℕ)) where
-  abbrev SameName : Option NameId → Option NameId → Type 0
-  SameName one other = (name : Option (List ℕ)) × IsNumberOf names name one × IsNumberOf others name other
-
-  record SameMember (p q : ℕ × Member) : Type 0 where
-    number_is : p.0 ≡ q.0
-    unit_is : p.1.unit ≡ q.1.unit
-    pieces_are : p.1.pieces ≡ q.1.pieces
-    name_is : SameName p.1.name q.1.name
-
-  abbrev SameFound : Option (ℕ × Member) → Option (ℕ × Member) → Type 0
-  SameFound None None = Unit {0}
-  SameFound None (Some q) = ⊥
-  SameFound (Some p) None = ⊥
-  SameFound (Some p) (Some q) = SameMember p q
-
-  same_holds : (address : ℕ) (told : Told) (m c : Member) → IsTold names told m → IsTold others told c → holds_at 0 address m ≡ holds_at 0 address c
-  same_holds address told m c is other =
-      λ i. ((is.depth_is ∙ sym other.depth_is) i == 0) && list_any (piece_holds address) ((is.pieces_are ∙ sym other.pieces_are) i)
-
-  same_member : (n : ℕ) (told : Told) (m c : Member) → IsTold names told m → IsTold others told c → SameMember (n, m) (n, c)
-  same_member n told m c is other = record {
-    number_is = refl;
-    unit_is = is.unit_is ∙ sym other.unit_is;
-    pieces_are = is.pieces_are ∙ sym other.pieces_are;
-    name_is = (told.name, is.name_is, other.name_is);
-  }
-
-  found_first : (b : Bool) (p q : ℕ × Member) (x y : Option (ℕ × Member)) → SameMember p q → SameFound x y → SameFound (cond b (Some p) x) (cond b (Some q) y)
-  found_first true p q x y same rest = same
-  found_first false p q x y same rest = rest
-
-  same_found : (address n : ℕ) (tolds : List Told) (ms cs : List Member) → AreTold names tolds ms → AreTold others tolds cs
-      → SameFound (find (λ member. holds_at 0 address member.1) (enumerate_from n ms)) (find (λ member. holds_at 0 address member.1) (enumerate_from n cs))
-  same_found address n [] [] [] h k = tt
-  same_found address n [] [] (c ∷ cs) h k = absurd k
-  same_found address n [] (m ∷ ms) cs h k = absurd h
-  same_found address n (t ∷ tolds) [] cs h k = absurd h
-  same_found address n (t ∷ tolds) (m ∷ ms) [] h k = absurd k
-  same_found address n (t ∷ tolds) (m ∷ ms) (c ∷ cs) h k =
-      let x = find (λ member. holds_at 0 address member.1) (enumerate_from (n + 1) ms) in
-      let y = find (λ member. holds_at 0 address member.1) (enumerate_from (n + 1) cs) in
-      subst (λ b. SameFound (cond (holds_at 0 address m) (Some (n, m)) x) (cond b (Some (n, c)) y)) (same_holds address t m c h.0 k.0)
-      (found_first (holds_at 0 address m) (n, m) (n, c) x y (same_member n t m c h.0 k.0) (same_found address (n + 1) tolds ms cs h.1 k.1))
-
-  -- its number
-  same_number : (x y : Option (ℕ × Member)) → SameFound x y → option_map (λ function. function.0) x ≡ option_map (λ function. function.0) y
-  same_number None None h = refl
-  same_number None (Some q) h = absurd h
-  same_number (Some p) None h = absurd h
-  same_number (Some p) (Some q) h = ap (λ n. Some n) h.number_is
-
   -- the name of what is entered there
   abbrev name_where : ℕ → Option (ℕ × Member) → Option NameId
   name_where address function = option_and_then (λ function. if is_entered_at address function.1.pieces then function.1.name else None) function
@@ -130,11 +95,11 @@ module _ (names others : List (List ℕ)) where
   same_name (Some n) (Some i) None h k = absurd cc
   same_name (Some n) (Some i) (Some j) h k = (i, refl, h.1 ∙ ap (λ o. Some (unwrap_or o [])) (sym k.1))
 
-  name_if : (b : Bool) (p q : Option NameId) → SameName p q → TellsName names (option_map (name_of others) (if b then q else None)) (if b then p else None)
+  name_if : (b : Bool) (p q : Option NameId) → SameName names others p q → TellsName names (option_map (name_of others) (if b then q else None)) (if b then p else None)
   name_if true p q h = same_name h.0 p q h.1 h.2
   name_if false p q h = refl
 
-  same_entry : (address : ℕ) (x y : Option (ℕ × Member)) → SameFound x y → TellsName names (option_map (name_of others) (name_where address y)) (name_where address x)
+  same_entry : (address : ℕ) (x y : Option (ℕ × Member)) → SameFound names others x y → TellsName names (option_map (name_of others) (name_where address y)) (name_where address x)
   same_entry address None None h = refl
   same_entry address None (Some q) h = absurd h
   same_entry address (Some p) None h = absurd h
@@ -143,7 +108,7 @@ module _ (names others : List (List ℕ)) where
       (name_if (is_entered_at address p.1.pieces) p.1.name q.1.name h.name_is)
 
   -- the row of its unit
-  same_row : (f g : ℕ → ℕ → Option LineAndDisc) → ((unit address : ℕ) → f unit address ≡ g unit address) → (address : ℕ) (x y : Option (ℕ × Member)) → SameFound x y
+  same_row : (f g : ℕ → ℕ → Option LineAndDisc) → ((unit address : ℕ) → f unit address ≡ g unit address) → (address : ℕ) (x y : Option (ℕ × Member)) → SameFound names others x y
       → option_and_then (λ function. f function.1.unit address) x ≡ option_and_then (λ function. g function.1.unit address) y
   same_row f g rows address None None h = refl
   same_row f g rows address None (Some q) h = absurd h
@@ -173,6 +138,11 @@ key_of_place (Some s) function span = refl
 key_of_place None None span = refl
 key_of_place None (Some f) (Some s) = refl
 key_of_place None (Some f) None = refl
+
+no_key : (function span : Option ℕ) → key_of (maps.place_by None function span) ≡ None
+no_key None span = refl
+no_key (Some f) (Some s) = refl
+no_key (Some f) None = refl
 
 no_place : (id : KeyId) → Outside ≡ At id → ⊥
 no_place id e = cc
@@ -227,29 +197,64 @@ rows_agree tables unit address = by_table (option_and_then (λ table. table) (sl
 
 -- ---- all together
 
+number_none : (segment : Option Seg) → option_map (λ (s : Seg). s.key) segment ≡ None → IsSome (number_by segment) → ⊥
+number_none None none some = true≢false (sym some)
+number_none (Some s) none some = cc
+
+module _ (file : List ℕ) (base : Bool) (marks : List Bool) (placed : Placed) (is : IsPlaced file base marks placed) where
+  place_here : (address : ℕ) → TellsPlace placed.names placed.keys ((program_asked file base marks placed).place address) (place_told placed.map address)
+  place_here address =
+      asked_shown (asks_in file marks address) placed.names placed.keys (place_of_address file base address) (place_told placed.map address)
+      (λ asked. places_shown file base marks placed is address asked)
+      (λ other.
+      let function = stretches.function_at placed.map.stretches address in
+      let span = owner_at placed.map.nameless address in
+      ap (λ key. key_of (maps.place_by key function span)) (nothing_at file base marks placed is address other) ∙ no_key function span)
+
+  abbrev tolds : List Told
+  tolds = members_in file
+
+  abbrev cs : List Member
+  cs = numbered_from 0 tolds
+
+  same : (address : ℕ) → SameFound placed.names (names_of tolds) (function_of is.members address) (function_of cs address)
+  same address = same_found placed.names (names_of tolds) address 0 tolds is.members cs is.told (are-told tolds)
+
+  abbrev rows : ℕ → ℕ → Option LineAndDisc
+  rows = rows_of (tables_in file)
+
+  factor_asked : (address : ℕ) → asks_in file marks address ≡ true → IsSome (number_by (segment_at placed.map.segments address))
+      → factor_in (segment_at placed.map.segments address) ≡ factor_of_address file base address
+  unfolding factor_of_address
+  factor_asked address asked some =
+      let factor : ℕ → Option LineAndDisc → ℕ = λ _ row. unwrap_or (option_map (λ row. if base then packed.factor row.1 else 1) row) 1 in
+      let here = asked_of file base marks placed is address asked in
+      factor_there placed.keys (segment_at placed.map.segments address) _ _ (by_number.place_at rows base is.members address) (factor_at rows base is.members address) (is.map.place address here)
+      some (is.map.tell address here)
+      ∙ ap (factor 0)
+      (row_by_function rows is.members address
+      ∙ same_row placed.names (names_of tolds) rows (row_in (tables_in file)) (rows_agree (tables_in file)) address (function_of is.members address) (function_of cs address) (same address)
+      ∙ sym (row_by_function (row_in (tables_in file)) cs address))
+
+  factor_here : (address : ℕ) → IsSome (number_by (segment_at placed.map.segments address))
+      → factor_in (segment_at placed.map.segments address) ≡ factor_of_address file base address
+  factor_here address some = elim (cases_Bool (asks_in file marks address)) [
+    | inl asked ↦ factor_asked address asked some
+    | inr other ↦ absurd (number_none (segment_at placed.map.segments address) (nothing_at file base marks placed is address other) some)
+  ]
+
 pub programs_shown : BinariesShowPrograms
-unfolding entered_at factor_of_address function_of_address
-programs_shown file base binary is =
+unfolding entered_at
+programs_shown file base marks placed is =
     let tolds = members_in file in
     let others = names_of tolds in
     let cs = numbered_from 0 tolds in
-    let same : (address : ℕ) → SameFound binary.names others (function_of is.members address) (function_of cs address) =
-    λ address. same_found binary.names others address 0 tolds is.members cs is.told (are-told tolds) in
-    let segment = λ (address : ℕ). segment_at binary.map.segments address in
-    let rows = rows_of (tables_in file) in
     record {
-      places = λ address. place_shown binary.names binary.keys _ (place_told binary.map address) (places_shown file base binary is address);
-      functions = λ address. is.map.function address ∙ same_number binary.names others (function_of is.members address) (function_of cs address) (same address);
+      places = place_here file base marks placed is;
+      functions = λ address. is.map.function address ∙ function_same file placed.names is.members is.told address;
       entrances = λ address.
-          subst (TellsName binary.names (entered_at file address)) (sym (is.map.entry address))
-          (same_entry binary.names others address (function_of is.members address) (function_of cs address) (same address));
-      keys_told = λ address. key_of_place (segment address) _ _;
-      factors_told = λ address some.
-          let factor : ℕ → Option LineAndDisc → ℕ = λ _ row. unwrap_or (option_map (λ row. if base then packed.factor row.1 else 1) row) 1 in
-          factor_there binary.keys (segment address) _ _ (by_number.place_at rows base is.members address) (factor_at rows base is.members address) (is.map.place address)
-          some (is.map.tell address)
-          ∙ ap (factor 0)
-          (row_by_function rows is.members address
-          ∙ same_row binary.names others rows (row_in (tables_in file)) (rows_agree (tables_in file)) address (function_of is.members address) (function_of cs address) (same address)
-          ∙ sym (row_by_function (row_in (tables_in file)) cs address));
+          subst (TellsName placed.names (entered_at file address)) (sym (is.map.entry address))
+          (same_entry placed.names others address (function_of is.members address) (function_of cs address) (same file base marks placed is address));
+      keys_told = λ address. key_of_place (segment_at placed.map.segments address) _ _;
+      factors_told = factor_here file base marks placed is;
     }

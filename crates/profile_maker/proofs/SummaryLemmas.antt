@@ -1,5 +1,5 @@
 -- What a profile and the costs of repairs by its counts come to.
-use Rattle.std.proofs.Common.{◌≡◌, ℕ, List, length, map, Option, ◌∙◌}
+use Rattle.std.proofs.Common.{◌≡◌, ℕ, List, length, Option, ◌∙◌}
 use Rattle.std.specs.List.{AllZip}
 use Rattle.block_model.specs.Function.{Function}
 use Rattle.block_weights.specs.Counts.{count_in}

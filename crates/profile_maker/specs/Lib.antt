@@ -1,3 +1,4 @@
+pub mod Asked
 pub mod Edges
 pub mod MapLaws
 pub mod Laws

@@ -2,6 +2,8 @@
 use Rattle.std.specs.Prelude.{◌≡◌, ℕ, List, length}
 use Rattle.branch_counts.specs.Table.{Tallies}
 use Rattle.key_types.specs.declared.places.Seg.{Seg}
+use Rattle.block_model.specs.Function.{Function}
+use Rattle.asked_laws.specs.Alike.{AnswerAlike, AreAlikeInBlocks}
 use Rattle.sample_model.specs.declared.pair.Pair.{Pair}
 use Rattle.report_model.specs.Report.{Sampled}
 use Rattle.output_model.specs.Program.{Program}
@@ -15,3 +17,13 @@ pub record IsProfiled
   pub profile : IsProfileOf program sampled names segments parts
   pub tallied : Tallies sampled.branches branches
   pub total_is : total ≡ length sampled.branches
+
+-- The parts are those of a program that answers samples as another does, and has the same places in the blocks of some
+-- functions.
+pub record IsProfiledLike
+    (other : Program) (funs : List Function) (sampled : Sampled) (names : List (List ℕ)) (segments : List Seg)
+    (parts : Parts) (branches : List Pair) (total : ℕ) : Type 0 where
+  pub program : Program
+  pub answers : AnswerAlike sampled program other
+  pub in_blocks : AreAlikeInBlocks program other funs
+  pub profiled : IsProfiled program sampled names segments parts branches total

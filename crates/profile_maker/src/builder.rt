@@ -37,28 +37,28 @@ use text_scan::push_number;
 /// `NoMemory`.
 pub fn build(
     alloc: Global,
-    binary: &Binary<'_>,
+    binary: Binary<'_>,
     counts: Counts,
     funs: &[Fun<'_>],
     edges: bool,
     scaled: bool,
 ) -> Result<Vec<u8>, NoMemory>
-    requires binary { (file : List ℕ) × (base : Bool) × IsBinary file base binary.now }
+    requires binary { (file : List ℕ) × (base : Bool) × IsBinary file base binary }
     requires sound { All (λ fun. IsSound fun.blocks fun.edges) funs.now }
     requires few { length funs.now ≤ 2 ^ 29 }
     ensures { IfOk result (λ out. (file : List ℕ) (base : Bool) (loading : Option LoadMap)
-        (lines : List (List ℕ)) → IsBinary file base binary.now → counts.with_ranges ≡ true
+        (lines : List (List ℕ)) → IsBinary file base binary.entry → counts.with_ranges ≡ true
         → Tells loading lines counts
         → IsBuiltBy scaled edges (program_of file base) (sampled_by loading file lines)
         (map function_of funs.now) out.items) }
 {
-    let made = profile_of(alloc, binary, counts)?;
+    let made = profile_of(alloc, binary, counts, funs)?;
     let mut out = Vec::new(alloc);
-    made.profile.push_lines(&binary.names, &mut out)?;
+    made.profile.push_lines(&made.placed.names, &mut out)?;
     let augmentations = push_repairs(
         alloc,
         &made,
-        binary.map.segments(),
+        made.placed.map.segments(),
         funs,
         edges,
         scaled,
@@ -88,7 +88,7 @@ fn push_augmentations(out: &mut Vec<u8>, asked: bool, augmentations: u64) -> Res
 /// ran.
 fn push_repairs(
     alloc: Global,
-    made: &Profiled,
+    made: &Profiled<'_>,
     segments: &[Seg],
     funs: &[Fun<'_>],
     edges: bool,

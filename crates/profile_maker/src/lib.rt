@@ -1,13 +1,16 @@
-//! The profile of a binary and the report on its samples, from the binary's map and what was
+//! The profile of a binary and the report on its samples, from what was read of it and what was
 //! counted of a branch text; between the two a repair of each function of a block text; or a
 //! summary of all.
 //!
-//! The profile is made once (`profile_of`), and each of the three stands on it.
+//! The profile is made once (`profile_of`), and each of the three stands on it. Of the binary's
+//! places it makes those of the functions that the samples and the blocks ask for (`asked`). What
+//! is written says nothing of the others, by `asked_laws`.
 //!
-//! By the laws what was read of a binary, the segments of its map, the numbers of its keys and the
-//! names in them, meets all that making a profile asks of these.
+//! By the laws the places that were made, the segments of their map, the numbers of its keys and
+//! the names in them, meet all that making a profile asks of these.
 #![tactic(auto)]
 
+mod asked;
 mod builder;
 mod laws;
 mod maker;
@@ -15,6 +18,7 @@ mod map_laws;
 mod profiled;
 mod summary;
 
+pub use asked::ask_blocks;
 pub use builder::build;
 pub use laws::{binaries_show_programs, key_ways_are_told};
 pub use maker::make;

@@ -17,16 +17,16 @@ use std::alloc::Global;
 ///
 /// # Errors
 /// `NoMemory`.
-pub fn make(alloc: Global, binary: &Binary<'_>, counts: Counts) -> Result<Vec<u8>, NoMemory>
-    requires { (file : List ℕ) × (base : Bool) × IsBinary file base binary.now }
+pub fn make(alloc: Global, binary: Binary<'_>, counts: Counts) -> Result<Vec<u8>, NoMemory>
+    requires { (file : List ℕ) × (base : Bool) × IsBinary file base binary }
     ensures { IfOk result (λ out. (file : List ℕ) (base : Bool) (loading : Option LoadMap)
-        (lines : List (List ℕ)) → IsBinary file base binary.now → counts.with_ranges ≡ true
+        (lines : List (List ℕ)) → IsBinary file base binary.entry → counts.with_ranges ≡ true
         → Tells loading lines counts
         → out.items ≡ output_text (program_of file base) (sampled_by loading file lines)) }
 {
-    let made = profile_of(alloc, binary, counts)?;
+    let made = profile_of(alloc, binary, counts, &[])?;
     let mut out = Vec::new(alloc);
-    made.profile.push_lines(&binary.names, &mut out)?;
+    made.profile.push_lines(&made.placed.names, &mut out)?;
     made.profile.push_report(&mut out)?;
     Ok(out)
 }

@@ -38,20 +38,21 @@ struct Summary {
 /// `NoMemory`, also where the costs would not fit 128 bits.
 pub fn summarize(
     alloc: Global,
-    binary: &Binary<'_>,
+    binary: Binary<'_>,
     counts: Counts,
     funs: &[Fun<'_>],
 ) -> Result<Vec<u8>, NoMemory>
-    requires binary { (file : List ℕ) × (base : Bool) × IsBinary file base binary.now }
+    requires binary { (file : List ℕ) × (base : Bool) × IsBinary file base binary }
     requires sound { All (λ fun. IsSound fun.blocks fun.edges) funs.now }
     ensures { IfOk result (λ out. (file : List ℕ) (base : Bool) (loading : Option LoadMap)
-        (lines : List (List ℕ)) → IsBinary file base binary.now → counts.with_ranges ≡ true
+        (lines : List (List ℕ)) → IsBinary file base binary.entry → counts.with_ranges ≡ true
         → Tells loading lines counts
         → IsSummary (program_of file base) (sampled_by loading file lines)
         (map function_of funs.now) out.items) }
 {
-    let made = profile_of(alloc, binary, counts)?;
-    let costs = costs_of(alloc, funs, binary.map.segments(), made.profile.counts())?;
+    let made = profile_of(alloc, binary, counts, funs)?;
+    let segments = made.placed.map.segments();
+    let costs = costs_of(alloc, funs, segments, made.profile.counts())?;
     text_of(
         alloc,
         Summary {

@@ -9,10 +9,11 @@ use Rattle.profile_model.specs.Text.{profile_text, text_of_lines}
 use Rattle.std.specs.Fmt.{digits}
 use Rattle.profile_text.specs.declared.item.Item.{Item}
 use Rattle.profile_text.specs.declared.item.What.TheVariants.{Head, Count, Target}
+use Rattle.profile_text.specs.Numbers.{counted}
 use Rattle.profile_merge.specs.Functions.{different, roots}
 use Rattle.profile_merge.specs.Hot.{counts_told}
 use Rattle.profile_merge.specs.Sums.{Sums, first_over, number_at, sum_in}
-use Rattle.profile_merge.specs.Told.{no_sums, part_told, sums_told}
+use Rattle.profile_merge.specs.Told.{no_sums, sums_told}
 
 abbrev names : List (List ℕ)
 names = codes "f" ∷ codes "g" ∷ []
@@ -40,7 +41,7 @@ twice : ◌≡◌ {A = List ℕ} (sum_in sums (Target (record { 0 = 0 }) (record
 twice = refl
 
 -- What the sums say is written as the profile with its weight is.
-merged : profile_text (sums_told names keys sums) ≡ profile_text (weighed 2 (part_told names keys items))
+merged : profile_text (sums_told names keys sums) ≡ profile_text (weighed 2 (counted names keys items))
 unfolding profile_by text_of_lines lines_of
 merged = refl
 

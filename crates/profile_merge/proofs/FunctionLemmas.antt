@@ -29,14 +29,15 @@ use Rattle.profile_tree.specs.Said.{way_at}
 use Rattle.profile_tree.specs.Known.{HasNames}
 use Rattle.profile_tree.specs.Steps.{at_line, name_at, named, frame_step, steps_of_given}
 use Rattle.key_types.specs.declared.key.Frame.{Frame}
+use Rattle.profile_text.proofs.NumberLemmas as numbers
 use Rattle.profile_text.specs.Draft.{IsGivenItem, IsGivenWhat, number_told}
+use Rattle.profile_text.specs.Numbers.{counted, root_at, root_of, root_of_given}
 use Rattle.profile_text.specs.declared.item.Item.{Item}
 use Rattle.profile_text.specs.declared.item.What.{What}
 use Rattle.profile_text.specs.declared.item.What.TheVariants.{Head, Count, Target}
-use Rattle.profile_merge.specs.Functions.{AreMarked, CountsRoot, root_of, root_of_given, roots, different, stands}
+use Rattle.profile_merge.specs.Functions.{AreMarked, CountsRoot, roots, different, stands}
 use Rattle.profile_merge.specs.Laws.{AreNumbered}
 use Rattle.profile_merge.specs.Row.{IsWithSum}
-use Rattle.profile_merge.specs.Told.{part_told}
 
 -- ---- different numbers, with one number more
 any_push : (p : ℕ → Bool) (ns : List ℕ) (n : ℕ) → list_any p (ns ++ n ∷ []) ≡ (list_any p ns || p n)
@@ -338,15 +339,10 @@ by_kinds keys (item ∷ items) = by item.what (nat_lt 0 item.times) (by_kinds ke
 
 module _ (names : List (List ℕ)) (keys : List Key) (are : AreNumbered names keys) where
   key_of : (k : ℕ) → k < length keys → (key : Key) × (slice_get keys k ≡ Some key)
-  key_of k h = there keys k h
-    where
-      there : (ks : List Key) (k : ℕ) → k < length ks → (key : Key) × (slice_get ks k ≡ Some key)
-      there [] k h = absurd (omega arith)
-      there (x ∷ ks) zero h = (x, refl)
-      there (x ∷ ks) (suc k) h = there ks k (omega arith)
+  key_of k h = numbers.item_there keys k h
 
   -- the way of a key begins with its function
-  key_root : (k : ℕ) → k < length keys → root_in (way_at names keys k) ≡ root_way names (root_of_given (slice_get keys k))
+  key_root : (k : ℕ) → k < length keys → root_in (way_at names keys k) ≡ root_way names (root_at keys k)
   key_root k h = let found = key_of k h in ap (λ o. root_in (map (named names) (steps_of_given o))) found.1 ∙ ap (λ o. root_way names (root_of_given o)) (sym found.1)
 
   key_way : (k : ℕ) → k < length keys → IsWay (way_at names keys k)
@@ -361,11 +357,8 @@ module _ (names : List (List ℕ)) (keys : List Key) (are : AreNumbered names ke
   unfolding IsWay
   head_way name = (refl, tt)
 
-  root_within : (k : ℕ) → k < length keys → root_of_given (slice_get keys k) < length names
-  root_within k h =
-      let found = key_of k h in
-      let named_by = all_to_each (HasNames (length names)) found.0 keys are.key_names (given_among keys k found.0 found.1) in
-      subst (λ o. root_of_given o < length names) (sym found.1) named_by.0
+  root_within : (k : ℕ) → k < length keys → root_at keys k < length names
+  root_within k h = numbers.root_within (length names) keys are.key_names k h
 
   -- one more that is counted, or none
   one_more : {T : Type 0} (way_of : T → Way) (x : T) (xs : List T) (item : Item) (items : List Item) (b : Bool) → root_in (way_of x) ≡ root_way names (root_of keys item.what)
@@ -432,7 +425,7 @@ module _ (names : List (List ℕ)) (keys : List Key) (are : AreNumbered names ke
         count_ways = one_way (λ (c : Way × ℕ). c.0) (way_at names keys key.0, item.times) (counts_in numbers) some (key_way key.0 given) rest.count_ways;
         call_ways = rest.call_ways;
         head_ways = rest.head_ways;
-        within = root_more (root_of_given (slice_get keys key.0)) some (Count key) refl (root_within key.0 given) rest.within;
+        within = root_more (root_at keys key.0) some (Count key) refl (root_within key.0 given) rest.within;
       }
       by (Target key name) given rest = record {
         counts = rest.counts;
@@ -441,11 +434,11 @@ module _ (names : List (List ℕ)) (keys : List Key) (are : AreNumbered names ke
         count_ways = rest.count_ways;
         call_ways = one_way (λ (c : Way × List ℕ × ℕ). c.0) (way_at names keys key.0, name_at names name.0, item.times) (calls_in numbers) some (key_way key.0 given.0) rest.call_ways;
         head_ways = rest.head_ways;
-        within = root_more (root_of_given (slice_get keys key.0)) some (Target key name) refl (root_within key.0 given.0) rest.within;
+        within = root_more (root_at keys key.0) some (Target key name) refl (root_within key.0 given.0) rest.within;
       }
 
   -- the functions that have a line are the different ones
-  pub functions_are : (items : List Item) → AllByRecursion (IsGivenItem (length names) (length keys)) items → function_count (part_told names keys items) ≡ different (roots keys items)
+  pub functions_are : (items : List Item) → AllByRecursion (IsGivenItem (length names) (length keys)) items → function_count (counted names keys items) ≡ different (roots keys items)
   unfolding profile_by
   functions_are items all =
       count_functions p ways
@@ -454,7 +447,7 @@ module _ (names : List (List ℕ)) (keys : List Key) (are : AreNumbered names ke
       ∙ length_roots names keys are cmp t (roots keys items) all_kinds.within
     where
       p : Profile
-      p = part_told names keys items
+      p = counted names keys items
 
       cmp : Way → Way → Ordering
       cmp = way_cmp (total_of_function p)

@@ -25,15 +25,16 @@ use Rattle.profile_tree.specs.Steps.{name_at}
 use Rattle.profile_text.proofs.OpenLemmas.{kept_grows}
 use Rattle.profile_text.proofs.ToldLemmas.{what_grows}
 use Rattle.profile_text.specs.Draft.{IsGivenWhat, number_told, what_told}
+use Rattle.profile_text.specs.Numbers.{counted}
 use Rattle.profile_text.specs.declared.item.Item.{Item}
 use Rattle.profile_text.specs.declared.item.What.{What}
 use Rattle.profile_text.specs.declared.item.What.TheVariants.{Head, Count, Target}
 use Rattle.profile_merge.proofs.CalledLemmas.{targets_same}
-use Rattle.profile_merge.proofs.TellLemmas.{number_in_both, number_is, told_by_items, way_is, name_is, what_once, what_same}
+use Rattle.profile_merge.proofs.TellLemmas.{number_in_weighed_both, number_is, told_by_items, way_is, name_is, what_once, what_same}
 use Rattle.profile_merge.specs.Called.{Target as CalledFrom, IsGivenTarget, called_sum, same_target}
 use Rattle.profile_merge.specs.Laws.{AreNumbered, NothingIsSummed, SumsStayWithMore, RaisedSumsCountBoth, FirstOverIsFirstBad, LinesAreOfSums, SumsAreByCounts, place_over}
 use Rattle.profile_merge.specs.Sums.{AreSumsOf, Sums, first_over, is_over, sum_in}
-use Rattle.profile_merge.specs.Told.{AreSumsIn, IsToldBy, no_sums, part_told, sums_told}
+use Rattle.profile_merge.specs.Told.{AreSumsIn, IsToldBy, no_sums, sums_told}
 
 -- ---- nothing
 pub nothing_is_summed : NothingIsSummed
@@ -137,9 +138,9 @@ raised_sums_count_both names keys weight items old new profile are given sums_ar
   each = λ what known.
       adds what
       ∙ (λ i. sums_are.each what known i + weight * sym (number_is names keys are items what given known) i)
-      ∙ turned (number_in profile (what_told names keys what)) (weight * number_in (part_told names keys items) (what_told names keys what))
-      ∙ sym (number_in_both weight (part_told names keys items) profile (what_told names keys what));
-  only = λ told some. by told (cases_lt 0 (number_in profile told)) (subst (λ n. 0 < n) (number_in_both weight (part_told names keys items) profile told) some);
+      ∙ turned (number_in profile (what_told names keys what)) (weight * number_in (counted names keys items) (what_told names keys what))
+      ∙ sym (number_in_weighed_both weight (counted names keys items) profile (what_told names keys what));
+  only = λ told some. by told (cases_lt 0 (number_in profile told)) (subst (λ n. 0 < n) (number_in_weighed_both weight (counted names keys items) profile told) some);
 }
   where
     turned : (a b : ℕ) → a + b ≡ b + a
@@ -151,9 +152,9 @@ raised_sums_count_both names keys weight items old new profile are given sums_ar
       | inr none ↦ let e : weight * n ≡ weight * 0 = ap (λ m. weight * m) (omega arith) in absurd (omega arith)
     ]
 
-    by : (told : ToldWhat) → (0 < number_in profile told) ⊎ (number_in profile told ≤ 0) → 0 < weight * number_in (part_told names keys items) told + number_in profile told → IsToldBy names keys told
+    by : (told : ToldWhat) → (0 < number_in profile told) ⊎ (number_in profile told ≤ 0) → 0 < weight * number_in (counted names keys items) told + number_in profile told → IsToldBy names keys told
     by told (inl some) more = sums_are.only told some
-    by told (inr none) more = told_by_items names keys items told given (some_part (number_in (part_told names keys items) told) (omega arith))
+    by told (inr none) more = told_by_items names keys items told given (some_part (number_in (counted names keys items) told) (omega arith))
 
 -- ---- the first that is too large
 pub first_over_is_first_bad : FirstOverIsFirstBad

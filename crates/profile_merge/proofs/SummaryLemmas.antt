@@ -9,6 +9,7 @@ use Rattle.key_types.specs.declared.key.Key.{Key}
 use Rattle.profile_model.specs.Spelled.{Number, as_count, profile_by}
 use Rattle.profile_model.specs.Summary.{counts_above, cutoff_text, cutoffs, greatest, summary_by, summary_text, told_number}
 use Rattle.profile_text.specs.Draft.{IsGivenItem, number_told, what_told}
+use Rattle.profile_text.specs.Numbers.{counted}
 use Rattle.profile_text.specs.declared.item.Item.{Item}
 use Rattle.profile_text.specs.declared.item.What.{What}
 use Rattle.profile_text.specs.declared.item.What.TheVariants.{Head, Count, Target}
@@ -17,10 +18,9 @@ use Rattle.profile_merge.proofs.HotLemmas.{cutoff_permuted, greatest_permuted_al
 use Rattle.profile_merge.specs.Functions.{different, roots}
 use Rattle.profile_merge.specs.Hot.{count_by, counts_told}
 use Rattle.profile_merge.specs.Laws.{AreNumbered}
-use Rattle.profile_merge.specs.Told.{part_told}
 
 -- the counts above 0 that items tell are those of the profile
-counts_are : (names : List (List ℕ)) (keys : List Key) (items : List Item) → counts_above (part_told names keys items) ≡ counts_told items
+counts_are : (names : List (List ℕ)) (keys : List Key) (items : List Item) → counts_above (counted names keys items) ≡ counts_told items
 unfolding profile_by
 counts_are names keys [] = refl
 counts_are names keys (item ∷ items) = by item.what (counts_are names keys items)
@@ -43,7 +43,7 @@ summary_permuted functions xs ys same = λ i.
     ++ flat_map (λ cutoff. cutoff_permuted xs ys cutoff same i) cutoffs
 
 pub summary_is : (names : List (List ℕ)) (keys : List Key) (items : List Item) (functions : ℕ) (counts : List ℕ) → AreNumbered names keys → AllByRecursion (IsGivenItem (length names) (length keys)) items
-    → functions ≡ different (roots keys items) → IsPermutation (counts_told items) counts → summary_by functions counts ≡ summary_text (part_told names keys items)
+    → functions ≡ different (roots keys items) → IsPermutation (counts_told items) counts → summary_by functions counts ≡ summary_text (counted names keys items)
 summary_is names keys items functions counts are given is same =
     summary_permuted functions (counts_told items) counts same
     ∙ (λ i. summary_by ((is ∙ sym (functions_are names keys are items given)) i) (sym (counts_are names keys items) i))

@@ -19,16 +19,17 @@ use Rattle.profile_tree.specs.Said.{way_at}
 use Rattle.profile_tree.specs.Steps.{NumberedStep, at_function, at_line, at_call, name_at, named, steps_at, steps_of_given}
 use Rattle.profile_text.proofs.OpenLemmas.{name_kept}
 use Rattle.profile_text.specs.Draft.{IsGivenItem, IsGivenWhat, Kept, number_told, what_told}
+use Rattle.profile_text.specs.Numbers.{counted}
 use Rattle.profile_text.specs.declared.item.Item.{Item}
 use Rattle.profile_text.specs.declared.item.What.{What}
 use Rattle.profile_text.specs.declared.item.What.TheVariants.{Head, Count, Target}
 use Rattle.profile_merge.specs.Laws.{AreNumbered}
 use Rattle.profile_merge.specs.Sums.{number_at, same_what}
-use Rattle.profile_merge.specs.Told.{IsToldBy, part_told}
+use Rattle.profile_merge.specs.Told.{IsToldBy}
 
 -- a profile with weight, and another
-pub number_in_both : (weight : ℕ) (p q : Profile) (told : ToldWhat) → number_in (both (weighed weight p) q) told ≡ weight * number_in p told + number_in q told
-number_in_both weight p q told = number_in-both (weighed weight p) q told ∙ ap (λ n. n + number_in q told) (number_in-weighed weight p told)
+pub number_in_weighed_both : (weight : ℕ) (p q : Profile) (told : ToldWhat) → number_in (both (weighed weight p) q) told ≡ weight * number_in p told + number_in q told
+number_in_weighed_both weight p q told = number_in-both (weighed weight p) q told ∙ ap (λ n. n + number_in q told) (number_in-weighed weight p told)
 
 -- ---- names and keys that were given
 module _ (names : List (List ℕ)) (keys : List Key) (are : AreNumbered names keys) where
@@ -82,7 +83,7 @@ module _ (names : List (List ℕ)) (keys : List Key) (are : AreNumbered names ke
 
   -- what a profile by items tells of given numbers is what the items tell
   pub number_is : (items : List Item) (what : What) → AllByRecursion (IsGivenItem (length names) (length keys)) items → IsGivenWhat (length names) (length keys) what
-      → number_in (part_told names keys items) (what_told names keys what) ≡ number_at items what
+      → number_in (counted names keys items) (what_told names keys what) ≡ number_at items what
   unfolding profile_by
   number_is [] (Head n) all given = refl
   number_is [] (Count k) all given = refl
@@ -116,7 +117,7 @@ module _ (names : List (List ℕ)) (keys : List Key) (are : AreNumbered names ke
           one _ _ (way_at names keys l.0, name_at names m.0, item.times) (λ x. x.2) _ _ (λ i. way_is k.0 l.0 h.0 g.0 i && name_is n.0 m.0 h.1 g.1 i) r
 
 -- items tell nothing but of given numbers
-pub told_by_items : (names : List (List ℕ)) (keys : List Key) (items : List Item) (told : ToldWhat) → AllByRecursion (IsGivenItem (length names) (length keys)) items → 0 < number_in (part_told names keys items) told
+pub told_by_items : (names : List (List ℕ)) (keys : List Key) (items : List Item) (told : ToldWhat) → AllByRecursion (IsGivenItem (length names) (length keys)) items → 0 < number_in (counted names keys items) told
     → IsToldBy names keys told
 unfolding profile_by
 told_by_items names keys [] (head name) all some = absurd (omega arith)

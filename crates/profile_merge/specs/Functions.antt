@@ -1,30 +1,13 @@
 -- The functions that have a line: those that were entered, and those of keys with a count or a target.
-use Rattle.std.specs.Prelude.{◌≡◌, ◌<◌, ◌≤◌, ⊤, ℕ, ◌+◌, ◌==◌, nat_lt, Bool, not, List, [], ◌∷◌, ◌++◌, cond, filter, map, slice_get, slice_index, Option, None, Some}
+use Rattle.std.specs.Prelude.{◌≡◌, ◌≤◌, ℕ, ◌+◌, ◌==◌, nat_lt, Bool, not, List, [], ◌∷◌, ◌++◌, cond, filter, map, slice_index}
 use Rattle.std.specs.List.{AllByRecursion, list_any}
 use Rattle.key_types.specs.declared.key.Key.{Key}
+use Rattle.profile_text.specs.Numbers.{HasKey, root_of}
 use Rattle.profile_text.specs.declared.item.Item.{Item}
-use Rattle.profile_text.specs.declared.item.What.{What}
-use Rattle.profile_text.specs.declared.item.What.TheVariants.{Head, Count, Target}
 
--- The key of a number was given.
-abbrev pub HasKey : ℕ → What → Type 0
-HasKey keys (Head name) = ⊤
-HasKey keys (Count key) = key.0 < keys
-HasKey keys (Target key name) = key.0 < keys
-
+-- The keys of numbers were given.
 abbrev pub HaveKeys : ℕ → List Item → Type 0
 HaveKeys keys items = AllByRecursion (λ item. HasKey keys item.what) items
-
--- The function of a key, by its number.
-abbrev pub root_of_given : Option Key → ℕ
-root_of_given None = 0
-root_of_given (Some key) = key.root.0
-
--- The function that a number is of.
-abbrev pub root_of : List Key → What → ℕ
-root_of keys (Head name) = name.0
-root_of keys (Count key) = root_of_given (slice_get keys key.0)
-root_of keys (Target key name) = root_of_given (slice_get keys key.0)
 
 -- The functions of the numbers above 0.
 abbrev pub roots : List Key → List Item → List ℕ

@@ -11,10 +11,11 @@ use Rattle.profile_laws.specs.Counts.{CountTheSame}
 use Rattle.profile_model.specs.Merge.{both, nothing, sum_items, weighed}
 use Rattle.profile_model.specs.Profile.{Profile, lines_of}
 use Rattle.profile_text.specs.Draft.{IsGivenItem, Kept, number_told}
+use Rattle.profile_text.specs.Numbers.{counted}
 use Rattle.profile_text.specs.declared.item.Item.{Item}
 use Rattle.profile_tree.specs.Known.{HasNames}
 use Rattle.profile_merge.specs.Sums.{AddsPart, StaySumsOf, Sums, first_over}
-use Rattle.profile_merge.specs.Told.{AreSumsIn, no_sums, part_told, sums_told}
+use Rattle.profile_merge.specs.Told.{AreSumsIn, no_sums, sums_told}
 
 -- All names and keys have one number each, and the names of keys were given.
 pub record AreNumbered (names : List (List ℕ)) (keys : List Key) : Type 0 where
@@ -39,7 +40,7 @@ RaisedSumsCountBoth =
     (names : List (List ℕ)) (keys : List Key) (weight : ℕ) (items : List Item) (old new : Sums) (profile : Profile)
     → AreNumbered names keys → AllByRecursion (IsGivenItem (length names) (length keys)) items
     → AreSumsIn names keys old profile → AddsPart weight items old new → StaySumsOf items old new
-    → AreSumsIn names keys new (both (weighed weight (part_told names keys items)) profile)
+    → AreSumsIn names keys new (both (weighed weight (counted names keys items)) profile)
 
 -- The place of a number that is too large.
 abbrev pub place_over : ℕ → ℕ → Place

@@ -3,17 +3,12 @@ use Rattle.std.specs.Prelude.{◌≡◌, ◌<◌, ℕ, List, [], map, length, sl
 use Rattle.std.specs.List.{range_with_len}
 use Rattle.key_types.specs.declared.key.Key.{Key}
 use Rattle.profile_model.specs.Profile.{Profile}
-use Rattle.profile_model.specs.Spelled.{What as ToldWhat, number_in, profile_by}
-use Rattle.profile_text.specs.Draft.{IsGivenWhat, number_told, what_told}
-use Rattle.profile_text.specs.declared.item.Item.{Item}
+use Rattle.profile_model.specs.Spelled.{What as ToldWhat, number_in}
+use Rattle.profile_text.specs.Draft.{IsGivenWhat, what_told}
 use Rattle.profile_text.specs.declared.item.What.{What}
 use Rattle.profile_tree.specs.Said.{way_at}
 use Rattle.profile_tree.specs.Steps.{name_at}
 use Rattle.profile_merge.specs.Sums.{AreSumsOf, Sums, sum_in}
-
--- What items say was counted.
-abbrev pub part_told : List (List ℕ) → List Key → List Item → Profile
-part_told names keys items = profile_by (map (number_told names keys) items)
 
 -- What sums say was counted: each key has its sum.
 abbrev pub sums_told : List (List ℕ) → List Key → Sums → Profile

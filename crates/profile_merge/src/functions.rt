@@ -1,11 +1,12 @@
 // How many functions a profile has lines of.
 ghost use Rattle.std.specs.Prelude.{◌≡◌, ◌<◌, ◌==◌, IfOk, OnOk, length, slice_index};
-ghost use Rattle.profile_merge.specs.Functions.{CountsRoot, HasKey, HaveKeys, different, root_of, roots};
+ghost use Rattle.profile_text.specs.Numbers.{HasKey};
+ghost use Rattle.profile_merge.specs.Functions.{CountsRoot, HaveKeys, different, roots};
 ghost use Rattle.profile_merge.specs.Row.{IsWithSum};
 
 use crate::row::Row;
 use key_types::{Keys, NameId};
-use profile_text::{Item, What};
+use profile_text::{Item, root_of};
 use refusal::NoMemory;
 use std::alloc::Global;
 
@@ -33,17 +34,6 @@ fn count_root(seen: &mut Row, item: &Item, keys: &Keys) -> Result<usize, NoMemor
     }
     let root = root_of(item.what, keys);
     if is_first(seen, root)? { Ok(1) } else { Ok(0) }
-}
-
-/// The function that a number is of.
-fn root_of(what: What, keys: &Keys) -> NameId
-    requires { HasKey (length keys.now) what }
-    ensures { result.0 ≡ root_of keys.now what }
-{
-    match what {
-        What::Head(name) => name,
-        What::Count(key) | What::Target(key, _) => keys.get(key).root,
-    }
 }
 
 /// Marks a function, and answers whether it had no mark.

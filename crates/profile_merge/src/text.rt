@@ -4,10 +4,10 @@ ghost use Rattle.std.specs.Io.{StartsWith};
 ghost use Rattle.std.specs.List.{AllByRecursion, flat_map};
 ghost use Rattle.profile_model.specs.Summary.{cutoff_text, cutoffs, summary_by, summary_text, told_number};
 ghost use Rattle.profile_text.specs.Draft.{IsGivenItem};
+ghost use Rattle.profile_text.specs.Numbers.{counted};
 ghost use Rattle.profile_merge.specs.Functions.{HaveKeys};
 ghost use Rattle.profile_merge.specs.Hot.{Descend};
 ghost use Rattle.profile_merge.specs.Laws.{AreNumbered};
-ghost use Rattle.profile_merge.specs.Told.{part_told};
 
 use crate::functions::functions_of;
 use crate::hot::{counts_of, least_hot, lines_from, max_of, total_of};
@@ -43,7 +43,7 @@ pub fn summary(
     ensures appended { OnOk result ((names : List (List ℕ)) → AreNumbered names keys.now
         → AllByRecursion (IsGivenItem (length names) (length keys.now)) part.now.items
         → out.new.items
-        ≡ out.old.items ++ summary_text (part_told names keys.now part.now.items)) }
+        ≡ out.old.items ++ summary_text (counted names keys.now part.now.items)) }
     ensures grows { OnErr result (StartsWith out.new.items out.old.items) }
 {
     let items = part.items.as_slice();

@@ -5,6 +5,7 @@ pub mod FunctionLemmas
 pub mod JoinLemmas
 pub mod LineLemmas
 pub mod NamedLemmas
+pub mod NumberLemmas
 pub mod OpenLemmas
 pub mod PartLemmas
 pub mod PathLemmas

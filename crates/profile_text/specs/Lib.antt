@@ -3,4 +3,5 @@ pub mod Said
 pub mod Stamps
 pub mod Path
 pub mod Draft
+pub mod Numbers
 pub mod Text

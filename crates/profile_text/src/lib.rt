@@ -1,12 +1,13 @@
 //! The text of a profile, as LLVM reads it: written from its lines, and read as its numbers.
 //!
 //! `write` appends the lines of a tree. `read` gives the numbers of a text, one for each head, key
-//! and target, or its first bad line.
+//! and target, or its first bad line. `counts_of`, `calls_of` and `heads_of` sort them.
 #![tactic(auto)]
 
 mod draft;
 mod item;
 mod line;
+mod numbers;
 mod parts;
 mod path;
 mod reading;
@@ -15,5 +16,6 @@ mod stamps;
 mod text;
 
 pub use item::{Item, Profile, What};
+pub use numbers::{calls_of, counts_of, heads_of, root_of};
 pub use reading::read;
 pub use text::write;

@@ -6,15 +6,17 @@
 //! jumps ahead, with such weights; `solver_bench mixed FUNCTIONS TIMES` so many functions of 5 to
 //! 200 such blocks, each size as often; `solver_bench compiled FUNCTIONS TIMES` so many of the
 //! sizes that compiled functions have. It prints how many times each was solved and what the counts
-//! cost.
+//! cost. With `scaled` as the last word those whose counts are small enough are solved within a
+//! stated number of augmentations, and it prints how many there were, too.
 #![tactic(auto)]
 
 mod shapes;
+mod solver;
 
 use flow_network::{Net, Solved, cost};
-use flow_solver::solve;
 use refusal::NoMemory;
 use shapes::Sizes;
+use solver::Solver;
 use std::alloc::Global;
 use std::process::ExitCode;
 use std::rt::Env;
@@ -34,31 +36,65 @@ fn measure<R: AllocGlobal + Env + Print>(rt: &R) -> Option<()> {
     let mut room = [0; WORD];
     let size = word(rt, 2, &mut room)?.parse::<u32>().ok()?;
     let times = word(rt, 3, &mut room)?.parse::<u32>().ok()?;
-    let costs = costs_of(rt.alloc(), word(rt, 1, &mut room)?, size, times)?;
-    println!(rt; "{times} times solved, of cost {costs}").ok()
+    let scaled = is_scaled(rt, &mut room)?;
+    let mut solver = Solver::new(scaled);
+    let costs = costs_of(
+        rt.alloc(),
+        &mut solver,
+        word(rt, 1, &mut room)?,
+        size,
+        times,
+    )?;
+    if scaled {
+        let steps = solver.augmentations();
+        println!(rt; "{times} times solved, in {steps} augmentations, of cost {costs}").ok()
+    } else {
+        println!(rt; "{times} times solved, of cost {costs}").ok()
+    }
+}
+
+/// Whether the last word asks for the second solver; `None` for any other word.
+fn is_scaled(env: &impl Env, room: &mut [u8; WORD]) -> Option<bool> {
+    match word(env, 4, room) {
+        None => Some(false),
+        Some("scaled") => Some(true),
+        Some(_) => None,
+    }
 }
 
 /// What the least counts of a shape cost, solved so many times; `None` for an unknown shape, and
 /// for want of memory.
-fn costs_of(alloc: Global, shape: &str, size: u32, times: u32) -> Option<u128> {
+fn costs_of(
+    alloc: Global,
+    solver: &mut Solver,
+    shape: &str,
+    size: u32,
+    times: u32,
+) -> Option<u128> {
     let net = match shape {
         "chain" => shapes::chain(alloc, size).ok()?,
         "jumps" => shapes::jumps(alloc, size).ok()?,
         "diamonds" => shapes::diamonds(alloc, size).ok()?,
-        "mixed" => return solved_each(alloc, size, times, Sizes::Even).ok(),
-        "compiled" => return solved_each(alloc, size, times, Sizes::Compiled).ok(),
+        "mixed" => return solved_each(alloc, solver, size, times, Sizes::Even).ok(),
+        "compiled" => return solved_each(alloc, solver, size, times, Sizes::Compiled).ok(),
         _ => return None,
     };
-    solved(alloc, &net, times).ok()
+    solved(alloc, solver, &net, times).ok()
 }
 
 /// What the least counts of so many functions of 5 to 200 blocks cost together, each solved so many
 /// times.
-fn solved_each(alloc: Global, functions: u32, times: u32, sizes: Sizes) -> Result<u128, NoMemory> {
+fn solved_each(
+    alloc: Global,
+    solver: &mut Solver,
+    functions: u32,
+    times: u32,
+    sizes: Sizes,
+) -> Result<u128, NoMemory> {
     let mut costs: u128 = 0;
     for number in 0..functions {
         let net = shapes::jumps(alloc, sizes.of(number))?;
-        costs = costs.saturating_add(solved(alloc, &net, times)?);
+        costs = costs.saturating_add(solved(alloc, solver, &net, times)?);
     }
     Ok(costs)
 }
@@ -66,19 +102,19 @@ fn solved_each(alloc: Global, functions: u32, times: u32, sizes: Sizes) -> Resul
 /// What the least counts cost, solved so many times; 0 for a cut, and where nothing is solved.
 ///
 /// The cost is told once, of the last answer, so that each time more is the solver's alone.
-fn solved(alloc: Global, net: &Net, times: u32) -> Result<u128, NoMemory> {
+fn solved(alloc: Global, solver: &mut Solver, net: &Net, times: u32) -> Result<u128, NoMemory> {
     if times == 0 {
         return Ok(0);
     }
     for _ in 1..times {
-        solve(alloc, net)?;
+        solver.solve(alloc, net)?;
     }
-    least_cost(alloc, net)
+    least_cost(alloc, solver, net)
 }
 
 /// What the least counts cost; 0 for a cut.
-fn least_cost(alloc: Global, net: &Net) -> Result<u128, NoMemory> {
-    match solve(alloc, net)? {
+fn least_cost(alloc: Global, solver: &mut Solver, net: &Net) -> Result<u128, NoMemory> {
+    match solver.solve(alloc, net)? {
         Solved::Flow(flow, _) => Ok(cost(net, &flow)),
         Solved::Cut(_) => Ok(0),
     }

@@ -12,9 +12,9 @@ use Rattle.address_spans.proofs.SpanLemmas.{owner-append}
 use Rattle.address_spans.specs.declared.span.Span.{Span}
 use Rattle.address_spans.specs.Spans.{AreDisjoint, owner_at, framed_owner, holds as span_holds}
 use Rattle.chain_model.specs.declared.member.Member.{Member}
-use Rattle.chain_model.specs.Chains.{holds, holds_at, numbered, function_at, innermost, piece_holds}
+use Rattle.chain_model.specs.Chains.{holds, holds_at, numbered, function_at, piece_holds}
 use Rattle.chain_model.specs.Pass.{chain_from}
-use Rattle.chain_model.proofs.PassLemmas.{chain-left, chain-taken, chain-passed, one_pass}
+use Rattle.chain_model.proofs.PassLemmas.{chain-left, chain-taken, chain-passed}
 use Rattle.span_cover.specs.Owners.{owned, innermost_from, spans_of}
 use Rattle.span_cover.specs.Levels.{past, next_in, IsLevel, LevelSoFar}
 
@@ -38,13 +38,13 @@ le_or_lt m n = by (nat_lt n m) refl
     by false is = inl (not_within n m is)
 
 -- a deeper member is not the next of a chain
-not_next : (k a : ℕ) (m : Member) → k < m.depth → holds_at k a m ≡ false
+pub not_next : (k a : ℕ) (m : Member) → k < m.depth → holds_at k a m ≡ false
 not_next k a m deeper = ap (λ b. b && holds a m) (other m.depth k deeper)
   where
     other : (d k : ℕ) → k < d → nat_eq d k ≡ false
     other d k lt = grind (arith, nat_tests)
 
-next : (k a : ℕ) (m : Member) (b : Bool) → m.depth ≡ k → holds a m ≡ b → holds_at k a m ≡ b
+pub next : (k a : ℕ) (m : Member) (b : Bool) → m.depth ≡ k → holds a m ≡ b → holds_at k a m ≡ b
 next k a m b at held = ap (λ t. t && holds a m) (same m.depth k at) ∙ held
   where
     same : (d k : ℕ) → d ≡ k → nat_eq d k ≡ true
@@ -85,7 +85,7 @@ last-number x (y ∷ ys) = last-number y ys ∙ some-or (last-number y ys)
     some-or is = rw is refl
 
 -- a member of the depth, and what stands below it
-innermost-taken : (k a : ℕ) (x : ℕ × Member) (xs : List (ℕ × Member)) → x.1.depth ≡ k
+pub innermost-taken : (k a : ℕ) (x : ℕ × Member) (xs : List (ℕ × Member)) → x.1.depth ≡ k
     → innermost_from k a (x ∷ xs) ≡ option_or (framed_owner (owned a x.0 x.1) (innermost_from (k + 1) a xs)) (innermost_from k a xs)
 innermost-taken k a x xs at = by (holds a x.1) refl
   where
@@ -97,7 +97,7 @@ innermost-taken k a x xs at = by (holds a x.1) refl
     by false missed =
         ap (λ ys. option_map (λ (m : ℕ × Member). m.0) (last_or None ys)) (chain-passed k a x xs (within x.1.depth k (omega (arith, at))) (next k a x.1 false at missed))
 
-innermost-passed : (k a : ℕ) (x : ℕ × Member) (xs : List (ℕ × Member)) → k < x.1.depth → innermost_from k a (x ∷ xs) ≡ innermost_from k a xs
+pub innermost-passed : (k a : ℕ) (x : ℕ × Member) (xs : List (ℕ × Member)) → k < x.1.depth → innermost_from k a (x ∷ xs) ≡ innermost_from k a xs
 innermost-passed k a x xs deeper = ap (λ ys. option_map (λ (m : ℕ × Member). m.0) (last_or None ys)) (deeper-passed k a x xs deeper)
 
 innermost-left : (k a : ℕ) (x : ℕ × Member) (xs : List (ℕ × Member)) → x.1.depth < k → innermost_from k a (x ∷ xs) ≡ None
@@ -116,19 +116,19 @@ drop-numbered-at members at m there =
     ∙ let one : suc at ≡ at + 1 = omega arith in
     ap (λ n. (at, get_or members at m) ∷ drop n (numbered members)) one
 
-drop-numbered : (members : List Member) (at : ℕ) (m : Member) → at < length members → m ≡ get_or members at m → drop at (numbered members) ≡ (at, m) ∷ drop (at + 1) (numbered members)
+pub drop-numbered : (members : List Member) (at : ℕ) (m : Member) → at < length members → m ≡ get_or members at m → drop at (numbered members) ≡ (at, m) ∷ drop (at + 1) (numbered members)
 drop-numbered members at m there is = drop-numbered-at members at m there ∙ ap (λ x. (at, x) ∷ drop (at + 1) (numbered members)) (sym is)
 
-drop-all : (xs : List (ℕ × Member)) (n : ℕ) → length xs ≤ n → drop n xs ≡ []
+pub drop-all : (xs : List (ℕ × Member)) (n : ℕ) → length xs ≤ n → drop n xs ≡ []
 drop-all [] n le = drop-nil n
 drop-all (x ∷ xs) zero le = absurd (omega arith)
 drop-all (x ∷ xs) (suc n) le = drop-all xs n (omega (arith, le))
 
-or-or : (o p q : Option ℕ) → option_or (option_or o p) q ≡ option_or o (option_or p q)
+pub or-or : (o p q : Option ℕ) → option_or (option_or o p) q ≡ option_or o (option_or p q)
 or-or None p q = refl
 or-or (Some n) p q = refl
 
-or-none : (o : Option ℕ) → option_or o None ≡ o
+pub or-none : (o : Option ℕ) → option_or o None ≡ o
 or-none None = refl
 or-none (Some n) = refl
 
@@ -328,9 +328,3 @@ alone a n m spans spans' inner none pushed =
     empty : (xs : List Span) → true ≡ nat_eq (length xs) 0 → xs ≡ []
     empty [] is = refl
     empty (x ∷ xs) is = absurd (no (length xs) is)
-
--- the cover of all members
-pub innermost-whole : (members : List Member) (spans : List Span) → ((address : ℕ) → owner_at spans address ≡ innermost_from 0 address (drop 0 (numbered members)))
-    → (address : ℕ) → owner_at spans address ≡ innermost members address
-innermost-whole members spans owners address =
-    owners address ∙ ap (λ c. option_map (λ (m : ℕ × Member). m.0) (last_or None c)) (sym (one_pass members address))

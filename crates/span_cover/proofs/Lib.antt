@@ -1,3 +1,5 @@
+pub mod AskedLemmas
+pub mod BetweenLemmas
 pub mod CoverLemmas
 pub mod FrameLemmas
 pub mod JoinLemmas

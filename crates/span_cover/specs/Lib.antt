@@ -2,3 +2,4 @@ pub mod Levels
 pub mod Owners
 pub mod Laws
 pub mod Stretches
+pub mod Asked

@@ -69,7 +69,7 @@ fn depth_of(member: &Member) -> usize
 }
 
 /// Appends the cover of one member: its pieces, and in them what is inlined there.
-fn push_cover(
+pub(crate) fn push_cover(
     alloc: Global,
     spans: &mut Vec<Span>,
     member: &Member,

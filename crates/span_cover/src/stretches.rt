@@ -1,4 +1,4 @@
-ghost use Rattle.std.specs.Prelude.{◌≡◌, ℕ, true, IfOk};
+ghost use Rattle.std.specs.Prelude.{◌≡◌, ◌≤◌, ◌<◌, ℕ, true, IfOk};
 ghost use Rattle.address_spans.specs.Spans.{AreDisjoint, owner_at as owner_of};
 ghost use Rattle.span_cover.specs.Stretches.{are_stretches};
 
@@ -63,5 +63,16 @@ impl Stretches {
     {
         let number = owner_at(&self.numbers, address)?;
         Some(number as u32)
+    }
+
+    /// The stretches that hold an address from `lo` on and below `hi`, each owned by its function.
+    pub fn between(&self, lo: u64, hi: u64) -> &[Span]
+        ensures { (address : ℕ) → lo ≤ address → address < hi
+            → owner_of result.now address ≡ function_at self.now address }
+    {
+        let first = self.spans.partition_point(|span| span.hi <= lo);
+        let behind = &self.spans[first..];
+        let count = behind.partition_point(|span| span.lo < hi);
+        &behind[..count]
     }
 }

@@ -1,11 +1,8 @@
-use Rattle.std.proofs.Common.{◌≡◌, ◌∙◌, ap, refl, sym, subst, length, None}
+use Rattle.std.proofs.Common.{◌∙◌, ap, refl, sym, subst, length}
 use Rattle.std.specs.Result.{result_err}
-use Rattle.refusal.specs.Place.{first_bad}
 use Rattle.elf_model.specs.Segments.{code_loads}
 use Rattle.placed_view.specs.Reader.{refused_at}
-use Rattle.key_types.specs.Segments.{HaveSegments}
-use Rattle.context_map.specs.Maps.{IsMap, rows_of}
-use Rattle.binary_model.specs.Binary.{tables_in}
+use Rattle.context_map.specs.Asked.{AreFunctions}
 use Rattle.binary_places.proofs.Items.{in_headers, in_members, in_rows, in_sections, in_units}
 use Rattle.binary_places.proofs.ReadLemmas.{found_same, lacks, made_told, members_same, refuses, rows_same, source_same, stops_with, tables_same, told_same, units_same}
 use Rattle.binary_places.proofs.binary.read.Goals as goal
@@ -54,8 +51,8 @@ returns-in_err-tree c =
     ∙ sym (ap result_err (members_same _ _ same _ source)) ∙ is)
     c.in_err-tree.ensures.judged c.from_residual-in_err-tree.ensures.1
 
-pub returns-in_err-map : goal.returns-in_err-map
-returns-in_err-map c = lacks _ _ c.from_residual-in_err-map.result c.from_residual-in_err-map.ensures.1
+pub returns-in_err-functions : goal.returns-in_err-functions
+returns-in_err-functions c = lacks _ _ c.from_residual-in_err-functions.result c.from_residual-in_err-functions.ensures.1
 
 pub returns : goal.returns
 returns c =
@@ -64,18 +61,16 @@ returns c =
     let units = c.in_ok-units.ensures in
     let told = told_same _ _ same c.in_ok-sections.sections sections.1 c.in_ok-units.units units.1 in
     let source = source_same _ _ same c.in_ok-sections.sections sections.1 c.in_ok-units.units units.1 _ c.info_start.ensures in
-    let tables = c.deref-2.ensures.value ∙ tables_same _ _ same c.in_ok-sections.sections sections.1 c.in_ok-units.units units.1 _ c.in_ok-tables.ensures.1 in
     let good = in_members c.args.file.now c.requires c.in_ok-elf.ensures.0 (sym (found_same _ _ same) ∙ sections.0)
     (sym (ap refused_at (units_same _ _ same c.in_ok-sections.sections sections.1)) ∙ units.0)
     (sym (ap result_err (rows_same _ _ same c.in_ok-sections.sections sections.1 c.in_ok-units.units units.1)) ∙ c.in_ok-tables.ensures.0)
     ∙ sym (ap result_err (members_same _ _ same _ source)) ∙ c.in_ok-tree.ensures.judged.0 in (
       good,
       record {
-        members = c.in_ok-tree.tree.members.items;
         told = made_told _ _ same _ _ _ source c.in_ok-tree.ensures.judged.1;
-        map = subst (λ ts. IsMap (rows_of ts) c.args.base c.in_ok-tree.tree.members.items c.make-2.new.keys c.in_ok-map.map) tables
-            (subst (λ ms. IsMap (rows_of c.deref-2.result.now) c.args.base ms c.make-2.new.keys c.in_ok-map.map) c.deref.ensures.value c.in_ok-map.ensures.map);
-        used = subst (λ ks. HaveSegments (length ks) c.make-2.new.keys c.in_ok-map.map.segments) c.in_ok-keys.ensures c.in_ok-map.ensures.used;
+        tables_are = tables_same _ _ same c.in_ok-sections.sections sections.1 c.in_ok-units.units units.1 _ c.in_ok-tables.ensures.1;
+        functions = subst (λ ms. AreFunctions ms c.in_ok-functions.functions) c.deref.ensures.value c.in_ok-functions.ensures;
+        base_is = refl;
         loads_are = c.in_ok-loads.ensures ∙ ap code_loads same;
         read_are = ap length (c.units-2.ensures.units ∙ ap (λ u. u.units) told);
         passed_are = ap length (c.skipped.ensures ∙ ap (λ u. u.skipped) told);

@@ -1,25 +1,17 @@
-use Rattle.std.proofs.Common.{◌∙◌, ap, arith}
-use Rattle.profile_maker.proofs.NameLemmas.{keys_have_names}
-use Rattle.profile_model.specs.Text.{text_of_lines}
-use Rattle.profile_text.proofs.OpenLemmas.{kept_grows}
-use Rattle.cold_maker.proofs.ColdLemmas.{output_is, stands_alone}
+use Rattle.std.proofs.Common.{subst}
+use Rattle.binary_places.specs.Binary.{IsPlaced}
+use Rattle.binary_places.proofs.ReadLemmas.{lacks}
 use Rattle.cold_maker.proofs.maker.cold.Goals as goal
 
-pub read-requires-clause-key_names : goal.read-requires-clause-key_names
-read-requires-clause-key_names c =
-    let is = c.requires.binary in keys_have_names is.0 is.1 c.args.binary is.2
+pub returns-in_err-placed : goal.returns-in_err-placed
+returns-in_err-placed c = λ bytes base is. lacks _ _ c.from_residual.result c.from_residual.ensures.1
 
-pub tree_of-requires-clause-known : goal.tree_of-requires-clause-known
-tree_of-requires-clause-known c =
-    let grown = kept_grows _ _ c.in_ok-part.ensures.1.keys_kept in
-    let counted = c.len-known.ensures in omega (arith, counted, grown)
+pub cold_of-requires-clause-placed : goal.cold_of-requires-clause-placed
+cold_of-requires-clause-placed c =
+    let is = c.requires.binary in
+    let placed = c.in_ok-placed.placed in
+    (is.0, is.1, subst (λ marks. IsPlaced is.0 is.1 marks placed) c.all-asked.ensures (c.in_ok-placed.ensures is.0 is.1 is.2))
 
 pub returns : goal.returns
 returns c = λ bytes base is.
-    let tells = c.in_ok-part.ensures.1 in (
-      c.in_ok-part.ensures.0,
-      stands_alone _ _ _ _ c.in_ok-write.ensures.appended c.new-out.ensures.items
-          (ap text_of_lines c.in_ok-tree.ensures.lines
-          ∙ output_is bytes base c.args.binary is c.args.text.now c.in_ok-part.part.items _ _ c.each_once.ensures c.each_once-2.ensures tells c.each_once-3.ensures c.each_once-4.ensures
-          c.len-known.result c.len-known.ensures),
-    )
+    c.cold_of.ensures bytes base (subst (λ marks. IsPlaced bytes base marks c.in_ok-placed.placed) c.all-asked.ensures (c.in_ok-placed.ensures bytes base is))

@@ -2,7 +2,8 @@ use Rattle.std.proofs.Common.{◌≡◌, ◌∙◌, ◌+◌, ap, false, filter, 
 use Rattle.std.specs.Prelude.{slice_index_or}
 use Rattle.std.specs.List.{range_with_len}
 use Rattle.cold_tree.proofs.BesidesLemmas.{no_more, one_more}
-use Rattle.cold_tree.specs.Besides.{has_mark, root_of_given}
+use Rattle.profile_text.specs.Numbers.{root_of_given}
+use Rattle.cold_tree.specs.Besides.{has_mark}
 use Rattle.cold_tree.proofs.besides.besides_of.Goals as goal
 use Rattle.cold_tree.proofs.besides.besides_of.Goals.{then-has_mark+in_ok-push, else-has_mark}
 

@@ -6,4 +6,4 @@ use Rattle.context_map.proofs.parts.parts_of.Given as goal
 abbrev pub invariant-loop-span : goal.invariant-loop-span
 invariant-loop-span l =
     (bound : ℕ)
-    × PartsSoFar (rows_of l.rows) l.rules.base l.members l.rules.most (drop l.span-index l.cover) l.initial.keys l.keys l.parts.segments.items l.parts.nameless.items bound
+    × PartsSoFar l.asked (rows_of l.rows) l.rules.base l.members l.rules.most (drop l.span-index l.span-items) l.initial.keys l.keys l.parts.segments.items l.parts.nameless.items bound

@@ -6,7 +6,7 @@ use Rattle.flow_scaling.proofs.phases.run_all.Given as goal
 
 abbrev pub invariant-loop-step : goal.invariant-loop-step
 invariant-loop-step g l = record {
-  come : HasCome l.net l.digits l.step l.counts l.prices l.excess;
-  marked : length l.work.search.marks ≡ sides_of l.net;
+  come : HasCome l.net l.digits l.step l.state;
+  marked : length l.state.work.search.marks ≡ sides_of l.net;
   ticks : RisesWithin ((l.step + 1) * (2 * size_of l.net)) (g.L.Ledger.ticks l.fn.ledger) (g.L.Ledger.ticks l.ledger);
 }

@@ -1,14 +1,16 @@
 -- The largest counts are over the addresses of keys, and what is stated is of given keys and names, each once.
 use Rattle.std.proofs.Common.{◌≡◌, ◌<◌, ◌∙◌, ℕ, All, IfOk, List, Option, None, ap, arith, get_or, length, map, subst, sym}
-use Rattle.std.specs.List.{AllByRecursion, flat_map}
+use Rattle.std.specs.List.{AllByRecursion, filter_map}
 use Rattle.address_spans.specs.Spans.{owner_at}
 use Rattle.address_spans.specs.declared.span.Span.{Span}
 use Rattle.key_types.specs.Segments.{key_told}
 use Rattle.profile_laws.specs.Once.{StandOnce}
 use Rattle.profile_model.specs.Profile.{lines_of}
+use Rattle.profile_text.proofs.NumberLemmas.{calls_given, calls_once, heads_given, heads_once}
 use Rattle.profile_text.specs.Draft.{IsGivenItem}
+use Rattle.profile_text.specs.Numbers.{call_in, head_in}
 use Rattle.profile_text.specs.declared.item.Item.{Item}
-use Rattle.profile_tree.specs.Known.{IsGiven, called_from}
+use Rattle.profile_tree.specs.Known.{called_from}
 use Rattle.profile_tree.specs.Said.{stated}
 use Rattle.profile_tree.specs.Told.{told}
 use Rattle.profile_tree.specs.declared.head.Head.{Head}
@@ -17,9 +19,9 @@ use Rattle.line_lift.specs.Held.{IsCountOfKey}
 use Rattle.line_lift.specs.Largest.{IsLargest}
 use Rattle.line_lift.specs.Lift.{repaired}
 use Rattle.line_lift.specs.Spans.{IsOwnerOver}
-use Rattle.line_lift.specs.Stated.{call_in, head_in, lifted_counts}
+use Rattle.line_lift.specs.Stated.{lifted_counts}
 use Rattle.line_lift.proofs.LiftLemmas.{given_alone, lifted_lines}
-use Rattle.line_lift.proofs.StatedLemmas.{calls_given, calls_once, counts_given, counts_once, heads_given, heads_once}
+use Rattle.line_lift.proofs.StatedLemmas.{counts_given, counts_once}
 use Rattle.line_lift.proofs.lines.lift.Goals as goal
 
 pub from_counts-requires-clause-counted : goal.from_counts-requires-clause-counted
@@ -31,15 +33,13 @@ from_counts-requires-clause-counted c =
 
 pub from_counts-requires-clause-calls : goal.from_counts-requires-clause-calls
 from_counts-requires-clause-calls c =
-    let given = subst (AllByRecursion (IsGivenItem (length c.args.names.now) (length c.args.keys.now))) (sym c.as_slice-items.ensures) c.requires.given in
-    subst (All (IsGiven (length c.args.keys.now) (length c.args.names.now))) (sym (c.deref-4.ensures.value ∙ c.in_ok-calls.ensures))
-    (calls_given (length c.args.names.now) (length c.args.keys.now) c.as_slice-items.result.now given)
+    calls_given (length c.args.names.now) (length c.args.keys.now) c.args.part.now.items c.deref-4.result.now c.requires.given
+    (c.deref-4.ensures.value ∙ c.in_ok-calls.ensures ∙ ap (filter_map call_in) c.as_slice-items.ensures)
 
 pub from_counts-requires-clause-heads : goal.from_counts-requires-clause-heads
 from_counts-requires-clause-heads c =
-    let given = subst (AllByRecursion (IsGivenItem (length c.args.names.now) (length c.args.keys.now))) (sym c.as_slice-items.ensures) c.requires.given in
-    subst (All (λ (head : Head). head.name.0 < length c.args.names.now)) (sym (c.deref-5.ensures.value ∙ c.in_ok-heads.ensures))
-    (heads_given (length c.args.names.now) (length c.args.keys.now) c.as_slice-items.result.now given)
+    heads_given (length c.args.names.now) (length c.args.keys.now) c.args.part.now.items c.deref-5.result.now c.requires.given
+    (c.deref-5.ensures.value ∙ c.in_ok-heads.ensures ∙ ap (filter_map head_in) c.as_slice-items.ensures)
 
 pub from_counts-requires-clause-counts_once : goal.from_counts-requires-clause-counts_once
 from_counts-requires-clause-counts_once c =
@@ -48,13 +48,13 @@ from_counts-requires-clause-counts_once c =
 
 pub from_counts-requires-clause-calls_once : goal.from_counts-requires-clause-calls_once
 from_counts-requires-clause-calls_once c =
-    let once = subst (StandOnce (λ (item : Item). item.what)) (sym c.as_slice-items.ensures) c.requires.once in
-    subst (StandOnce called_from) (sym (c.deref-4.ensures.value ∙ c.in_ok-calls.ensures)) (calls_once c.as_slice-items.result.now once)
+    subst (StandOnce called_from) (sym (c.deref-4.ensures.value ∙ c.in_ok-calls.ensures ∙ ap (filter_map call_in) c.as_slice-items.ensures))
+    (calls_once c.args.part.now.items c.requires.once)
 
 pub from_counts-requires-clause-heads_once : goal.from_counts-requires-clause-heads_once
 from_counts-requires-clause-heads_once c =
-    let once = subst (StandOnce (λ (item : Item). item.what)) (sym c.as_slice-items.ensures) c.requires.once in
-    subst (StandOnce (λ (head : Head). head.name.0)) (sym (c.deref-5.ensures.value ∙ c.in_ok-heads.ensures)) (heads_once c.as_slice-items.result.now once)
+    subst (StandOnce (λ (head : Head). head.name.0)) (sym (c.deref-5.ensures.value ∙ c.in_ok-heads.ensures ∙ ap (filter_map head_in) c.as_slice-items.ensures))
+    (heads_once c.args.part.now.items c.requires.once)
 
 pub returns-clause-lines : goal.returns-clause-lines
 returns-clause-lines c =
@@ -62,8 +62,8 @@ returns-clause-lines c =
     let keys = c.args.keys.now in
     let items = c.as_slice-items.ensures in
     let counts_are = c.deref-3.ensures.value ∙ c.in_ok-counts.ensures ∙ ap (lifted_counts c.deref-2.result.now) items in
-    let calls_are = c.deref-4.ensures.value ∙ c.in_ok-calls.ensures ∙ ap (flat_map call_in) items in
-    let heads_are = c.deref-5.ensures.value ∙ c.in_ok-heads.ensures ∙ ap (flat_map head_in) items in
+    let calls_are = c.deref-4.ensures.value ∙ c.in_ok-calls.ensures ∙ ap (filter_map call_in) items in
+    let heads_are = c.deref-5.ensures.value ∙ c.in_ok-heads.ensures ∙ ap (filter_map head_in) items in
     let len : length c.deref-2.result.now ≡ length keys = ap length c.deref-2.ensures.value ∙ c.in_ok-held.ensures.len ∙ c.len.ensures in
     subst (λ p. IfOk c.from_counts.result (λ tree. map (told names) tree.lines ≡ p))
     ((λ i. lines_of (stated names keys (counts_are i) (calls_are i) (heads_are i)))

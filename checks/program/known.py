@@ -193,6 +193,7 @@ DAMAGE = [
     (244, 244, 0x00, 244, b"BadOpcodeBase"),
     (260, 260, 0x08, 259, b"BadExtended"),
     (271, 271, 0x76, 270, b"LineOverflow"),
+    (271, 280, 0xFF, 270, b"LebTooLong"),
     (274, 275, 0x00, 274, b"BadExtended"),
     (285, 285, 0x03, 286, b"NoEnd"),
 ]
@@ -540,7 +541,12 @@ def builds():
         "eight chains", (DONE, 8 * b"# end 65535\n", b""), ["build", "bin", "perf", "cfg"],
         told=lambda out: b"".join(re.findall(rb"# end .*\n", out)), bin=ONE, perf=b"0x401000/0x9 0x9/0x401000\n", cfg=chains,
     )
+    # One block more than a function may have, and one edge more.
+    full = b"func f\n" + b"".join(b"block %d 0x%x 0x%x\n" % (n, n + 1, n + 2) for n in range(65536))
+    too_many_edges = full + b"".join(b"edge %d %d\n" % (n // 4, n % 4) for n in range(262145))
     for said, text, blocks, perf in [
+        (b"file 3 at 65538: TooManyBlocks", ONE, full + b"block 65536 0x10001 0x10002\n", b""),
+        (b"file 3 at 327682: TooManyEdges", ONE, too_many_edges, b""),
         (b"file 3 at 2: BlockOrder", ONE, b"func a\nblock 1 0x1 0x2\n", b""),
         (b"file 3 at 2: BadBound", ONE, b"func a\nblock 0 0x1 0x2 lo=3 hi=2\n", b""),
         (b"file 3 at 3: NoEndLine", ONE, b"func a\nblock 0 0x1 0x2\n", b""),
@@ -549,6 +555,15 @@ def builds():
         (b"file 3 at 3: BlockOverlap", ONE, b"func a\nblock 0 0x1 0x3\nblock 1 0x2 0x4\n", b""),
         (b"file 3 at 2: NoBlocks", ONE, b"func a\nend\n", b""),
         (b"file 3 at 2: BadLine", ONE, b"func a\nblock 0 0x1 0x2 never ran\n", b""),
+        (b"file 3 at 2: BadLine", ONE, b"func a\nfunc b\n", b""),
+        (b"file 3 at 1: BadLine", ONE, b"func a b\n", b""),
+        (b"file 3 at 1: BadLine", ONE, b"end\n", b""),
+        (b"file 3 at 2: BlockEmpty", ONE, b"func a\nblock 0 0x2 0x2\n", b""),
+        (b"file 3 at 3: BlockOverlap", ONE, b"func a\nblock 0 0x5 0x9\nblock 1 0x1 0x6\n", b""),
+        (b"file 3 at 2: EdgeEnd", ONE, b"func a\nedge 0 0\n", b""),
+        (b"file 3 at 4: EdgeTwice", ONE, b"func a\nblock 0 0x1 0x2\nedge 0 0\nedge 0 0\n", b""),
+        (b"file 3 at 2: BadLine", ONE, b"func a\nblock 0 0x1 0x10000000000000000\n", b""),
+        (b"file 3 at 2: BadLine", ONE, b"func a\nblock 0 0x1 0x2 lo=17592186044416\n", b""),
         (b"file 3 at 11: BadLine", ONE, BLOCKS + b"block 0 0x1 0x2\n", TWO_SAMPLES),
     ]:
         judge(
@@ -671,6 +686,10 @@ def checks():
     fails(4, with_line(with_line(COUNTS, 4, b"# block 2 weight 0 count 1 in 0 out 10"), 10, b"# end 401"))
     fails(2, with_line(COUNTS, 2, b"# block 0 weight 100 count 100 in 1 out 0"))
     fails(5, with_line(COUNTS, 5, b"# block 3 weight 100 count 100 in 10 out 1"))
+    # Edges that in 64 bits add up to the count of their block, and prices of which the difference in 64 bits would fit.
+    around = with_line(COUNTS, 6, b"# edge 0 1 count 9223372036854775858")
+    fails(2, with_line(around, 7, b"# edge 0 2 count 9223372036854775858"))
+    fails(3, with_line(COUNTS, 3, b"# block 1 weight 60 count 100 in 9223372036854775803 out -9223372036854775803"))
     # A price that fits the block and not the edge that leads on.
     fails(6, with_line(COUNTS, 2, b"# block 0 weight 100 count 100 in 0 out 10"))
     fails(4, with_line(CUT, 4, b"# end 2 0"), LOOP)
@@ -851,11 +870,25 @@ def summary_of(built):
     )
 
 
+# Of two functions the first is called by the second, once, and the second by the first, twice.
+SAMPLES_OF_2 = (
+    b"401076 0x401038/0x401076/P/-/-/1 0x40100c/0x401020/P/-/-/1 0x401074/0x401000/P/-/-/1\n"
+    b"401076 0x401038/0x401076/P/-/-/1 0x401004/0x401010/P/-/-/1\n"
+    b"401036 0x401078/0x401036/P/-/-/1 0x40104c/0x401060/P/-/-/1 0x401034/0x401040/P/-/-/1\n"
+    b"401036 0x401078/0x401036/P/-/-/1 0x40104c/0x401060/P/-/-/1 0x401034/0x401040/P/-/-/1\n"
+    b"401036 0x401078/0x401036/P/-/-/1 0x401044/0x401050/P/-/-/1\n"
+)
+BLOCKS_OF_2 = BLOCKS + (
+    b"func f0001\nblock 0 0x401040 0x401048\nblock 1 0x401048 0x401050\nblock 2 0x401050 0x401060\n"
+    b"block 3 0x401060 0x401080 exit\nedge 0 1\nedge 0 2\nedge 1 3\nedge 2 3\nend\n"
+)
+
+
 def makes():
     # No form reads a file: there is none.
     for spelled, wanted in [
         ("0 bin", make.small(0)), ("1 bin", ONE), ("01 bin", ONE), ("2 bin", TWO), ("4096 bin", make.small(4096)),
-        ("1 perf", TWO_SAMPLES), ("0000001 cfg", BLOCKS), ("0 perf", b""), ("0 cfg", b""),
+        ("1 perf", TWO_SAMPLES), ("0000001 cfg", BLOCKS), ("0 perf", b""), ("0 cfg", b""), ("2 perf", SAMPLES_OF_2), ("2 cfg", BLOCKS_OF_2),
     ]:
         judge("make " + spelled, (DONE, wanted, b""), ["make", *spelled.split()])
     for count, branches, total, cost in [(0, 0, 0, 0), (1, 5, 7, 40), (64, 6368, 8512, 2560), (4096, 407552, 544768, 163840)]:

@@ -8,15 +8,11 @@ mod of_branch_lines;
 #[cfg(test)]
 mod of_branch_stacks;
 #[cfg(test)]
-mod of_case_maker;
-#[cfg(test)]
 mod of_cfg_text;
 #[cfg(test)]
 mod of_io_edge;
 #[cfg(test)]
 mod of_key_types;
-#[cfg(test)]
-mod of_load_index;
 #[cfg(test)]
 mod of_name_ranks;
 #[cfg(test)]

@@ -15,14 +15,7 @@ fn ranks(alloc: Global, weights: &[u64]) -> Result<Ranks, NoMemory> {
 }
 
 #[test]
-fn names_go_by_bytes(rt: HostRuntime) {
-    let made = ranks(rt.alloc(), &[0, 0, 0, 0]).ok();
-    let ranks = made.as_ref().map(|ranks| ranks.ranks.as_slice());
-    assert_eq!(rt; ranks, Some([3, 1, 2, 0].as_slice()));
-}
-
-#[test]
-fn weights_go_before_names(rt: HostRuntime) {
+fn weights_go_before_names_and_names_by_bytes(rt: HostRuntime) {
     let made = ranks(rt.alloc(), &[1, 2, 2, 2]).ok();
     let ids = made.as_ref().map(|ranks| ranks.ids.as_slice());
     assert_eq!(rt; ids, Some([0, 3, 1, 2].as_slice()));

@@ -10,8 +10,6 @@ mod of_dwarf_forms;
 #[cfg(test)]
 mod of_dwarf_info;
 #[cfg(test)]
-mod of_dwarf_ranges;
-#[cfg(test)]
 mod of_dwarf_strings;
 #[cfg(test)]
 mod of_elf_sections;

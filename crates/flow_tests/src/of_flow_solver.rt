@@ -38,7 +38,7 @@ fn upper_bound(most: Option<u32>) -> Bound
     }
 }
 
-pub(crate) fn block(exit: bool, bound: Bound) -> Block
+fn block(exit: bool, bound: Bound) -> Block
     ensures { result ≡ record { lo = 1; hi = 2; exit = exit; bound = bound } }
 {
     Block {
@@ -77,13 +77,6 @@ pub(crate) fn unknown() -> [Weight; 4]
     ensures { AreWeights 4 result }
 {
     [Weight::Unknown; 4]
-}
-
-/// The greatest weights.
-pub(crate) fn greatest() -> [Weight; 4]
-    ensures { AreWeights 4 result }
-{
-    [Weight::Known((1 << 44) - 1); 4]
 }
 
 /// A choice of two ways: from block 0, which runs at least so often, by block 1 or 2 to the exit,
@@ -126,26 +119,13 @@ fn least_cost(alloc: Global, net: &Net) -> Result<Option<u128>, NoMemory> {
 fn least_costs_are_those_of_worked_networks(rt: HostRuntime) {
     let alloc = rt.alloc();
     let sampled = known([100, 60, 0, 100]);
-    let twice = known([1, 1, 1, 2]);
-    let once = known([1, 1, 1, 1]);
     let never = known([0, 0, 0, 0]);
-    let top = (1 << 44) - 1;
     let cases = [
         (0, None, sampled, unknown(), Some(400)),
         (0, None, sampled, never, Some(1000)),
-        (0, None, twice, once, Some(40)),
-        (0, Some(1), twice, unknown(), Some(40)),
-        (0, None, never, never, Some(0)),
         (0, Some(0), sampled, unknown(), None),
-        (2, Some(1), twice, unknown(), None),
-        (2, None, once, unknown(), Some(50)),
         (3, Some(3), never, unknown(), Some(186)),
-        (3, Some(3), never, never, Some(204)),
         (5, None, unknown(), unknown(), Some(15)),
-        (0, None, greatest(), unknown(), Some(20 * top)),
-        (0, None, greatest(), never, Some(26 * top)),
-        (0, None, greatest(), greatest(), Some(28 * top)),
-        (0, Some(0), greatest(), unknown(), None),
     ];
     for (at_least, at_most, weights, edge_weights, costs) in cases {
         let Ok(net) = two_ways(alloc, at_least, at_most, &weights, &edge_weights) else {
@@ -153,32 +133,6 @@ fn least_costs_are_those_of_worked_networks(rt: HostRuntime) {
         };
         assert_eq!(rt; least_cost(alloc, &net), Ok(costs));
     }
-}
-
-/// Blocks 0 and 1 that go on at one another, of which block 0 was sampled 5 times.
-pub(crate) fn endless(alloc: Global) -> Result<Net, NoMemory> {
-    let fun = Fun {
-        name: b"loop",
-        blocks: Items::new(vec![in alloc; block(false, FREE), block(false, FREE)]?),
-        edges: Items::new(vec![in alloc; edge(0, 1), edge(1, 0)]?),
-    };
-    let net = net_of(alloc, &fun, &five_and_none(), &[Weight::Unknown; 2])?;
-    Ok(net)
-}
-
-fn five_and_none() -> [Weight; 2]
-    ensures { AreWeights 2 result }
-{
-    [Weight::Known(5), Weight::Known(0)]
-}
-
-#[test]
-fn an_endless_function_that_was_called_is_cut(rt: HostRuntime) {
-    let alloc = rt.alloc();
-    let Ok(net) = endless(alloc) else {
-        panic!(rt; "no memory");
-    };
-    assert_eq!(rt; least_cost(alloc, &net), Ok(None));
 }
 
 /// Block 0, an exit, and blocks 1 and 2 that go on at one another alone. Block 1 runs at least so
@@ -227,58 +181,4 @@ fn a_loop_apart_needs_no_exit(rt: HostRuntime) {
         };
         assert_eq!(rt; least_cost(alloc, &net), Ok(costs));
     }
-}
-
-/// A function of one block, sampled so often, and no edge.
-fn single(alloc: Global, exit: bool, times: u32) -> Result<Net, NoMemory> {
-    let fun = Fun {
-        name: b"single",
-        blocks: Items::new(vec![in alloc; block(exit, FREE)]?),
-        edges: Items::new(Vec::new(alloc)),
-    };
-    let net = net_of(alloc, &fun, &[Weight::Known(u64::from(times))], &[])?;
-    Ok(net)
-}
-
-#[test]
-fn a_single_block_needs_an_exit_once_it_was_sampled(rt: HostRuntime) {
-    let alloc = rt.alloc();
-    let cases = [(true, 9, Some(0)), (false, 9, None), (false, 0, Some(0))];
-    for (exit, times, costs) in cases {
-        let Ok(net) = single(alloc, exit, times) else {
-            panic!(rt; "no memory");
-        };
-        assert_eq!(rt; least_cost(alloc, &net), Ok(costs));
-    }
-}
-
-/// As many blocks as a function may have: block 0, sampled once, leads to the last one, and each
-/// other to the one before it, down to block 1, the exit.
-pub(crate) fn chain(alloc: Global) -> Result<Net, NoMemory> {
-    let mut blocks = vec![in alloc; block(false, FREE), block(true, FREE)]?;
-    let mut weights = vec![in alloc; Weight::Known(1), Weight::Unknown]?;
-    let mut edges = vec![in alloc; edge(0, 65535)]?;
-    let mut edge_weights = vec![in alloc; Weight::Unknown]?;
-    for number in 2..65536 {
-        blocks.push(block(false, FREE))?;
-        weights.push(Weight::Unknown)?;
-        edges.push(edge(number, number - 1))?;
-        edge_weights.push(Weight::Unknown)?;
-    }
-    let fun = Fun {
-        name: b"chain",
-        blocks: Items::new(blocks),
-        edges: Items::new(edges),
-    };
-    let net = net_of(alloc, &fun, &weights, &edge_weights)?;
-    Ok(net)
-}
-
-#[test]
-fn the_longest_chain_costs_one_for_each_block_that_was_not_sampled(rt: HostRuntime) {
-    let alloc = rt.alloc();
-    let Ok(net) = chain(alloc) else {
-        panic!(rt; "no memory");
-    };
-    assert_eq!(rt; least_cost(alloc, &net), Ok(Some(65535)));
 }

@@ -52,6 +52,23 @@ const CUT: &[u8] = b"# function loop cut 0\n# block 0 weight 5 in 1 out 1\n\
 // The words that test it.
 const CHECK: &[&[u8]] = &[b"check", b"loop", b"cut"];
 
+// What `build` writes for the first sample: 258 bytes of repair.
+const REPAIR: &[u8] = b"# function f0000 flow\n# block 0 weight 1 count 1 in 0 out 0\n\
+# block 1 weight 1 count 1 in 0 out 0\n# block 2 weight 0 count 0 in 0 out 0\n\
+# block 3 weight 1 count 1 in 0 out 0\n# edge 0 1 count 1\n# edge 0 2 count 0\n\
+# edge 1 3 count 1\n# edge 2 3 count 0\n# end 0\n";
+
+// The words for a profile of it.
+const LIFT: &[&[u8]] = &[b"lift", b"bin", b"cfg", b"repair"];
+
+// The words for eight profiles that are merged, and for what one comes to.
+const MERGE: &[&[u8]] = &[
+    b"merge", b"1", b"prof", b"2", b"prof", b"3", b"prof", b"4", b"prof", b"5", b"prof", b"6",
+    b"prof", b"7", b"prof", b"8", b"prof",
+];
+
+const TOTALS: &[&[u8]] = &[b"summary", b"prof"];
+
 // The words for a summary.
 const SUM: &[&[u8]] = &[b"make", b"1", b"sum"];
 
@@ -108,6 +125,8 @@ fn inputs_of(
         file(alloc, b"cfg", BLOCKS)?,
         file(alloc, b"loop", LOOP)?,
         file(alloc, b"cut", CUT)?,
+        file(alloc, b"repair", REPAIR)?,
+        file(alloc, b"prof", PROFILE)?,
     ]?;
     let fail = vec![in alloc; how.fail_read]?;
     Ok(MemoryInputs::new(files, how.read, fail))
@@ -161,9 +180,9 @@ fn each_failing_read_is_told(rt: HostRuntime) -> Result<(), test::Fail> {
     let alloc = rt.alloc();
     let bin = binary(alloc, 1)?;
     // Call 0 opens a file, and the last one finds its end. Between them the 655 bytes of the binary
-    // take eleven reads, the 144 of both samples and the 160 of the blocks three, and the others
-    // two.
-    let cases: [(&[&[u8]], &[u8], u8, u64); 7] = [
+    // take eleven reads, the 258 of the repair five, the 195 of the profile four, the 144 of both
+    // samples and the 160 of the blocks three, and the others two.
+    let cases: [(&[&[u8]], &[u8], u8, u64); 19] = [
         (WORDS, TEXT, 1, 13),
         (WORDS, TEXT, 2, 5),
         (BUILD, SAMPLE, 1, 13),
@@ -171,6 +190,18 @@ fn each_failing_read_is_told(rt: HostRuntime) -> Result<(), test::Fail> {
         (BUILD, SAMPLE, 3, 5),
         (CHECK, b"", 1, 4),
         (CHECK, b"", 2, 4),
+        (LIFT, b"", 1, 13),
+        (LIFT, b"", 2, 5),
+        (LIFT, b"", 3, 7),
+        (MERGE, b"", 1, 6),
+        (MERGE, b"", 2, 6),
+        (MERGE, b"", 3, 6),
+        (MERGE, b"", 4, 6),
+        (MERGE, b"", 5, 6),
+        (MERGE, b"", 6, 6),
+        (MERGE, b"", 7, 6),
+        (MERGE, b"", 8, 6),
+        (TOTALS, b"", 1, 6),
     ];
     for (words, perf, number, calls) in cases {
         for call in 0..calls + 2 {
@@ -201,7 +232,7 @@ fn written_before(write: u64, whole: usize) -> usize {
 fn a_failing_write_cuts_the_output_off(rt: HostRuntime) -> Result<(), test::Fail> {
     let alloc = rt.alloc();
     let bin = binary(alloc, 1)?;
-    for words in [WORDS, BUILD, CHECK, SUM] {
+    for words in [WORDS, BUILD, CHECK, SUM, LIFT, MERGE, TOTALS] {
         let (_, whole) = answer(alloc, words, &bin, SAMPLE, &failing(0, 0, 99))?;
         let writes = whole.len().div_ceil(16) as u64;
         for write in 0..writes.saturating_add(2) {
@@ -223,7 +254,7 @@ fn a_failing_write_cuts_the_output_off(rt: HostRuntime) -> Result<(), test::Fail
 fn a_byte_too_little_room_cuts_the_output_off(rt: HostRuntime) -> Result<(), test::Fail> {
     let alloc = rt.alloc();
     let bin = binary(alloc, 1)?;
-    for words in [WORDS, BUILD, CHECK, SUM] {
+    for words in [WORDS, BUILD, CHECK, SUM, LIFT, MERGE, TOTALS] {
         let (_, whole) = answer(alloc, words, &bin, SAMPLE, &failing(0, 0, 99))?;
         let how = Pieces {
             room: whole.len().saturating_sub(1),
@@ -266,7 +297,7 @@ fn without_memory_nothing_is_written(rt: HostRuntime) {
         return;
     };
     let counts: &[&[u8]] = &[b"counts", b"perf"];
-    for words in [counts, BUILD, CHECK, SUM] {
+    for words in [counts, BUILD, CHECK, SUM, LIFT, MERGE, TOTALS] {
         if let Ok((status, out)) = answer(alloc, words, &bin, SAMPLE, &failing(0, 0, 99)) {
             let refused = status == Status::NoMemory;
             assert!(rt; refused || status == Status::Done);

@@ -480,6 +480,12 @@ def builds():
         "a count to start from that has too many digits", (DONE, b"# augmentations 0\n", b""),
         ["build", "--scaled", "bin", "perf", "cfg"], told=lambda out: out[out.rindex(b"# "):], bin=ONE, perf=uneven, cfg=great,
     )
+    # One less has 36 digits, and is solved: at most 37 phases of 32 * 9.
+    less, most = great.replace(b"lo=68719476736", b"lo=68719476735"), 37 * 32 * 9
+    judge(
+        "a count to start from that has as many digits as may be", (DONE, b"# augmentations from 1 to %d\n" % most, b""),
+        ["build", "--scaled", "bin", "perf", "cfg"], told=lambda out: within(most)(out[out.rindex(b"# "):]), bin=ONE, perf=uneven, cfg=less,
+    )
     judge(
         "no augmentation without a function", (DONE, b"# augmentations 0\n", b""),
         ["build", "--scaled", "bin", "perf", "cfg"], told=lambda out: out[out.rindex(b"# "):], bin=ONE, perf=uneven, cfg=b"",
@@ -630,6 +636,124 @@ def builds_with_options():
     )
 
 
+def block_texts():
+    def judged(title, text, said):
+        judge("a block text: " + title, (REFUSED, b"", b"refused: " + said + b"\n"), ["check", "cfg", "out"], cfg=text, out=b"")
+
+    def good(text):
+        # No repair is told of its functions, and nothing else is wrong.
+        judged(repr(text), text, b"file 2 at 1: Missing")
+
+    def bad(at, kind, text):
+        judged(repr(text), text, b"file 1 at %d: %s" % (at, kind))
+
+    def block(line):
+        return b"func a\n" + line + b"\nend\n"
+
+    def blocks(*extents):
+        return b"func a\n" + b"".join(b"block %d 0x%x 0x%x\n" % (k, *extent) for k, extent in enumerate(extents))
+
+    # Which lines there are, and where they stand.
+    for line in [b"func", b"func a b", b"end", b"block 0 0x1 0x2", b"edge 0 0", b"Func a", b" # func", b"\xef\xbb\xbffunc a"]:
+        bad(1, b"BadLine", line + b"\n")
+    bad(3, b"BadLine", blocks((1, 2)) + b"func b\n")
+    bad(3, b"BadLine", blocks((1, 2)) + b"end end\n")
+    bad(3, b"BadLine", blocks((1, 2)) + b"end\r\n")
+    bad(4, b"BadLine", blocks((1, 2)) + b"edge 0 0\nblock 1 0x2 0x3\n")
+    bad(2, b"NoBlocks", b"func a\nend\nzz\n")
+    bad(3, b"NoEndLine", b"func a\nblock 0 0x1 0x2")
+    bad(4, b"NoEndLine", b"func a\nblock 0 0x1 0x2\n\n")
+    good(b"# a\n\n \t\nfunc\ta\n \tblock 00  0x1\t0x2 \n#\nend ")
+    good(2 * (blocks((1, 3)) + b"end\n") + b"func b\nblock 0 0x2 0x4\nend\n")
+    # Blocks: the next number, not empty, apart from all before, and a bound that some count meets, in this order.
+    bad(3, b"BlockOrder", b"func a\nblock 0 0x1 0x3\nblock 0 0x3 0x4\n")
+    bad(3, b"BlockOrder", b"func a\nblock 0 0x1 0x3\nblock 2 0x2 0x2 lo=1 hi=0\n")
+    bad(2, b"BlockEmpty", blocks((2, 2)))
+    bad(3, b"BlockEmpty", blocks((1, 5), (3, 2)))
+    bad(4, b"BlockOverlap", blocks((1, 3), (5, 7), (2, 4)))
+    bad(3, b"BlockOverlap", blocks((1, 9), (3, 5)))
+    bad(3, b"BlockOverlap", blocks((3, 5), (1, 9)))
+    bad(3, b"BlockOverlap", blocks((1, 3)) + b"block 1 0x2 0x4 lo=3 hi=2\n")
+    bad(2, b"BadBound", b"func a\nblock 0 0x1 0x2 lo=1 hi=0\n")
+    good(blocks((5, 7), (3, 5), (7, 9)) + b"end\n")
+    for line in [
+        b"block 0 1 0x2", b"block 0 0x1 2", b"block 0 0X1 0x2", b"block 0 0x 0x2", b"block 0 0x1 0x10000000000000000", b"block 0x0 0x1 0x2",
+        b"block -0 0x1 0x2", b"block 18446744073709551616 0x1 0x2", b"block 0 0x1", b"block 0 0x1 0x2 exit exit", b"block 0 0x1 0x2 lo=1 exit",
+        b"block 0 0x1 0x2 ran exit", b"block 0 0x1 0x2 Exit", b"block 0 0x1 0x2 hi=3 lo=2", b"block 0 0x1 0x2 lo=2 lo=3", b"block 0 0x1 0x2 ran ran",
+        b"block 0 0x1 0x2 never hi=0", b"block 0 0x1 0x2 lo=1 hi=2 ran", b"block 0 0x1 0x2 lo=", b"block 0 0x1 0x2 lo= 1", b"block 0 0x1 0x2 lo=0x1",
+        b"block 0 0x1 0x2 lo=-1", b"block 0 0x1 0x2 lo=17592186044416", b"block 0 0x1 0x2 hi=17592186044416", b"block 0 0x1 0x2 lo=1 hi=17592186044416",
+    ]:
+        bad(2, b"BadLine", block(line))
+    for line in [
+        b"block 0 0xa 0xB", b"block 0 0x00000000000000001 0xffffffffffffffff", b"block 0 0x1 0x2 exit never", b"block 0 0x1 0x2 exit ran",
+        b"block 0 0x1 0x2 exit lo=2 hi=2", b"block 0 0x1 0x2 lo=17592186044415", b"block 0 0x1 0x2 hi=017592186044415", b"block 0 0x1 0x2 lo=0 hi=0",
+    ]:
+        good(block(line))
+    # Edges: both ends, once, and a bound, in this order.
+    for line in [b"edge 0 2", b"edge 2 0", b"edge 0 4294967296", b"edge 18446744073709551615 0", b"edge 0 2 lo=3 hi=2"]:
+        bad(4, b"EdgeEnd", blocks((1, 2), (2, 3)) + line + b"\n")
+    for line in [b"edge 0 18446744073709551616", b"edge 0", b"edge 0 0 ran", b"edge 0 0 exit", b"edge 0 0x1", b"edge 0 0 hi=1 lo=1"]:
+        bad(4, b"BadLine", blocks((1, 2), (2, 3)) + line + b"\n")
+    bad(5, b"EdgeTwice", blocks((1, 2), (2, 3)) + b"edge 0 1\nedge 0 1 lo=3 hi=2\n")
+    bad(4, b"BadBound", blocks((1, 2), (2, 3)) + b"edge 0 1 lo=3 hi=2\n")
+    good(blocks((1, 2), (2, 3)) + b"edge 0 1 lo=2 hi=2\nedge 1 0 never\nedge 1 1\nedge 00 0 hi=3\nend\n")
+
+
+def weights():
+    def found(title, binary, perf, blocks, wanted, *options):
+        told = lambda out: b"".join(re.findall(rb"# (?:block|edge|end) .*\n", without_prices(out)))
+        judge("weighed: " + title, (DONE, wanted, b""), ["build", *options, "bin", "perf", "cfg"], told=told, bin=binary, perf=perf, cfg=blocks)
+
+    def at(address, times, last=None):
+        """A range from this address up to the last one, or of it alone, so many times."""
+        return b"0x%x/0x9 0x9/0x%x\n" % (last or address, address) * times
+
+    # The largest count of the keys of a block, wherever a key ran so often: neither the first, nor a sum. One call has to come,
+    # and one more through both blocks costs 11 and saves 10.
+    halves = b"# block 0 weight %d count %d\n# block 1 weight %d count %d\n# edge 0 1 count %d\n# end %d\n"
+    found("the largest of two lines", ONE, at(0x401001, 2) + at(0x401008, 3), HALVES, halves % (3, 1, 0, 1, 1, 31))
+    single = b"# block 0 weight %s count %d\n# end %d\n"
+    part = b"func part\nblock 0 0x%x 0x%x exit\nend\n"
+    found("a line that ran behind the block", ONE, at(0x401005, 5), part % (0x401000, 0x401004), single % (b"5", 5, 0))
+    found("a line that begins behind the block", ONE, at(0x401008, 5), part % (0x401000, 0x401008), single % (b"0", 0, 0))
+    found("addresses outside of the function", ONE, at(0x401000, 5), part % (0x400FF0, 0x401008), single % (b"5", 5, 0))
+    found("addresses of two functions", TWO, at(0x401030, 2) + at(0x401040, 4), part % (0x401030, 0x401048), single % (b"4", 4, 0))
+    found("addresses without a line alone", ONE, at(0x401000, 5), part % (0x401040, 0x401048), single % (b"?", 0, 0))
+    found("calls are no runs", ONE, b"0x401034/0x401000\n" * 3, part % (0x401000, 0x401008), single % (b"0", 0, 0))
+
+    # Both ways over an edge add up, and an edge below its weight costs 4.
+    over = b"# block 0 weight %b count %d\n# block 1 weight %b count %d\n# edge 0 1 weight %b count %d\n# end %d\n"
+    both = b"0x401004/0x401020\n" + at(0x401018, 1, 0x401028)
+    found("a branch and running on", ONE, both, HALVES, over % (b"1", 1, b"1", 1, b"2", 1, 4), "--edges")
+    found("a branch alone", ONE, b"0x40101f/0x401020", HALVES, over % (b"0", 0, b"0", 0, b"1", 0, 4), "--edges")
+    # From behind the block, past the start of the next one, and up to its end: nothing went over.
+    for title, branch in [("from the next block", b"0x401020/0x401020"), ("past its start", b"0x401004/0x401021"), ("from in front", b"0x400fff/0x401020")]:
+        found("a branch " + title, ONE, branch, HALVES, over % (b"0", 0, b"0", 0, b"0", 0, 0), "--edges")
+    found("a range up to the end", ONE, at(0x401010, 1, 0x40101F), HALVES, over % (b"1", 1, b"0", 1, b"0", 1, 14), "--edges")
+    found("a range from the start", ONE, at(0x401020, 1, 0x40102F), HALVES, over % (b"0", 1, b"1", 1, b"0", 1, 43), "--edges")
+    found("a range one further", ONE, at(0x40101F, 1, 0x401020), HALVES, over % (b"1", 1, b"1", 1, b"1", 1, 0), "--edges")
+    # A range from one function into another did not run.
+    crossing = b"func a\nblock 0 0x401030 0x401040\nblock 1 0x401040 0x401050 exit\nedge 0 1\nend\n"
+    found("a range that crosses", TWO, at(0x401030, 1, 0x401050), crossing, over % (b"0", 0, b"0", 0, b"0", 0, 0), "--edges")
+    # An edge is known where both of its blocks are.
+    for known, first, second in [((b"5", b"?"), 0x401000, 0x501000), ((b"?", b"5"), 0x501000, 0x401000)]:
+        apart = b"func a\nblock 0 0x%x 0x%x\nblock 1 0x%x 0x%x exit\nedge 0 1\nend\n" % (first, first + 8, second, second + 8)
+        found(f"one unknown block, {known}", ONE, at(0x401000, 5), apart, over % (known[0], 5, known[1], 5, b"?", 5, 5), "--edges")
+        found(f"a branch over it, {known}", ONE, at(0x401000, 5) + b"0x%x/0x%x" % (first, second), apart, over % (known[0], 5, known[1], 5, b"?", 5, 5), "--edges")
+
+    # What bounds ask without a sample, at each price: 40 for block 0, 11 for another, 1 for an unknown one.
+    told = lambda title, blocks, *numbers: found(title, ONE, b"", blocks, counted((b"0",) * 4, *numbers).split(b"\n", 1)[1])
+    told("a block that ran", BLOCKS.replace(b"0x401020\n", b"0x401020 ran\n", 1), (1, 0, 1, 1, 0, 1, 0, 1), 62)
+    told("an edge that was taken twice", BLOCKS.replace(b"edge 0 2", b"edge 0 2 lo=2"), (2, 0, 2, 2, 0, 2, 0, 2), 124)
+    found("an unknown block that ran", ONE, b"", b"func far\nblock 0 0x1 0x2 exit ran\nend\n", single % (b"?", 1, 1))
+    # An edge that is never taken: all goes by block 2, at 60 * 20 below and 100 * 11 above.
+    uneven = at(0x401001, 100) + at(0x401008, 60) + at(0x401020, 100)
+    found(
+        "an edge that is never taken", ONE, uneven, BLOCKS.replace(b"edge 0 1", b"edge 0 1 never"),
+        counted((b"100", b"60", b"0", b"100"), (100, 0, 100, 100, 0, 100, 0, 100), 2300).split(b"\n", 1)[1],
+    )
+
+
 # Counts that repair the weights 100, 60, 0 and 100 of that function, with prices that fit them; and a cut of the loop.
 COUNTS = (
     b"# function f0000 flow\n# block 0 weight 100 count 100 in 0 out 0\n# block 1 weight 60 count 100 in 0 out 10\n"
@@ -699,7 +823,59 @@ def checks():
     fails(2, with_line(WEIGHED, 7, b"# edge 0 2 weight 1 count 2"))
     fails(6, WEIGHED, BLOCKS.replace(b"edge 0 1\n", b"edge 0 1 never\n"))
 
+    # Of two functions that fail the first, and of two tests the first.
+    fails(10, with_line(COUNTS, 10, b"# end 401") + with_line(CUT, 4, b"# end 2 0"), BLOCKS + LOOP)
+    fails(6, with_line(with_line(COUNTS, 2, b"# block 0 weight 100 count 100 in 0 out 10"), 10, b"# end 401"))
+    # A block at its upper bound, over which the price may rise, and one at its lower bound, over which it may fall.
+    full = (
+        b"# function f0000 flow\n# block 0 weight 1 count 1 in 0 out 30\n# block 1 weight 1 count 1 in 30 out 10\n"
+        b"# block 2 weight 1 count 0 in 30 out 10\n# block 3 weight 2 count 1 in 10 out 0\n# edge 0 1 count 1\n"
+        b"# edge 0 2 count 0\n# edge 1 3 count 1\n# edge 2 3 count 0\n# end 40\n"
+    )
+    passes("a block at its upper bound", BLOCKS.replace(b"exit\n", b"exit hi=1\n"), full)
+    fails(5, full, BLOCKS.replace(b"exit\n", b"exit hi=2\n"))
+    chain = b"func a\nblock 0 0x1 0x2\nblock 1 0x2 0x3 exit ran\nedge 0 1\nend\n"
+    ran = b"# function a flow\n# block 0 weight %b count 1 in 0 out %d\n# block 1 weight %b count 1 in %d out 0\n# edge 0 1 %bcount 1\n# end %d\n"
+    passes("unknown blocks that ran", chain, ran % (b"?", 1, b"?", 1, b"", 2))
+    passes("blocks that ran and were not sampled", chain, ran % (b"0", 40, b"0", 40, b"", 51))
+    passes("an edge of weight 0", chain, ran % (b"0", 40, b"0", 43, b"weight 0 ", 54))
+    for cost in 50, 52:
+        fails(5, ran % (b"0", 40, b"0", 40, b"", cost), chain)
+    fails(3, ran % (b"?", 1, b"?", 1, b"", 2), chain.replace(b" ran", b""))
+    # Counts at which prices of 0 fit, and which do not conserve: a call into block 1, a return from block 0, and more that leaves
+    # an exit than ran there.
+    kept = b"# function a flow\n# block 0 weight %d count %d in 0 out 0\n# block 1 weight %d count %d in 0 out 0\n# edge 0 1 count %d\n# end 0\n"
+    for line, blocks, counts in (None, chain, (2, 2, 2)), (3, chain, (1, 2, 1)), (2, chain, (2, 1, 1)), (3, chain, (2, 1, 2)), (2, chain, (1, 2, 2)):
+        text = kept % (counts[0], counts[0], counts[1], counts[1], counts[2])
+        if line:
+            fails(line, text, blocks)
+        else:
+            passes("what was sampled conserves", blocks, text)
+    three = b"func a\nblock 0 0x1 0x2\nblock 1 0x2 0x3 exit\nblock 2 0x3 0x4 exit\nedge 0 1\nedge 1 2\nend\n"
+    left = b"".join(b"# block %d weight %d count %d in 0 out 0\n" % (k, count, count) for k, count in enumerate((1, 1, 2)))
+    fails(3, b"# function a flow\n" + left + b"# edge 0 1 count 1\n# edge 1 2 count 2\n# end 0\n", three)
+    # Who was sampled was called; who was not need not be.
+    idle = b"# function loop flow\n# block 0 weight 0 count 0 in 0 out 0\n# block 1 weight 0 count 0 in 0 out 0\n# edge 0 1 count 0\n# edge 1 0 count 0\n# end 0\n"
+    passes("a loop that was not sampled", LOOP, idle)
+    fails(2, re.sub(rb"(weight|count) 0", rb"\1 1", idle), LOOP)
+    # Cuts: equal sums show nothing, what leaves has to have a bound, its lower bound counts for nothing, and the outside may be in it.
+    fails(4, CUT.replace(b"weight 5", b"weight 0").replace(b"# end 1 0", b"# end 0 0"), LOOP)
+    fails(4, with_line(with_line(CUT, 2, b"# block 0 weight 5 in 1 out 0"), 3, b"# block 1 weight 0 in 0 out 0"), LOOP)
+    passes("a cut over what has a lower bound as well", BOUNDED.replace(b"exit hi=1", b"exit lo=1 hi=1"), BOUNDED_CUT)
+    passes("a cut with an unknown block", LOOP, CUT.replace(b"weight 0", b"weight ?"))
+    twice = b"func a\nblock 0 0x1 0x2 hi=1\nblock 1 0x2 0x3 exit lo=2\nedge 0 1\nend\n"
+    outside = b"# function a cut %d\n# block 0 weight ? in 1 out 0\n# block 1 weight ? in 0 out 1\n# end 2 1\n"
+    passes("a cut with the outside", twice, outside % 1)
+    fails(4, outside % 0, twice)
+    passes("bits with zeros in front", LOOP, CUT.replace(b"cut 0", b"cut 00").replace(b"in 1", b"in 01"))
+
     # Each cause of each line, the first of two where both hold.
+    bad(b"file 2 at 11: Missing", COUNTS.replace(b"# function", b"#  function"))
+    bad(b"file 2 at 1: WrongFunction", CUT + COUNTS, BLOCKS + LOOP)
+    bad(b"file 2 at 11: BadLine", COUNTS + b"# function f0001\n")
+    bad(b"file 2 at 6: WrongEdge", with_line(with_line(COUNTS, 6, b"# edge 0 2 count 0"), 7, b"# edge 0 1 count 100"))
+    bad(b"file 2 at 2: BadLine", with_line(CUT, 2, b"# block 0 weight 5 count 5 in 1 out 1"), LOOP)
+    bad(b"file 2 at 2: BadLine", with_line(COUNTS, 2, b"# block 0 weight ?? count 100 in 0 out 0"))
     bad(b"file 2 at 4: WrongBlock", with_line(COUNTS, 4, None))
     bad(b"file 2 at 10: Missing", with_line(COUNTS, 10, None))
     bad(b"file 2 at 1: Missing", b"")
@@ -931,4 +1107,4 @@ def large():
     )
 
 
-try_all([places, range_lists, other_places, refusals, words, profiles, reports, bases_and_loads, builds, builds_with_options, checks, lifts, makes, large])
+try_all([places, range_lists, other_places, refusals, words, profiles, reports, bases_and_loads, builds, builds_with_options, block_texts, weights, checks, lifts, makes, large])

@@ -1,11 +1,12 @@
 -- The definitions on worked values: a function of one block, which was sampled 5 times and is its exit.
-use Rattle.std.proofs.Common.{◌≡◌, ℕ, [], ◌∷◌, Some, None, refl}
+use Rattle.std.proofs.Common.{◌≡◌, ◌≤◌, ◌+◌, ℕ, zero, suc, [], ◌∷◌, Some, None, refl, arith}
 use Rattle.std.specs.Prelude.{ℤ, pos, negsuc, map, true}
 use Rattle.block_model.specs.declared.parts.Block.{Block}
 use Rattle.block_model.specs.declared.parts.Weight.TheVariants.{Known}
 use Rattle.flow_model.specs.declared.arc.Arc.{Arc}
 use Rattle.flow_model.specs.Network.{Network, arcs_of, network_of, block_arc, free_arc}
 use Rattle.residual_model.specs.Residual.{starting}
+use Rattle.scaling_model.specs.Bound.{most_digits, phase_bound, size_of, AreFew, StartWithin}
 use Rattle.scaling_model.specs.Coarse.{begun_units, coarse, coarse_arc, whole_units}
 use Rattle.scaling_model.specs.Laws.{half_up, halved, halved_arc}
 use Rattle.scaling_model.specs.Refining.{refined, rise_on, set_right}
@@ -65,3 +66,30 @@ number node = pos node
 
 a_rise : rise_on number arc ≡ pos 1
 a_rise = refl
+
+-- ---- the bound on augmentations
+
+-- a block and no edge are counted with one more, and each phase has at most 32 times so many
+size_of_one_block : (size_of sampled ≡ 2) × (phase_bound sampled ≡ 64) × (most_digits ≡ 36)
+size_of_one_block = (refl, refl, refl)
+
+-- 5 has three binary digits, and not two
+three_digits : StartWithin 3 sampled
+three_digits zero d within = omega arith
+three_digits (suc zero) d within = omega arith
+three_digits (suc (suc zero)) d within = omega arith
+three_digits (suc (suc (suc k))) d within = absurd (omega (arith, within))
+
+-- nor has 4, which is moved into its bounds as it is
+not_two_digits : StartWithin 2 (network_of (block ∷ []) [] (Known 4 ∷ []) []) → ⊥
+not_two_digits small = let four = small 1 (free_arc 0 1 0) (omega arith) in omega (arith, four)
+
+-- so there are at most four phases, from the first augmentation that is counted to the last; and as many may be
+at_most_four_phases : (before after : ℕ) → AreFew sampled before after → after ≤ before + 256
+at_most_four_phases before after few = let most = (few 3 three_digits).few in omega (arith, most)
+
+four_phases_are_few : AreFew sampled 7 263
+four_phases_are_few zero small = let five = small 1 (free_arc 0 1 0) (omega arith) in absurd (omega (arith, five))
+four_phases_are_few (suc zero) small = let five = small 1 (free_arc 0 1 0) (omega arith) in absurd (omega (arith, five))
+four_phases_are_few (suc (suc zero)) small = let five = small 1 (free_arc 0 1 0) (omega arith) in absurd (omega (arith, five))
+four_phases_are_few (suc (suc (suc k))) small = record { later = omega arith; few = omega arith }

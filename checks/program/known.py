@@ -725,6 +725,8 @@ def weights():
     over = b"# block 0 weight %b count %d\n# block 1 weight %b count %d\n# edge 0 1 weight %b count %d\n# end %d\n"
     both = b"0x401004/0x401020\n" + at(0x401018, 1, 0x401028)
     found("a branch and running on", ONE, both, HALVES, over % (b"1", 1, b"1", 1, b"2", 1, 4), "--edges")
+    often = b"0x401004/0x401020\n" * 2 + at(0x401018, 3, 0x401028)
+    found("a branch twice and running on three times", ONE, often, HALVES, over % (b"3", 3, b"3", 3, b"5", 3, 8), "--edges")
     found("a branch alone", ONE, b"0x40101f/0x401020", HALVES, over % (b"0", 0, b"0", 0, b"1", 0, 4), "--edges")
     # From behind the block, past the start of the next one, and up to its end: nothing went over.
     for title, branch in [("from the next block", b"0x401020/0x401020"), ("past its start", b"0x401004/0x401021"), ("from in front", b"0x400fff/0x401020")]:

@@ -80,9 +80,19 @@ three_digits (suc zero) d within = omega arith
 three_digits (suc (suc zero)) d within = omega arith
 three_digits (suc (suc (suc k))) d within = absurd (omega (arith, within))
 
--- nor has 4, which is moved into its bounds as it is
+-- 4 has three as well
 not_two_digits : StartWithin 2 (network_of (block ∷ []) [] (Known 4 ∷ []) []) → ⊥
 not_two_digits small = let four = small 1 (free_arc 0 1 0) (omega arith) in omega (arith, four)
+
+-- a weight of 1 is raised to 3, and one of 100 lowered to 7
+one_is_raised : StartWithin 1 (network_of (block ∷ []) [] (Known 1 ∷ []) []) → ⊥
+one_is_raised small = let three = small 1 (free_arc 0 1 0) (omega arith) in omega (arith, three)
+
+a_hundred_is_lowered : StartWithin 3 (network_of (block ∷ []) [] (Known 100 ∷ []) [])
+a_hundred_is_lowered zero d within = omega arith
+a_hundred_is_lowered (suc zero) d within = omega arith
+a_hundred_is_lowered (suc (suc zero)) d within = omega arith
+a_hundred_is_lowered (suc (suc (suc k))) d within = absurd (omega (arith, within))
 
 -- so there are at most four phases, from the first augmentation that is counted to the last; and as many may be
 at_most_four_phases : (before after : ℕ) → AreFew sampled before after → after ≤ before + 256

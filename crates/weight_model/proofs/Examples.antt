@@ -64,6 +64,12 @@ past_the_start : taken (branch 0x401000 0x401011 1 ∷ []) (block 0x401000 0x401
 unfolding block branch
 past_the_start = refl
 
+-- a branch and a range count as often as they were sampled
+as_often : (taken (branch 0x401000 0x401010 3 ∷ branch 0x401004 0x401010 2 ∷ []) (block 0x401000 0x401008) 0x401010 ≡ 5)
+    × (passed (record { lo = 0x401000; hi = 0x401010; times = 4 } ∷ range 0x401000 0x401010 ∷ []) 0x401008 ≡ 5)
+unfolding block branch range
+as_often = (refl, refl)
+
 -- ranges that end before an address, end there, begin there, and begin before it
 run_past : map (λ one. passed (one ∷ []) 0x401008) (range 0x401000 0x401007 ∷ range 0x401000 0x401008 ∷ range 0x401008 0x401010 ∷ range 0x401007 0x401010 ∷ []) ≡ 0 ∷ 1 ∷ 0 ∷ 1 ∷ []
 unfolding range

@@ -93,9 +93,12 @@ fn end_by(of: &InUnit<'_>, start: u64, high: &Found<'_>) -> Result<u64, Place>
 fn list_of(alloc: Global, range: Option<(u64, u64)>) -> Result<Vec<(u64, u64)>, NoMemory>
     ensures { IfOk result (λ ranges. ranges.items ≡ option_to_list range) }
 {
-    let mut ranges = Vec::new(alloc);
-    if let Some(range) = range {
-        ranges.push(range)?;
+    match range {
+        Some(range) => {
+            let mut ranges = Vec::with_capacity(alloc, 1)?;
+            ranges.push(range)?;
+            Ok(ranges)
+        }
+        None => Ok(Vec::new(alloc)),
     }
-    Ok(ranges)
 }

@@ -1,9 +1,20 @@
 -- Entries in memory: a row for each, and the attributes of all in one list.
-use Rattle.std.specs.Prelude.{◌≤◌, ◌<◌, List, map, length, slice_range, AllPairs}
+use Rattle.std.specs.Prelude.{ℕ, ◌+◌, ◌≤◌, ◌<◌, List, map, length, slice_range, AllPairs}
 use Rattle.std.specs.List.{AllByRecursion}
 use Rattle.unit_model.specs.Values.{Found}
 use Rattle.unit_model.specs.Entries.{Entry}
 use Rattle.dwarf_info.specs.declared.rows.Row.{Row}
+
+-- A row of these numbers.
+abbrev pub row_made : (at tag depth unit first count : ℕ) → Row
+row_made at tag depth unit first count = record {
+  tag = tag;
+  at = at;
+  unit = unit;
+  first = first;
+  depth = depth;
+  count = count;
+}
 
 -- The entry of a row.
 abbrev pub entry_of_row : List Found → Row → Entry
@@ -12,13 +23,12 @@ entry_of_row found row = record {
   depth = row.depth;
   tag = row.tag;
   unit = row.unit;
-  found = slice_range found row.first row.end;
+  found = slice_range found row.first (row.first + row.count);
 }
 
 -- The attributes of a row are some of the list.
 pub record IsWithin (found : List Found) (row : Row) : Type 0 where
-  pub ordered : row.first ≤ row.end
-  pub within : row.end ≤ length found
+  pub within : row.first + row.count ≤ length found
 
 -- The entries of rows.
 abbrev pub entries_of : List Found → List Row → List Entry

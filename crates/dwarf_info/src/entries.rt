@@ -1,7 +1,8 @@
 // The entries of a unit.
-ghost use Rattle.std.specs.Prelude.{◌≡◌, ◌<◌, ◌≤◌, ◌+◌, ◌++◌, ◌∷◌, [], length, if◌then◌else◌, OnOk};
+ghost use Rattle.std.specs.Prelude.{◌≡◌, ◌<◌, ◌≤◌, ◌+◌, ◌++◌, ◌∷◌, [], length, if◌then◌else◌, IfOk, OnOk};
 ghost use Rattle.unit_model.specs.Entries.{entry_of, next_entry, entries as entries_told};
 ghost use Rattle.dwarf_info.specs.Entries.{all_of, IsWhole, ReadsSoFar, ReadsEntries};
+ghost use Rattle.dwarf_info.specs.Rows.{row_made};
 
 use crate::kinds::EntryKinds;
 use crate::rows::{Entries, Row};
@@ -23,6 +24,59 @@ const MAX_ENTRIES: usize = 1 << 24;
 pub(crate) struct InUnit {
     pub unit: u32,
     pub shape: UnitShape,
+}
+
+/// The largest number of 32 bits.
+const MAX_32: usize = (1 << 32) - 1;
+
+/// The largest number of 16 bits.
+const MAX_16: usize = (1 << 16) - 1;
+
+/// A number in 32 bits, or `NoMemory` where it has more.
+fn in_32(number: usize) -> Result<u32, NoMemory>
+    ensures { IfOk result (λ same. same ≡ number) }
+{
+    if number > MAX_32 {
+        return Err(NoMemory);
+    }
+    Ok(number as u32)
+}
+
+/// A number in 16 bits, or `NoMemory` where it has more.
+fn in_16(number: usize) -> Result<u16, NoMemory>
+    ensures { IfOk result (λ same. same ≡ number) }
+{
+    if number > MAX_16 {
+        return Err(NoMemory);
+    }
+    Ok(number as u16)
+}
+
+/// The row of an entry with `count` attributes, from `first` on.
+///
+/// # Errors
+/// `NoMemory` where its offset in the file or `first` has more than 32 bits, or `count` more than
+/// 16. No binary of at most 2^30 bytes has such an entry: there are at most 2^24, each with at most
+/// one attribute of each name that is wanted.
+fn row_of(
+    at: usize,
+    tag: u64,
+    depth: u32,
+    unit: u32,
+    first: usize,
+    count: usize,
+) -> Result<Row, NoMemory>
+    requires { depth ≤ 1024 }
+    ensures { IfOk result (λ row. row ≡ row_made at tag depth unit first count) }
+{
+    Ok(Row {
+        tag,
+        at: in_32(at)?,
+        unit,
+        first: in_32(first)?,
+        depth: depth as u16,
+        count: in_16(count)?,
+    })
 }
 
 /// Adds a row.
@@ -64,15 +118,8 @@ fn read_entry<'a>(
     let first = entries.found.len();
     let tag = abbrev.tag;
     read_values(cur, tag, abbrev.attrs, of.shape, &mut entries.found)?;
-    let end = entries.found.len();
-    let row = Row {
-        at: at as u64,
-        tag,
-        depth,
-        unit: of.unit,
-        first,
-        end,
-    };
+    let count = entries.found.len().saturating_sub(first);
+    let row = row_of(at, tag, depth, of.unit, first, count)?;
     push(&mut entries.rows, row)?;
     Ok(depth_behind(depth, abbrev.children))
 }

@@ -74,15 +74,16 @@ impl Model for Unit {
     } };
 }
 
-/// An entry in memory. Its attributes stand in the list of all, from `first` up to `end`.
+/// An entry in memory, in 24 bytes. Its attributes stand in the list of all: `count` of them, from
+/// `first` on.
 #[derive(Clone, Copy, Debug)]
 pub(crate) struct Row {
-    pub at: u64,
     pub tag: u64,
-    pub depth: u32,
+    pub at: u32,
     pub unit: u32,
-    pub first: usize,
-    pub end: usize,
+    pub first: u32,
+    pub depth: u16,
+    pub count: u16,
 }
 
 impl Row {
@@ -94,12 +95,14 @@ impl Row {
         requires { IsWithin found.now self.now }
         ensures { result ≡ entry_of_row found.now self.now }
     {
+        let first = self.first as usize;
+        let end = first + self.count as usize;
         Entry {
-            at: self.at,
-            depth: self.depth,
+            at: self.at as u64,
+            depth: self.depth as u32,
             tag: self.tag,
             unit: self.unit,
-            found: &found[self.first..self.end],
+            found: &found[first..end],
         }
     }
 }
@@ -219,9 +222,9 @@ impl<'a> Units<'a> {
         ensures { FindsEntry self.now.entries at result }
     {
         let rows = &self.so_far.entries.rows;
-        let number = rows.partition_point(|row| row.at < at);
+        let number = rows.partition_point(|row| (row.at as u64) < at);
         match rows.get(number) {
-            Some(row) if row.at == at => Some(number),
+            Some(row) if row.at as u64 == at => Some(number),
             _ => None,
         }
     }

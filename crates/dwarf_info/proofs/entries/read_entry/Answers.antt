@@ -1,4 +1,4 @@
-use Rattle.std.proofs.Common.{◌≡◌, Ok, length, refl, subst, arith}
+use Rattle.std.proofs.Common.{◌≡◌, Ok, length, ◌-◌, refl, subst, arith}
 use Rattle.unit_model.specs.Abbrev.{Abbrev}
 use Rattle.unit_model.specs.Entries.{entry_of}
 use Rattle.dwarf_info.specs.Entries.{all_of, ReadsSoFar}
@@ -26,12 +26,12 @@ pub returns-clause-read : goal.returns-clause-read
 returns-clause-read c =
     let count : c.len-is_full.result ≡ length c.args.entries.now.rows.items = omega (arith, c.len-is_full.ensures, c.args.entries.now.rows.ok.0) in
     let first : c.len-first.result ≡ length c.args.entries.now.found.items = omega (arith, c.len-first.ensures, c.args.entries.now.found.ok.0) in
-    let end : c.len-end.result ≡ length c.read_values.new.found.items = omega (arith, c.len-end.ensures, c.read_values.new.found.ok.0) in
+    let own : c.saturating_sub-count.result ≡ length c.read_values.new.found.items - c.len-first.result = omega (arith, c.saturating_sub-count.ensures, c.len.ensures, c.read_values.new.found.ok.0) in
     let read = entry-read (record { unit = c.args.of.unit; wide = c.args.of.shape.wide }) c.args.at
     (record { code = c.abbrev.inside.code; tag = c.abbrev.inside.tag; children = c.abbrev.inside.children; attrs = c.abbrev.inside.attrs.now })
-    c.args.entries.now (record { rows = c.push.new.rows; found = c.read_values.new.found }) c.args.depth c.depth_behind.result c.len-is_full.result c.len-first.result c.len-end.result
+    c.args.entries.now (record { rows = c.push.new.rows; found = c.read_values.new.found }) c.args.depth c.depth_behind.result c.len-is_full.result c.len-first.result c.saturating_sub-count.result _
     c.args.cur.now c.read_values.new.cur _ c.read_values.new.found.items _ _ c.requires c.in_ok-refuse_if.ensures.0 c.in_ok-refuse_if-2.ensures.0 count
-    c.in_ok-read_values.ensures.read.2 c.in_ok-read_values.ensures.read.1 refl c.in_ok-push.ensures first end c.depth_behind.ensures in (
+    c.in_ok-read_values.ensures.read.2 c.in_ok-read_values.ensures.read.1 refl c.in_ok-push.ensures c.in_ok-row.ensures first own c.depth_behind.ensures in (
       read.0,
       subst (λ (k : Abbrev). entry_of (record { unit = c.args.of.unit; wide = c.args.of.shape.wide }) c.args.at k (record { depth = c.args.depth; entries = all_of c.args.entries.now }) c.args.cur.now
           ≡ Ok ((record { depth = c.depth_behind.result; entries = all_of (record { rows = c.push.new.rows; found = c.read_values.new.found }) }), c.read_values.new.cur)) c.abbrev.view_is read.1,

@@ -42,7 +42,7 @@ use Rattle.profile_tree.proofs.ListLemmas.{Among, among_filter, among_filter_bac
 use Rattle.profile_tree.specs.Said.{way_at}
 use Rattle.profile_writer.proofs.SumLemmas.{kept_among, kept_from}
 use Rattle.profile_writer.specs.Told.{TellsPlace, key_of}
-use Rattle.cold_tree.specs.Besides.{counted, first_ways}
+use Rattle.cold_maker.specs.Besides.{counted, first_ways}
 use Rattle.span_cover.specs.Asked.{asks}
 
 -- ---- each key has an address

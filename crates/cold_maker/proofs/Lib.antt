@@ -1,1 +1,3 @@
+pub mod BesidesLemmas
 pub mod ColdLemmas
+pub mod TreeLemmas

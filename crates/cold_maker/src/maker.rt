@@ -5,8 +5,8 @@ ghost use Rattle.binary_places.specs.Binary.{IsBinary, IsPlaced};
 ghost use Rattle.output_model.specs.Cold.{cold_output};
 ghost use Rattle.profile_model.specs.Judging.{first_bad_of_profile};
 
+use crate::tree::tree_of;
 use binary_places::{Asked, Binary, Placed, places};
-use cold_tree::tree_of;
 use profile_text::{read, write};
 use refusal::Stop;
 use std::alloc::Global;

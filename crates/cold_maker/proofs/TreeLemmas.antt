@@ -13,9 +13,9 @@ use Rattle.profile_tree.specs.Known.{HasNames}
 use Rattle.profile_tree.specs.Said.{stated, way_at, ways_said}
 use Rattle.profile_tree.specs.declared.head.Head.{Head}
 use Rattle.profile_tree.specs.declared.key_count.KeyCount.{KeyCount}
-use Rattle.cold_tree.proofs.BesidesLemmas.{besides_are, keys_are}
+use Rattle.cold_maker.proofs.BesidesLemmas.{besides_are, keys_are}
 use Rattle.profile_text.proofs.NumberLemmas.{stated_is_told}
-use Rattle.cold_tree.specs.Besides.{first_ways, has_mark, standing_keys, stands}
+use Rattle.cold_maker.specs.Besides.{first_ways, has_mark, standing_keys, stands}
 use Rattle.profile_text.specs.Numbers.{call_in, count_in, counted, head_in}
 
 pub tree_is :

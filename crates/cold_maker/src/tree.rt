@@ -2,7 +2,7 @@
 ghost use Rattle.std.specs.Prelude.{◌≡◌, ◌≤◌, All, IfOk, length, map};
 ghost use Rattle.std.specs.List.{AllByRecursion};
 ghost use Rattle.cold_model.specs.Cold.{cold_lines_of};
-ghost use Rattle.cold_tree.specs.Besides.{first_ways};
+ghost use Rattle.cold_maker.specs.Besides.{first_ways};
 ghost use Rattle.profile_laws.specs.Once.{StandOnce};
 ghost use Rattle.profile_text.specs.Draft.{IsGivenItem};
 ghost use Rattle.profile_text.specs.Numbers.{counted};

@@ -1,7 +1,7 @@
 // The keys that have lines besides those that are recorded.
 ghost use Rattle.std.specs.Prelude.{◌≡◌, ◌<◌, ◌≤◌, All, IfOk, filter, length, map, slice_index_or, false};
 ghost use Rattle.std.specs.List.{range_with_len};
-ghost use Rattle.cold_tree.specs.Besides.{has_mark};
+ghost use Rattle.cold_maker.specs.Besides.{has_mark};
 
 use key_types::{Key, KeyId, Keys};
 use refusal::NoMemory;

@@ -1,11 +1,11 @@
 use Rattle.std.proofs.Common.{◌≡◌, ◌∙◌, ◌+◌, ap, false, filter, map, sym}
 use Rattle.std.specs.Prelude.{slice_index_or}
 use Rattle.std.specs.List.{range_with_len}
-use Rattle.cold_tree.proofs.BesidesLemmas.{no_more, one_more}
+use Rattle.cold_maker.proofs.BesidesLemmas.{no_more, one_more}
 use Rattle.profile_text.specs.Numbers.{root_of_given}
-use Rattle.cold_tree.specs.Besides.{has_mark}
-use Rattle.cold_tree.proofs.besides.besides_of.Goals as goal
-use Rattle.cold_tree.proofs.besides.besides_of.Goals.{then-has_mark+in_ok-push, else-has_mark}
+use Rattle.cold_maker.specs.Besides.{has_mark}
+use Rattle.cold_maker.proofs.besides.besides_of.Goals as goal
+use Rattle.cold_maker.proofs.besides.besides_of.Goals.{then-has_mark+in_ok-push, else-has_mark}
 
 pub loop-id-preserved : goal.loop-id-preserved
 loop-id-preserved c =

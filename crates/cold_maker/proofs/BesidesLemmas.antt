@@ -28,7 +28,7 @@ use Rattle.profile_tree.specs.Known.{HasNames}
 use Rattle.profile_tree.specs.Said.{way_at, ways_said}
 use Rattle.profile_tree.specs.Steps.{name_at, named, steps_of, steps_of_given}
 use Rattle.profile_text.proofs.NumberLemmas.{all_weaker, item_there}
-use Rattle.cold_tree.specs.Besides.{first_ways, has_mark, standing_keys, stands}
+use Rattle.cold_maker.specs.Besides.{first_ways, has_mark, standing_keys, stands}
 
 -- ---- some item of a list passes a test
 

@@ -1,7 +1,7 @@
 // The functions that stand in a profile.
 ghost use Rattle.std.specs.Prelude.{◌≡◌, ◌<◌, All, IfOk, length, slice_set, true};
 ghost use Rattle.std.specs.List.{AllByRecursion};
-ghost use Rattle.cold_tree.specs.Besides.{stands};
+ghost use Rattle.cold_maker.specs.Besides.{stands};
 ghost use Rattle.profile_text.specs.Draft.{IsGivenItem};
 ghost use Rattle.profile_tree.specs.Items.{AreMarked};
 ghost use Rattle.profile_tree.specs.Known.{HasNames};

@@ -1,16 +1,16 @@
 use Rattle.std.proofs.Common.{◌∙◌, length, ap, subst, sym}
 use Rattle.std.specs.List.{filter_map}
 use Rattle.std.proofs.lemmas.Result.{IfOk-weaker}
-use Rattle.cold_tree.proofs.BesidesLemmas.{besides_given}
+use Rattle.cold_maker.proofs.BesidesLemmas.{besides_given}
 use Rattle.profile_text.proofs.NumberLemmas.{calls_given, calls_once, counts_given, counts_once, heads_given, heads_once}
-use Rattle.cold_tree.proofs.TreeLemmas.{tree_is}
-use Rattle.cold_tree.specs.Besides.{has_mark}
+use Rattle.cold_maker.proofs.TreeLemmas.{tree_is}
+use Rattle.cold_maker.specs.Besides.{has_mark}
 use Rattle.profile_text.specs.Numbers.{call_in, count_in, head_in}
 use Rattle.profile_laws.specs.Once.{StandOnce}
 use Rattle.profile_tree.specs.Known.{called_from}
 use Rattle.profile_tree.specs.declared.head.Head.{Head}
 use Rattle.profile_tree.specs.declared.key_count.KeyCount.{KeyCount}
-use Rattle.cold_tree.proofs.tree.tree_of.Goals as goal
+use Rattle.cold_maker.proofs.tree.tree_of.Goals as goal
 
 pub from_counts_with-requires-clause-counted : goal.from_counts_with-requires-clause-counted
 from_counts_with-requires-clause-counted c =

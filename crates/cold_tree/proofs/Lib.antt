@@ -1,2 +1,0 @@
-pub mod BesidesLemmas
-pub mod TreeLemmas

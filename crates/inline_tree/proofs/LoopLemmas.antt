@@ -1,5 +1,5 @@
 -- Entries one behind the other, and units.
-use Rattle.std.proofs.Common.{◌≡◌, ◌<◌, ◌≤◌, ◌+◌, ℕ, suc, List, [], ◌∷◌, length, take, drop, None, Some, Result, Ok, Err, refl, sym, ap, subst, ◌∙◌, add-one, drop-cons, get_or, ◌^◌, arith}
+use Rattle.std.proofs.Common.{◌≡◌, ◌<◌, ◌≤◌, ◌+◌, ℕ, suc, List, [], ◌∷◌, length, take, drop, None, Some, Result, Ok, Err, refl, sym, ap, subst, ◌∙◌, add-one, drop-cons, get_or, arith}
 use Rattle.std.specs.Prelude.{slice_get, sum_by}
 use Rattle.std.specs.List.{AllZip, flat_map}
 use Rattle.std.proofs.lemmas.List.{drop_all, length-take}
@@ -12,7 +12,7 @@ use Rattle.refusal.specs.Place.{JudgesUnlessNoMemory}
 use Rattle.unit_model.specs.Entries.{Entry}
 use Rattle.unit_model.specs.Units as unit_model
 use Rattle.chain_model.specs.declared.member.Member.{Member}
-use Rattle.tree_model.specs.Pieces.{InUnit, and_then}
+use Rattle.tree_model.specs.Pieces.{InUnit, and_then, max_pieces}
 use Rattle.entry_facts.specs.Meaning.{Extends}
 use Rattle.tree_model.specs.Members.{Told}
 use Rattle.member_lists.specs.Frames.{SoFar, all_members, nothing}
@@ -97,7 +97,7 @@ pub record UnitsSoFar (source : Source) (room : ℕ) (units : List unit_model.Un
   pub reached : next_units source 0 units nothing ≡ next_units source place (drop place units) now
   pub is : IsSoFar names now made
   pub few_names : length names + sum_by (λ unit. unit.count) (drop place units) ≤ room
-  pub few : made.pieces ≤ 2 ^ 26
+  pub few : made.pieces ≤ max_pieces
 
 drop-item : {X : Type 0} (xs : List X) (n : ℕ) (x : X) → n < length xs → x ≡ get_or xs n x → drop n xs ≡ x ∷ drop (n + 1) xs
 drop-item xs n x within is = rw add-one (drop-cons xs n x within ∙ ap (λ y. y ∷ drop (suc n) xs) (sym is))
@@ -121,7 +121,7 @@ UnitsSoFar-room source room units place names made unit so_far within is =
 
 pub UnitsSoFar-more : (source : Source) (room : ℕ) (units : List unit_model.Unit) (place : ℕ) (names more : List (List ℕ)) (made new : SoFar Member) (unit : unit_model.Unit)
     → UnitsSoFar source room units place names made → place < length units → unit ≡ get_or units place unit
-    → ((told : SoFar Told) → IsSoFar names told made → Advances more (Ok tt) new (next_unit source place unit told)) → Grows unit.count names more → new.pieces ≤ 2 ^ 26
+    → ((told : SoFar Told) → IsSoFar names told made → Advances more (Ok tt) new (next_unit source place unit told)) → Grows unit.count names more → new.pieces ≤ max_pieces
     → UnitsSoFar source room units (place + 1) more new
 UnitsSoFar-more source room units place names more made new unit so_far within is read grown few =
     let here = drop-item units place unit within is in

@@ -2,7 +2,7 @@
 ghost use Rattle.std.specs.Prelude.{◌≡◌, ◌+◌, ◌-◌, ◌<◌, ◌≤◌, ◌^◌, length, OnOk};
 ghost use Rattle.entry_model.specs.Order.{AreInOrder};
 ghost use Rattle.entry_facts.specs.Meaning.{Extends};
-ghost use Rattle.tree_model.specs.Pieces.{pieces as pieces_told};
+ghost use Rattle.tree_model.specs.Pieces.{max_pieces, pieces as pieces_told};
 ghost use Rattle.entry_facts.specs.Told.{GivesUnlessNoMemory, in_unit};
 ghost use Rattle.member_lists.specs.Frames.{SoFar as so_far_told, frame_above};
 ghost use Rattle.tree_model.specs.Members.{Told};
@@ -29,7 +29,7 @@ fn pieces_behind<'a>(
     entry: &Entry<'a, '_>,
     before: &SoFar,
 ) -> Result<Vec<(u64, u64)>, Stop>
-    requires { before.now.pieces ≤ 2 ^ 26 }
+    requires { before.now.pieces ≤ max_pieces }
     ensures { GivesUnlessNoMemory (λ pieces. pieces.items) result
         (pieces_told source.now.elf.now (in_unit of.now) before.now.pieces entry.now) }
 {
@@ -46,13 +46,13 @@ fn next_function<'a>(
 ) -> Result<(), Stop>
     requires order { AreInOrder 0 (2 ^ 64) source.now.units.now.entries }
     requires room { length all.old.names < 2 ^ 32 - 1 }
-    requires few { all.old.members.pieces ≤ 2 ^ 26 }
+    requires few { all.old.members.pieces ≤ max_pieces }
     requires known { Knows (source_of source.now) all.old.names all.old.origins }
     ensures read { (told : so_far_told Told) → IsSoFar all.old.names told all.old.members
         → Advances all.new.names result all.new.members
         (next_function_told (source_of source.now) (in_unit of.now) entry.now told) }
     ensures names { Extends all.old.names all.new.names }
-    ensures few { OnOk result (all.new.members.pieces ≤ 2 ^ 26) }
+    ensures few { OnOk result (all.new.members.pieces ≤ max_pieces) }
     ensures known { OnOk result (Knows (source_of source.now) all.new.names all.new.origins) }
 {
     let pieces = pieces_behind(alloc, source, of, entry, &all.members)?;
@@ -91,14 +91,14 @@ fn next_call<'a>(
 ) -> Result<(), Stop>
     requires order { AreInOrder 0 (2 ^ 64) source.now.units.now.entries }
     requires room { length all.old.names < 2 ^ 32 - 1 }
-    requires few { all.old.members.pieces ≤ 2 ^ 26 }
+    requires few { all.old.members.pieces ≤ max_pieces }
     requires known { Knows (source_of source.now) all.old.names all.old.origins }
     ensures read { (told : so_far_told Told) → IsSoFar all.old.names told all.old.members
         → Advances all.new.names result all.new.members
         (next_call_told (source_of source.now) (in_unit of.now) entry.now
         (frame_above entry.now.depth told.frames) told) }
     ensures names { Extends all.old.names all.new.names }
-    ensures few { OnOk result (all.new.members.pieces ≤ 2 ^ 26) }
+    ensures few { OnOk result (all.new.members.pieces ≤ max_pieces) }
     ensures known { OnOk result (Knows (source_of source.now) all.new.names all.new.origins) }
 {
     let above = all.members.frame_above(entry.depth);
@@ -130,13 +130,13 @@ pub(crate) fn next_entry<'a>(
 ) -> Result<(), Stop>
     requires order { AreInOrder 0 (2 ^ 64) source.now.units.now.entries }
     requires room { length all.old.names < 2 ^ 32 - 1 }
-    requires few { all.old.members.pieces ≤ 2 ^ 26 }
+    requires few { all.old.members.pieces ≤ max_pieces }
     requires known { Knows (source_of source.now) all.old.names all.old.origins }
     ensures read { (told : so_far_told Told) → IsSoFar all.old.names told all.old.members
         → Advances all.new.names result all.new.members
         (next_entry_told (source_of source.now) (in_unit of.now) entry.now told) }
     ensures names { Extends all.old.names all.new.names }
-    ensures few { OnOk result (all.new.members.pieces ≤ 2 ^ 26) }
+    ensures few { OnOk result (all.new.members.pieces ≤ max_pieces) }
     ensures known { OnOk result (Knows (source_of source.now) all.new.names all.new.origins) }
 {
     if entry.tag == DW_TAG_SUBPROGRAM {

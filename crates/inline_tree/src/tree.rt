@@ -6,6 +6,7 @@ ghost use Rattle.entry_model.specs.Order.{AreInOrder};
 ghost use Rattle.entry_facts.specs.Told.{in_unit};
 ghost use Rattle.member_lists.specs.Frames.{SoFar as so_far_told};
 ghost use Rattle.tree_model.specs.Members.{Told};
+ghost use Rattle.tree_model.specs.Pieces.{max_pieces};
 ghost use Rattle.tree_model.specs.Tree.{entries_of_unit, members as members_told};
 ghost use Rattle.member_lists.specs.Collecting.{next_entries as next_entries_told, next_unit as next_unit_told};
 ghost use Rattle.inline_tree.specs.Told.{Advances, Grows, IsMadeOf, IsSoFar, Knows, source_of};
@@ -41,14 +42,14 @@ fn next_entries<'a>(
 ) -> Result<(), Stop>
     requires order { AreInOrder 0 (2 ^ 64) source.now.units.now.entries }
     requires room { length all.old.names + unit.now.count < 2 ^ 32 - 1 }
-    requires few { all.old.members.pieces ≤ 2 ^ 26 }
+    requires few { all.old.members.pieces ≤ max_pieces }
     requires known { Knows (source_of source.now) all.old.names all.old.origins }
     ensures read { (told : so_far_told Told) → IsSoFar all.old.names told all.old.members
         → Advances all.new.names result all.new.members
         (next_entries_told (source_of source.now) (in_unit of.now)
         (entries_of_unit source.now.units.now.entries unit.now) told) }
     ensures names { Grows unit.now.count all.old.names all.new.names }
-    ensures few { OnOk result (all.new.members.pieces ≤ 2 ^ 26) }
+    ensures few { OnOk result (all.new.members.pieces ≤ max_pieces) }
     ensures known { OnOk result (Knows (source_of source.now) all.new.names all.new.origins) }
 {
     for entry in source.units.entries_of(unit) {
@@ -68,13 +69,13 @@ fn next_unit<'a>(
 ) -> Result<(), Stop>
     requires order { AreInOrder 0 (2 ^ 64) source.now.units.now.entries }
     requires room { length all.old.names + unit.now.count < 2 ^ 32 - 1 }
-    requires few { all.old.members.pieces ≤ 2 ^ 26 }
+    requires few { all.old.members.pieces ≤ max_pieces }
     requires known { Knows (source_of source.now) all.old.names all.old.origins }
     ensures read { (told : so_far_told Told) → IsSoFar all.old.names told all.old.members
         → Advances all.new.names result all.new.members
         (next_unit_told (source_of source.now) number unit.now told) }
     ensures names { Grows unit.now.count all.old.names all.new.names }
-    ensures few { OnOk result (all.new.members.pieces ≤ 2 ^ 26) }
+    ensures few { OnOk result (all.new.members.pieces ≤ max_pieces) }
     ensures known { OnOk result (Knows (source_of source.now) all.new.names all.new.origins) }
 {
     let base = base_address(source.units, number, &source.parts.texts)?;

@@ -1,5 +1,6 @@
-use Rattle.std.proofs.Common.{◌≤◌, ◌^◌}
+use Rattle.std.proofs.Common.{◌≤◌}
 use Rattle.entry_facts.specs.Told.{in_unit}
+use Rattle.tree_model.specs.Pieces.{max_pieces}
 use Rattle.tree_model.specs.Tree.{entries_of_unit}
 use Rattle.inline_tree.specs.Told.{Knows, source_of}
 use Rattle.inline_tree.proofs.LoopLemmas.{EntriesSoFar, GrowsSoFar}
@@ -10,6 +11,6 @@ invariant-loop-entry l = record {
   read : EntriesSoFar (source_of l.source) (in_unit l.of) (entries_of_unit l.source.units.now.entries l.unit) l.fn.all.names l.fn.all.members
       l.entry-iterator l.all.names l.all.members;
   grown : GrowsSoFar l.unit.count l.fn.all.names l.entry-iterator l.all.names;
-  few : l.all.members.pieces ≤ 2 ^ 26;
+  few : l.all.members.pieces ≤ max_pieces;
   known : Knows (source_of l.source) l.all.names l.all.origins;
 }

@@ -1,5 +1,6 @@
 -- Numbers within so many bits.
 use Rattle.std.proofs.Common.{◌≡◌, ℕ, ◌^◌, ◌<◌, ◌≤◌, Bool, true, false, nat_eq, List, length, take, drop, Option, Some, None, Ok, Err, refl, arith, inl, inr, ◌∙◌}
+use Rattle.std.specs.Prelude.{nat_lt, if◌then◌else◌}
 use Rattle.std.specs.Result.{result_ok}
 use Rattle.std.proofs.lemmas.Bool.{lt-ltb, le-ltb, cases_lt}
 use Rattle.std.specs.List.{starts_with}
@@ -10,13 +11,14 @@ use Rattle.text_scan.specs.declared.read.NumberFault.{NumberFault}
 use Rattle.text_scan.specs.declared.read.NumberFault.TheVariants.{NumberTooLarge}
 use Rattle.block_model.specs.Line.{◌>>=◌, within_bits, behind}
 
-pub ok_within : (o : Option ℕ) → result_ok (within 64 o) ≡ o >>= within_bits 64
-ok_within None = refl
-ok_within (Some n) =
-    elim (cases_lt n (2 ^ 64)) [
-      | inl fits ↦ rw (lt-ltb n (2 ^ 64) fits)
-      | inr large ↦ rw (le-ltb n (2 ^ 64) large)
-    ]
+-- a choice under `result_ok`
+pub chosen : {A : Type 0} (b : Bool) (x : A) (fault : NumberFault) → result_ok (if b then Ok x else Err fault) ≡ (if b then Some x else None)
+chosen true x fault = refl
+chosen false x fault = refl
+
+pub ok_within : (bits : ℕ) (o : Option ℕ) → result_ok (within bits o) ≡ o >>= within_bits bits
+ok_within bits None = refl
+ok_within bits (Some n) = chosen (nat_lt n (2 ^ bits)) n NumberTooLarge
 
 -- numbers of fewer bits
 pub fits_fewer : (o : Option ℕ) (n : ℕ) → Ok n ≡ within 64 o → n < 2 ^ 44 → Some n ≡ o >>= within_bits 44

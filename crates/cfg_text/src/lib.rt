@@ -12,4 +12,5 @@ mod text;
 
 pub use block_model::{Block, Bound, Edge, Weight};
 pub use fun::Fun;
+pub use said::{count_of, place_of};
 pub use text::read;

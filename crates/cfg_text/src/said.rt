@@ -88,7 +88,7 @@ fn block_line(mut fields: Fields<'_>) -> Option<Said<'_>>
     let number = fields.next()?;
     let lo = fields.next()?;
     let hi = fields.next()?;
-    let number = place(number)?;
+    let number = place_of(number)?;
     let lo = address(lo)?;
     let hi = address(hi)?;
     let (exit, bound) = exit_and_bound(fields)?;
@@ -108,8 +108,8 @@ fn edge_line(mut fields: Fields<'_>) -> Option<Said<'_>>
 {
     let from = fields.next()?;
     let to = fields.next()?;
-    let from = place(from)?;
-    let to = place(to)?;
+    let from = place_of(from)?;
+    let to = place_of(to)?;
     let bound = bound(false, fields)?;
     Some(Said::Edge(from, to, bound))
 }
@@ -212,7 +212,7 @@ fn at_most(upper: u64) -> Bound
 fn count_behind(front: &[u8], word: &[u8]) -> Option<u64>
     ensures { result ≡ model.bounded_by front.now word.now }
 {
-    count(behind(front, word)?)
+    count_of(behind(front, word)?)
 }
 
 /// What stands behind a front, if that is how the word begins.
@@ -225,8 +225,8 @@ fn behind<'a>(front: &[u8], word: &'a [u8]) -> Option<&'a [u8]>
     }
 }
 
-/// A bound on a count: decimal, below 2^44.
-fn count(digits: &[u8]) -> Option<u64>
+/// A bound on a count, or a weight: decimal, below 2^44.
+pub fn count_of(digits: &[u8]) -> Option<u64>
     ensures { result ≡ model.count_of digits.now }
 {
     match decimal(digits) {
@@ -236,8 +236,8 @@ fn count(digits: &[u8]) -> Option<u64>
     }
 }
 
-/// The number of a block.
-fn place(field: &[u8]) -> Option<u64>
+/// The number of a block, or a count: decimal, of 64 bits.
+pub fn place_of(field: &[u8]) -> Option<u64>
     ensures { result ≡ model.place_of field.now }
 {
     decimal(field).ok()

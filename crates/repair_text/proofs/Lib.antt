@@ -1,4 +1,3 @@
 pub mod LoopLemmas
 pub mod ReadingLemmas
-pub mod SaidLemmas
 pub mod UnknownLemmas

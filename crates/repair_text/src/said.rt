@@ -2,15 +2,11 @@
 ghost use Rattle.std.specs.Prelude.{◌≡◌, codes, None, Some, MatchOption, if◌then◌else◌};
 ghost use Rattle.std.specs.Option.{option_map};
 ghost use Rattle.std.specs.Str.{bytes_eq};
-ghost use Rattle.block_model.specs.Line.{count_of, place_of};
 ghost use Rattle.repair_model.specs.Line as model;
 ghost use Rattle.repair_text.specs.Said.{meaning_of};
 
-use cfg_text::Weight;
-use text_scan::{Fields, decimal, signed, wide};
-
-/// A weight is below this.
-const WEIGHT_LIMIT: u64 = 1 << 44;
+use cfg_text::{Weight, count_of, place_of};
+use text_scan::{Fields, signed, wide};
 
 /// What a line says.
 #[derive(Clone, Copy, Debug)]
@@ -111,7 +107,7 @@ fn block_line(mut fields: Fields<'_>) -> Option<Said<'_>>
     ensures { option_map meaning_of result ≡ model.block_line_of fields.entry }
 {
     let number = fields.next()?;
-    let number = count(number)?;
+    let number = place_of(number)?;
     let known = behind(b"weight", &mut fields)?;
     let known = weight(known)?;
     weighed_block(number, known, fields)
@@ -144,7 +140,7 @@ fn counted_block<'a>(
     ensures { option_map meaning_of result
         ≡ model.counted_of number weight field.now fields.entry }
 {
-    let count = count(field)?;
+    let count = place_of(field)?;
     let enter = behind(b"in", &mut fields)?;
     let leave = behind(b"out", &mut fields)?;
     let enter = price(enter)?;
@@ -182,8 +178,8 @@ fn edge_line(mut fields: Fields<'_>) -> Option<Said<'_>>
 {
     let from = fields.next()?;
     let to = fields.next()?;
-    let from = count(from)?;
-    let to = count(to)?;
+    let from = place_of(from)?;
+    let to = place_of(to)?;
     joined_edge(from, to, fields)
 }
 
@@ -217,7 +213,7 @@ fn taken_edge<'a>(
     ensures { option_map meaning_of result
         ≡ model.taken_of from to weight field.now fields.entry }
 {
-    let count = count(field)?;
+    let count = place_of(field)?;
     if fields.next().is_some() {
         return None;
     }
@@ -259,26 +255,8 @@ fn weight(field: &[u8]) -> Option<Weight>
     if field == b"?".as_slice() {
         Some(Weight::Unknown)
     } else {
-        Some(Weight::Known(known(field)?))
+        Some(Weight::Known(count_of(field)?))
     }
-}
-
-/// A weight that is known: decimal, below 2^44.
-fn known(field: &[u8]) -> Option<u64>
-    ensures { result ≡ count_of field.now }
-{
-    match decimal(field) {
-        Ok(weight) if weight < WEIGHT_LIMIT => Some(weight),
-        Ok(_) => None,
-        Err(_) => None,
-    }
-}
-
-/// The number of a block, or a count: decimal, of 64 bits.
-fn count(field: &[u8]) -> Option<u64>
-    ensures { result ≡ place_of field.now }
-{
-    decimal(field).ok()
 }
 
 /// A price: of 64 bits with sign.
@@ -300,7 +278,7 @@ fn sum(field: &[u8]) -> Option<u128>
 fn bit(field: &[u8]) -> Option<bool>
     ensures { result ≡ model.bit_of field.now }
 {
-    bit_by_number(count(field)?)
+    bit_by_number(place_of(field)?)
 }
 
 /// What 0 and 1 stand for.

@@ -7,4 +7,4 @@ use Rattle.cfg_text.proofs.said.address.Goals as goal
 
 pub returns : goal.returns
 unfolding address_of
-returns c = c.ok.ensures.value ∙ ap result_ok c.prefixed.ensures ∙ ok_within (prefixed_of c.args.field.now)
+returns c = c.ok.ensures.value ∙ ap result_ok c.prefixed.ensures ∙ ok_within 64 (prefixed_of c.args.field.now)

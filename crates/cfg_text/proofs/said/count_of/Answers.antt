@@ -1,7 +1,7 @@
 use Rattle.text_model.specs.Numbers.{decimal_of}
 use Rattle.block_model.specs.Line.{count_of}
 use Rattle.cfg_text.proofs.SaidLemmas.{fits_fewer, passes_fewer, no_number}
-use Rattle.cfg_text.proofs.said.count.Goals as goal
+use Rattle.cfg_text.proofs.said.count_of.Goals as goal
 
 pub returns-in-Ok : goal.returns-in-Ok
 unfolding count_of

@@ -1,11 +1,13 @@
 -- The definitions on worked values.
-use Rattle.std.proofs.Common.{◌≡◌, ℕ, nat_lt, nat_eq, false, List, [], ◌∷◌, None, Some, refl}
+use Rattle.std.proofs.Common.{◌≡◌, ◌≤◌, ℕ, zero, suc, nat_lt, nat_eq, false, true, List, [], ◌∷◌, None, Some, refl, arith}
 use Rattle.std.specs.Prelude.{codes, map, if◌then◌else◌}
 use Rattle.std.specs.Fmt.{digits}
 use Rattle.std.specs.List.{range_with_len}
 use Rattle.text_model.specs.Numbers.{hex_text}
 use Rattle.block_model.specs.declared.parts.Block.{Block}
+use Rattle.block_model.specs.declared.parts.Weight.TheVariants.{Known}
 use Rattle.block_model.specs.Function.{Function, unbounded}
+use Rattle.flow_model.specs.Network.{Network, free_arc, network_of}
 use Rattle.profile_model.specs.Profile.{Profile, body_line, call_line, function_line, lines_of}
 use Rattle.profile_model.specs.Text.{profile_text, text_of_lines}
 use Rattle.profile_model.specs.Ways.{to_body, to_call, to_function}
@@ -13,10 +15,12 @@ use Rattle.report_model.specs.Report.{Sampled, report_text}
 use Rattle.binary_model.specs.Places.{Place, outside, no_line, at_way}
 use Rattle.repair_model.specs.Repair.{Repair, Solution, cut, flow}
 use Rattle.cold_model.specs.Cold.{lines_with}
+use Rattle.scaling_model.specs.Bound.{StartWithin, most_digits}
 use Rattle.output_model.specs.Cold.{cold_lines_among}
 use Rattle.output_model.specs.Lift.{held_by, lifted}
 use Rattle.output_model.specs.Program.{Program, way_at}
 use Rattle.output_model.specs.Sampled.{classes_of, hits_of, profile_among}
+use Rattle.output_model.specs.Scaled.{AreAugmentations}
 use Rattle.output_model.specs.Summary.{costs_in, cuts_in, summary_text, totals_in}
 
 -- a function `f` from 16 up to 32, entered at 16, with a call of `g` from 20 up to 24, whose code was copied three times
@@ -104,3 +108,35 @@ cold = refl
 not_of_the_program : text_of_lines (cold_lines_among (range_with_len 0 48) program (record { counts = []; calls = []; heads = (codes "h", 1) ∷ [] })) ≡ codes "h:0:1\n"
 unfolding lines_with text_of_lines digits program f_place
 not_of_the_program = refl
+
+-- ---- the bound on augmentations
+
+-- a function of one block, which is its exit, was sampled 5 times and ran at least so often
+abbrev single : ℕ → Network
+single least =
+    network_of (record { lo = 1; hi = 2; exit = true; bound = record { lower = least; upper = None } } ∷ []) [] (Known 5 ∷ []) []
+
+-- 5 has three binary digits
+three_digits : StartWithin 3 (single 0)
+three_digits zero d within = omega arith
+three_digits (suc zero) d within = omega arith
+three_digits (suc (suc zero)) d within = omega arith
+three_digits (suc (suc (suc k))) d within = absurd (omega (arith, within))
+
+-- four phases of 32 * 2 augmentations, and no more
+at_most_256 : (count : ℕ) → AreAugmentations (single 0) count → count ≤ 256
+at_most_256 count are = let most = are.few 3 three_digits in omega (arith, most)
+
+-- none where a count to start from has 37 digits, and some may be where it has 36
+none_from_so_many : (count : ℕ) → AreAugmentations (single 68719476736) count → count ≡ 0
+none_from_so_many count are =
+    are.none (λ small. let start = small 1 (free_arc 0 1 0) (omega arith) in omega (arith, start))
+
+within_36_digits : StartWithin most_digits (single 68719476735)
+within_36_digits zero d within = omega arith
+within_36_digits (suc zero) d within = omega arith
+within_36_digits (suc (suc zero)) d within = omega arith
+within_36_digits (suc (suc (suc k))) d within = absurd (omega (arith, within))
+
+some_from_one_less : AreAugmentations (single 68719476735) 64
+some_from_one_less = record { few = λ digits small. omega arith; none = λ large. absurd (large within_36_digits) }

@@ -34,12 +34,18 @@ lines_that_never_ran :
 unfolding lines_with text_of_lines digits
 lines_that_never_ran = refl
 
--- A function that was entered has its lines, and one that has only a target.
+-- A function that was entered has its lines, and one that has only a count or only a target.
 only_a_head :
     text_of_lines (cold_lines_of keys (record { counts = []; calls = []; heads = (codes "g", 3) ∷ [] }))
     ≡ codes "g:0:3\n 1: 0\n"
 unfolding lines_with text_of_lines digits
 only_a_head = refl
+
+only_a_count :
+    text_of_lines (cold_lines_of keys (record { counts = (in_f (to_body 9 0 ∷ []), 1) ∷ []; calls = []; heads = [] }))
+    ≡ codes "f:1:0\n 0: 0\n 3: 0\n 5: 0\n 9: 1\n 2.1: g:0\n  1: 0\n  4: 0\n 7: h:0\n  0: 0\n"
+unfolding lines_with text_of_lines digits
+only_a_count = refl
 
 only_a_target :
     text_of_lines (cold_lines_of keys (record {

@@ -7,7 +7,7 @@ use crate::sections::Sections;
 use crate::tables::read_tables;
 use chain_model::Member;
 use context_map::{Asked, Functions, Map, make_asked};
-use dwarf_info::read_units;
+use dwarf_info::{Units, read_units};
 use inline_tree::Source;
 use key_types::{Keys, Names};
 use load_model::LoadSegment;
@@ -47,6 +47,14 @@ pub struct Placed<'a> {
     pub map: Map,
 }
 
+/// How many units were read, and how many passed over; the units are given back.
+fn counts(units: Units<'_>) -> (usize, usize)
+    ensures read { result.0 ≡ length units.entry.units }
+    ensures passed { result.1 ≡ length units.entry.skipped }
+{
+    (units.units().len(), units.skipped().len())
+}
+
 /// Judges a binary as a whole, and keeps what tells the places of its addresses. With `base` the
 /// discriminators in keys are bases. The size is the caller's to judge: at most 2^30 bytes.
 ///
@@ -70,7 +78,9 @@ pub fn read(alloc: Global, file: &[u8], base: bool) -> Result<Binary<'_>, Stop>
         parts: &sections.ranges,
     };
     let loads = elf.loads(alloc)?;
-    let tree = inline_tree::make(alloc, &source)?;
+    let gathered = inline_tree::gather(alloc, &source)?;
+    let (read, passed) = counts(units);
+    let tree = gathered.into_tree(alloc)?;
     let functions = Functions::make(alloc, &tree.members)?;
     Ok(Binary {
         names: tree.names,
@@ -79,8 +89,8 @@ pub fn read(alloc: Global, file: &[u8], base: bool) -> Result<Binary<'_>, Stop>
         functions,
         base,
         loads,
-        read: units.units().len(),
-        passed: units.skipped().len(),
+        read,
+        passed,
     })
 }
 

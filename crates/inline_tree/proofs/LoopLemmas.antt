@@ -168,6 +168,14 @@ UnitsSoFar-end source room units place names made all same so_far past is =
       subst (λ l. AreTold names (all_members so_far.now) l) (sym is) (all_members-told names so_far.now.functions made.functions so_far.is.functions_are),
     )
 
+-- What is made is so by equal names and members.
+pub made-same : (names same : List (List ℕ)) (told : Result (List Told) Place) (all one : List Member) → same ≡ names → one ≡ all → IsMadeOf names told all → IsMadeOf same told one
+made-same names same told all one names_are members_are made =
+    subst (λ ns. IsMadeOf ns told one) (sym names_are) (subst (λ ms. IsMadeOf names told ms) (sym members_are) made)
+
+pub names-few : (names same : List (List ℕ)) (most : ℕ) → same ≡ names → length names ≤ most → length same ≤ most
+names-few names same most names_are few = omega (arith, few, ap (λ (ns : List (List ℕ)). length ns) names_are)
+
 pub UnitsSoFar-stop : (source : Source) (room : ℕ) (units : List unit_model.Unit) (place : ℕ) (names more : List (List ℕ)) (made new : SoFar Member) (unit : unit_model.Unit) (why : Stop) {T : Type 0} (P : T → Type 0) (r : Result T Stop)
     → units ≡ source.info.units.units → UnitsSoFar source room units place names made → place < length units → unit ≡ get_or units place unit
     → ((told : SoFar Told) → IsSoFar names told made → Advances more (Err why) new (next_unit source place unit told)) → IsErrAnd r (λ s. s ≡ why)

@@ -4,7 +4,7 @@ ghost use Rattle.std.specs.Result.{result_err};
 ghost use Rattle.refusal.specs.Place.{JudgesUnlessNoMemory};
 ghost use Rattle.entry_model.specs.Order.{AreInOrder};
 ghost use Rattle.entry_facts.specs.Told.{in_unit};
-ghost use Rattle.member_lists.specs.Frames.{SoFar as so_far_told};
+ghost use Rattle.member_lists.specs.Frames.{SoFar as so_far_told, all_members};
 ghost use Rattle.tree_model.specs.Members.{Told};
 ghost use Rattle.tree_model.specs.Pieces.{max_pieces};
 ghost use Rattle.tree_model.specs.Tree.{entries_of_unit, members as members_told};
@@ -18,7 +18,8 @@ use chain_model::Member;
 use dwarf_info::Unit;
 use entry_facts::{InUnit, base_address, bases_of};
 use key_types::Names;
-use refusal::Stop;
+use member_lists::SoFar;
+use refusal::{NoMemory, Stop};
 use std::alloc::Global;
 
 /// The functions of a file with the calls inlined into them.
@@ -30,6 +31,32 @@ pub struct InlineTree<'a> {
     /// pre-order. Only those with pieces are members, and of calls only those that stand below
     /// members of their function alone.
     pub members: Vec<Member>,
+}
+
+/// The same, as they are collected. They borrow nothing of the units, which can be given back
+/// before all members are put into one list.
+#[derive(Drop)]
+pub struct Gathered<'a> {
+    /// The names of functions and inlined calls, lent from the file.
+    pub names: Names<'a>,
+    /// The functions, each with the calls inlined into it.
+    pub members: SoFar,
+}
+
+impl<'a> Gathered<'a> {
+    ghost use Rattle.std.specs.Prelude.{◌≡◌, IfOk};
+    ghost use Rattle.member_lists.specs.Frames.{all_members};
+
+    /// The members in one list.
+    pub fn into_tree(self, alloc: Global) -> Result<InlineTree<'a>, NoMemory>
+        ensures names { IfOk result (λ tree. tree.names ≡ self.entry.names) }
+        ensures members { IfOk result
+            (λ tree. tree.members.items ≡ all_members self.entry.members) }
+    {
+        let Gathered { names, members } = self;
+        let members = members.into_members(alloc)?;
+        Ok(InlineTree { names, members })
+    }
 }
 
 /// Reads the entries of a unit.
@@ -89,8 +116,8 @@ fn next_unit<'a>(
     next_entries(alloc, source, &of, unit, all)
 }
 
-/// The functions of a file with the calls inlined into them, and their names: at most one for each
-/// entry.
+/// The functions of a file with the calls inlined into them, as they are collected, and their
+/// names: at most one for each entry.
 ///
 /// # Errors
 /// The first bad place, unit by unit: that of the root's base address; then of each function and
@@ -98,10 +125,10 @@ fn next_unit<'a>(
 /// and where it has pieces those of `entry_facts`. `NoMemory` where memory is refused.
 ///
 /// Source: DWARF 5, sections 2.17, 3.3.1 and 3.3.8.
-pub fn make<'a>(alloc: Global, source: &Source<'a, '_>) -> Result<InlineTree<'a>, Stop>
+pub fn gather<'a>(alloc: Global, source: &Source<'a, '_>) -> Result<Gathered<'a>, Stop>
     ensures judged { let told = members_told (source_of source.now) in
         JudgesUnlessNoMemory (result_err told) result
-        (λ made. IsMadeOf made.names told made.members.items) }
+        (λ made. IsMadeOf made.names told (all_members made.members)) }
     ensures few_names { IfOk result
         (λ made. length made.names ≤ length source.now.units.now.entries) }
 {
@@ -111,6 +138,22 @@ pub fn make<'a>(alloc: Global, source: &Source<'a, '_>) -> Result<InlineTree<'a>
         next_unit(alloc, source, number as u32, unit, &mut all)?;
     }
     let Collected { names, members, .. } = all;
-    let members = members.into_members(alloc)?;
-    Ok(InlineTree { names, members })
+    Ok(Gathered { names, members })
+}
+
+/// The functions of a file with the calls inlined into them, and their names: at most one for each
+/// entry.
+///
+/// # Errors
+/// Those of `gather`.
+pub fn make<'a>(alloc: Global, source: &Source<'a, '_>) -> Result<InlineTree<'a>, Stop>
+    ensures judged { let told = members_told (source_of source.now) in
+        JudgesUnlessNoMemory (result_err told) result
+        (λ made. IsMadeOf made.names told made.members.items) }
+    ensures few_names { IfOk result
+        (λ made. length made.names ≤ length source.now.units.now.entries) }
+{
+    let gathered = gather(alloc, source)?;
+    let tree = gathered.into_tree(alloc)?;
+    Ok(tree)
 }

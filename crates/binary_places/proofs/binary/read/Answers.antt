@@ -3,6 +3,7 @@ use Rattle.std.specs.Result.{result_err}
 use Rattle.elf_model.specs.Segments.{code_loads}
 use Rattle.placed_view.specs.Reader.{refused_at}
 use Rattle.context_map.specs.Asked.{AreFunctions}
+use Rattle.inline_tree.proofs.LoopLemmas.{made-same}
 use Rattle.binary_places.proofs.Items.{in_headers, in_members, in_rows, in_sections, in_units}
 use Rattle.binary_places.proofs.ReadLemmas.{found_same, lacks, made_told, members_same, refuses, rows_same, source_same, stops_with, tables_same, told_same, units_same}
 use Rattle.binary_places.proofs.binary.read.Goals as goal
@@ -38,18 +39,21 @@ returns-in_err-tables c =
     (sym (ap result_err (rows_same _ _ same c.in_ok-sections.sections sections.1 c.in_ok-units.units units.1)) ∙ is))
     c.in_err-tables.ensures c.from_residual-in_err-tables.ensures.1
 
-pub returns-in_err-tree : goal.returns-in_err-tree
-returns-in_err-tree c =
+pub returns-in_err-gathered : goal.returns-in_err-gathered
+returns-in_err-gathered c =
     let same = c.in_ok-elf.ensures.1 in
     let sections = c.in_ok-sections.ensures in
     let units = c.in_ok-units.ensures in
     let source = source_same _ _ same c.in_ok-sections.sections sections.1 c.in_ok-units.units units.1 _ c.info_start.ensures in
-    stops_with _ _ _ _ _ c.from_residual-in_err-tree.result
+    stops_with _ _ _ _ _ c.from_residual-in_err-gathered.result
     (λ place is. in_members c.args.file.now c.requires c.in_ok-elf.ensures.0 (sym (found_same _ _ same) ∙ sections.0)
     (sym (ap refused_at (units_same _ _ same c.in_ok-sections.sections sections.1)) ∙ units.0)
     (sym (ap result_err (rows_same _ _ same c.in_ok-sections.sections sections.1 c.in_ok-units.units units.1)) ∙ c.in_ok-tables.ensures.0)
     ∙ sym (ap result_err (members_same _ _ same _ source)) ∙ is)
-    c.in_err-tree.ensures.judged c.from_residual-in_err-tree.ensures.1
+    c.in_err-gathered.ensures.judged c.from_residual-in_err-gathered.ensures.1
+
+pub returns-in_err-tree : goal.returns-in_err-tree
+returns-in_err-tree c = lacks _ _ c.from_residual-in_err-tree.result c.from_residual-in_err-tree.ensures.1
 
 pub returns-in_err-functions : goal.returns-in_err-functions
 returns-in_err-functions c = lacks _ _ c.from_residual-in_err-functions.result c.from_residual-in_err-functions.ensures.1
@@ -64,15 +68,15 @@ returns c =
     let good = in_members c.args.file.now c.requires c.in_ok-elf.ensures.0 (sym (found_same _ _ same) ∙ sections.0)
     (sym (ap refused_at (units_same _ _ same c.in_ok-sections.sections sections.1)) ∙ units.0)
     (sym (ap result_err (rows_same _ _ same c.in_ok-sections.sections sections.1 c.in_ok-units.units units.1)) ∙ c.in_ok-tables.ensures.0)
-    ∙ sym (ap result_err (members_same _ _ same _ source)) ∙ c.in_ok-tree.ensures.judged.0 in (
+    ∙ sym (ap result_err (members_same _ _ same _ source)) ∙ c.in_ok-gathered.ensures.judged.0 in (
       good,
       record {
-        told = made_told _ _ same _ _ _ source c.in_ok-tree.ensures.judged.1;
+        told = made_told _ _ same _ _ _ source (made-same _ _ _ _ _ c.in_ok-tree.ensures.names c.in_ok-tree.ensures.members c.in_ok-gathered.ensures.judged.1);
         tables_are = tables_same _ _ same c.in_ok-sections.sections sections.1 c.in_ok-units.units units.1 _ c.in_ok-tables.ensures.1;
         functions = subst (λ ms. AreFunctions ms c.in_ok-functions.functions) c.deref.ensures.value c.in_ok-functions.ensures;
         base_is = refl;
         loads_are = c.in_ok-loads.ensures ∙ ap code_loads same;
-        read_are = ap length (c.units-2.ensures.units ∙ ap (λ u. u.units) told);
-        passed_are = ap length (c.skipped.ensures ∙ ap (λ u. u.skipped) told);
+        read_are = c.counts-read.ensures.read ∙ ap length (ap (λ u. u.units) told);
+        passed_are = c.counts-read.ensures.passed ∙ ap length (ap (λ u. u.skipped) told);
       },
     )

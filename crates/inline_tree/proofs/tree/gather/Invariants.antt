@@ -1,7 +1,7 @@
 use Rattle.std.specs.Prelude.{sum_by}
 use Rattle.inline_tree.specs.Told.{Knows, source_of}
 use Rattle.inline_tree.proofs.LoopLemmas.{UnitsSoFar}
-use Rattle.inline_tree.proofs.tree.make.Given as goal
+use Rattle.inline_tree.proofs.tree.gather.Given as goal
 
 abbrev pub invariant-loop-number : goal.invariant-loop-number
 invariant-loop-number l =

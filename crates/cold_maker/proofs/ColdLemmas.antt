@@ -6,7 +6,7 @@ use Rattle.std.specs.Option.{option_map}
 use Rattle.address_spans.proofs.SpanLemmas.{held, missed-behind, reach}
 use Rattle.address_spans.specs.Spans.{AreBetween}
 use Rattle.binary_model.specs.Addresses.{function_of_address}
-use Rattle.binary_model.specs.Places.{Place, at_way, nameless, no_line, outside, place_of_address}
+use Rattle.binary_model.specs.Places.{place_of_address}
 use Rattle.binary_places.specs.Binary.{IsPlaced}
 use Rattle.binary_places.specs.declared.binary.Placed.{Placed}
 use Rattle.context_map.specs.Maps.{place_told}
@@ -16,9 +16,8 @@ use Rattle.key_types.specs.Numbers.{IsNumbered}
 use Rattle.key_types.specs.Segments.{HasSegment, segment_at, span_of}
 use Rattle.key_types.specs.declared.key.Key.{Key}
 use Rattle.key_types.specs.declared.places.Seg.{Seg}
-use Rattle.key_types.specs.declared.places.Where.{Where}
 use Rattle.output_model.specs.Cold.{cold_lines, cold_output}
-use Rattle.output_model.specs.Program.{program_of, way_of_place}
+use Rattle.output_model.specs.Program.{program_of}
 use Rattle.output_model.specs.Program as program_told
 use Rattle.output_model.specs.Sampled.{all_addresses}
 use Rattle.profile_lists.specs.Laws.{place_by}
@@ -38,10 +37,10 @@ use Rattle.profile_text.specs.Draft.{Kept}
 use Rattle.profile_text.specs.Text.{TellText}
 use Rattle.profile_text.specs.declared.item.Item.{Item}
 use Rattle.profile_text.specs.declared.item.What.TheVariants.{Count}
-use Rattle.profile_tree.proofs.ListLemmas.{Among, among_filter, among_filter_back, among_has, among_map, among_map_back, among_range, bool_same, has_among, range_among}
+use Rattle.profile_tree.proofs.ListLemmas.{Among, among_filter, among_filter_back, among_has, among_map, among_map_back, among_range, bool_same, has_among, kept_among, kept_from, range_among}
 use Rattle.profile_tree.specs.Said.{way_at}
-use Rattle.profile_writer.proofs.SumLemmas.{kept_among, kept_from}
-use Rattle.profile_writer.specs.Told.{TellsPlace, key_of}
+use Rattle.profile_writer.proofs.CountLemmas.{key_of_way, way_of_key}
+use Rattle.profile_writer.specs.Told.{TellsPlace}
 use Rattle.cold_maker.specs.Besides.{counted, first_ways}
 use Rattle.span_cover.specs.Asked.{asks}
 
@@ -69,43 +68,6 @@ address_of_key n from to (s ∷ segments) ascend (suc i, within, is) =
     let r = address_of_key n s.hi to segments ascend.2 (i, omega (arith, within), is) in
     record { at = r.at; low = omega (arith, r.low, ascend.0, ascend.1); high = r.high; is = ap (option_map (λ (x : Seg). x.key.0)) (later s segments r.at r.low) ∙ r.is }
 
--- ---- places and keys
-
-way_there : (way w : Way) → Some w ≡ Some way → w ≡ way
-way_there way w e = cc
-
-no_way : (way : Way) → None ≡ Some way → ⊥
-no_way way e = cc
-
-no_number : (n : ℕ) → None ≡ Some n → ⊥
-no_number n e = cc
-
-number_there : (m n : ℕ) → Some m ≡ Some n → m ≡ n
-number_there m n e = cc
-
--- a key that has a way
-pub record IsKeyOf (names : List (List ℕ)) (keys : List Key) (way : Way) : Type 0 where
-  pub number : ℕ
-  pub given : number < length keys
-  pub is : way_at names keys number ≡ way
-
--- a place with a way has a key of that way
-key_of_way : (names : List (List ℕ)) (keys : List Key) (place : Place) (answer : Where) → TellsPlace names keys place answer → (way : Way) → way_of_place place ≡ Some way → IsKeyOf names keys way
-key_of_way names keys outside answer shown way e = absurd (no_way way e)
-key_of_way names keys nameless answer shown way e = absurd (no_way way e)
-key_of_way names keys no_line answer shown way e = absurd (no_way way e)
-key_of_way names keys (at_way w) answer shown way e = record { number = shown.0.0; given = shown.2.inside; is = shown.2.way_is ∙ way_there way w e }
-
--- a place with the number of a key has the way of that key
-way_of_key : (names : List (List ℕ)) (keys : List Key) (place : Place) (answer : Where) → TellsPlace names keys place answer → (n : ℕ) → key_of answer ≡ Some n
-    → way_of_place place ≡ Some (way_at names keys n)
-way_of_key names keys outside answer shown n e = absurd (no_number n (sym (ap key_of shown) ∙ e))
-way_of_key names keys nameless answer shown n e = absurd (no_number n (sym (ap key_of shown) ∙ e))
-way_of_key names keys no_line answer shown n e = absurd (no_number n (sym (ap key_of shown) ∙ e))
-way_of_key names keys (at_way w) answer shown n e =
-    let same : shown.0.0 ≡ n = number_there shown.0.0 n (sym (ap key_of shown.1) ∙ e) in
-    ap (λ z. Some z) (sym shown.2.way_is ∙ ap (way_at names keys) same)
-
 inside : (address : ℕ) → address < 2 ^ 64 - 1 → Among address all_addresses
 unfolding all_addresses
 inside address near = range_among 0 (2 ^ 64) address (omega arith) (omega (arith, near))
@@ -124,9 +86,6 @@ module _ (bytes : List ℕ) (base : Bool) (placed : Placed) (is : IsPlaced bytes
 
   abbrev way_here : ℕ → Option Way
   way_here = program_told.way_at (program_of bytes base)
-
-  key_here : (address : ℕ) (way : Way) → way_here address ≡ Some way → IsKeyOf placed.names placed.keys way
-  key_here address way e = key_of_way placed.names placed.keys (place_of_address bytes base address) (place_told placed.map address) (place_shown address) way e
 
   -- the way of each key is that of some address
   key_among : (n : ℕ) → n < length placed.keys → Among (way_at placed.names placed.keys n) (filter_map way_here all_addresses)
@@ -176,10 +135,10 @@ module _ (bytes : List ℕ) (base : Bool) (placed : Placed) (is : IsPlaced bytes
     back : (z : Way) → Among z places → Among z ways
     back z h =
         let from = kept_from way_here z all_addresses h in
-        let key = key_here from.0 z from.2 in
-        subst (λ w. Among w ways) (way_stays key.number key.given ∙ key.is)
-        (among_map (way_at more more_keys) key.number (range_with_len 0 (length placed.keys))
-        (range_among 0 (length placed.keys) key.number (omega arith) (omega (arith, key.given))))
+        let key = key_of_way placed.names placed.keys (place_of_address bytes base from.0) (place_told placed.map from.0) (place_shown from.0) z from.2 in
+        subst (λ w. Among w ways) (way_stays key.0.0 key.2 ∙ key.3)
+        (among_map (way_at more more_keys) key.0.0 (range_with_len 0 (length placed.keys))
+        (range_among 0 (length placed.keys) key.0.0 (omega arith) (omega (arith, key.2))))
 
     kept_both : (test : Way → Bool) (xs ys : List Way) → ((z : Way) → Among z xs → Among z ys) → (z : Way) → Among z (filter test xs) → Among z (filter test ys)
     kept_both test xs ys inside z h = let kept = among_filter_back test z xs h in among_filter test z ys kept.0 (inside z kept.1)

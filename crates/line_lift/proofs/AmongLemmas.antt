@@ -3,7 +3,7 @@ use Rattle.std.proofs.Common.{◌≡◌, List, [], ◌∷◌, ◌++◌, Option, 
 use Rattle.std.specs.List.{cons_option, filter_map, flat_map}
 use Rattle.std.proofs.lemmas.List.Concat.{flat_map-append}
 use Rattle.profile_text.specs.Draft.{IsOneOf}
-pub use Rattle.profile_tree.proofs.ListLemmas.{Among, all_append, all_among, among_all, among_either, among_filter, among_filter_back, among_left, among_map, among_map_back, among_permuted, among_range, among_right, range_among}
+pub use Rattle.profile_tree.proofs.ListLemmas.{Among, all_append, all_among, among_all, among_either, among_filter, among_filter_back, among_left, among_map, among_map_back, among_permuted, among_range, among_right, kept_among, kept_from, range_among}
 pub use Rattle.line_lift.proofs.PartLemmas.{all_front, all_back, all_taken}
 
 pub one_among : {T : Type 0} (x : T) (xs : List T) → IsOneOf x xs → Among x xs
@@ -28,29 +28,6 @@ among_flat_back {S} f t (x ∷ xs) among = elim (among_either t (f x) (flat_map 
   | inl l ↦ (x, inl refl, l)
   | inr r ↦ let found = among_flat_back f t xs r in (found.0, inr found.1, found.2)
 ]
-
--- what is kept of items
-pub among_kept : {S T : Type 0} (f : S → Option T) (t : T) (s : S) (xs : List S) → Among s xs → f s ≡ Some t → Among t (filter_map f xs)
-among_kept f t s [] among there = absurd among
-among_kept {S} {T} f t s (x ∷ xs) among there = elim among as (λ _. Among t (cons_option (f x) (filter_map f xs))) [
-  | inl e ↦ subst (λ o. Among t (cons_option o (filter_map f xs))) (sym there ∙ ap f e) (inl refl)
-  | inr r ↦ behind (f x) (filter_map f xs) (among_kept f t s xs r there)
-]
-  where
-    behind : (o : Option T) (ys : List T) → Among t ys → Among t (cons_option o ys)
-    behind None ys h = h
-    behind (Some y) ys h = inr h
-
-pub among_kept_back : {S T : Type 0} (f : S → Option T) (t : T) (xs : List S) → Among t (filter_map f xs) → (s : S) × Among s xs × (f s ≡ Some t)
-among_kept_back f t [] among = absurd among
-among_kept_back {S} {T} f t (x ∷ xs) among = by (λ h. among_kept_back f t xs h) (f x) refl among
-  where
-    by : (Among t (filter_map f xs) → (s : S) × Among s xs × (f s ≡ Some t)) → (o : Option T) → f x ≡ o → Among t (cons_option o (filter_map f xs)) → (s : S) × Among s (x ∷ xs) × (f s ≡ Some t)
-    by more None e h = let found = more h in (found.0, inr found.1, found.2)
-    by more (Some y) e h = elim h as (λ _. (s : S) × Among s (x ∷ xs) × (f s ≡ Some t)) [
-      | inl q ↦ (x, inl refl, e ∙ ap (λ z. Some z) (sym q))
-      | inr r ↦ let found = more r in (found.0, inr found.1, found.2)
-    ]
 
 -- parts of parts
 pub flat_flat : {R S T : Type 0} (f : R → List S) (g : S → List T) (xs : List R) → flat_map (λ x. flat_map g (f x)) xs ≡ flat_map g (flat_map f xs)

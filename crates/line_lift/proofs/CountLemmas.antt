@@ -1,11 +1,8 @@
 -- The profile that is stated counts the same as the lifted one.
 use Rattle.std.proofs.Common.{◌≡◌, ℕ, suc, zero, ◌+◌, ◌<◌, ◌==◌, ◌||◌, ◌&&◌, Bool, true, false, cond, not, List, [], ◌∷◌, ◌++◌, map, filter, length, get_or, is_some, sum_by, Option, None, Some, refl, sym, ap, subst, ◌∙◌, arith, add-zero, zero-add, inl, inr}
 use Rattle.std.specs.List.{AllByRecursion, filter_map, flat_map, range_with_len}
-use Rattle.std.specs.List.Sorted.{IsStrictlySortedBy}
 use Rattle.std.specs.Option.{unwrap_or}
-use Rattle.std.specs.Ordering.{is_eq}
 use Rattle.std.specs.declared.cmp.Ordering.{Ordering}
-use Rattle.std.specs.declared.cmp.Ordering.TheVariants.{Less}
 use Rattle.std.proofs.lemmas.Bool.{true≢false}
 use Rattle.std.proofs.lemmas.List.{map-append}
 use Rattle.std.proofs.lemmas.List.Elements.{filter-append}
@@ -18,7 +15,7 @@ use Rattle.profile_model.specs.Orders.{way_cmp}
 use Rattle.profile_model.specs.Spelled.{Number, profile_by}
 use Rattle.profile_model.specs.Ways.{Way, same_name, same_way}
 use Rattle.profile_model.proofs.OrderLemmas.{ways_tell_apart}
-use Rattle.profile_model.proofs.OrderedLemmas.{Above, has-head, ordered_is_in_order}
+use Rattle.profile_model.proofs.OrderedLemmas.{ordered_is_in_order}
 use Rattle.profile_text.proofs.NumberLemmas.{stated_is_told}
 use Rattle.profile_text.specs.Draft.{IsGivenItem, number_told, what_told}
 use Rattle.profile_text.specs.Numbers.{call_in, head_in}
@@ -26,7 +23,7 @@ use Rattle.profile_text.specs.declared.item.Item.{Item}
 use Rattle.profile_text.specs.declared.item.What.{What}
 use Rattle.profile_text.specs.declared.item.What.TheVariants as what
 use Rattle.profile_tree.proofs.ListLemmas.{among_has, bool_cases, has_among, one_of_range, sum_filter, sum_map, sum_none, sum_same}
-use Rattle.profile_tree.proofs.SumLemmas.{Given, ways_apart}
+use Rattle.profile_tree.proofs.SumLemmas.{Given, no_way_among, one_way_among, part_of_way, ways_apart}
 use Rattle.profile_tree.proofs.WayLemmas.{same_ways, way_itself}
 use Rattle.profile_tree.specs.Said.{stated, way_at}
 use Rattle.profile_tree.specs.declared.key_count.KeyCount.{KeyCount}
@@ -34,44 +31,6 @@ use Rattle.line_lift.specs.Largest.{IsLargest}
 use Rattle.line_lift.specs.Stated.{held_first, held_in, kept_by, kept_in, lifted_counts}
 use Rattle.line_lift.proofs.AmongLemmas.{Among, all_among, among_map, among_map_back, among_range}
 use Rattle.line_lift.proofs.HeldLemmas.{AreHeld, IsHeldAs, held_as}
-
--- ---- a way among ways in order
-
-not_among_above : {T : Type 0} (cmp : T → T → Ordering) → TellsApart cmp → (x : T) (xs : List T) → Above cmp x xs → Among x xs → ⊥
-not_among_above cmp t x [] above h = h
-not_among_above cmp t x (y ∷ xs) above h = elim h as (λ _. ⊥) [
-  | inl e ↦
-      let itself : has cmp x (x ∷ []) ≡ true = has-head cmp t.total x [] in
-      let less : cmp x x ≡ Less = ap (cmp x) e ∙ above.0 in
-      true≢false (sym itself ∙ ap (λ r. is_eq r || false) less)
-  | inr r ↦ not_among_above cmp t x xs above.1 r
-]
-
--- what a way has where it stands
-abbrev part : (Way → ℕ) → Way → Way → ℕ
-part g w v = cond (same_way w v) (g v) 0
-
-without : (g : Way → ℕ) (w : Way) (ws : List Way) → (Among w ws → ⊥) → sum_by (part g w) ws ≡ 0
-without g w ws lacks = sum_none (part g w) ws (all_among (λ v. part g w v ≡ 0) ws (λ v h. bool_cases (same_way w v)
-    (λ e. absurd (lacks (subst (λ (z : Way). Among z ws) (sym (same_ways w v e)) h)))
-    (λ e. ap (λ b. cond b (g v) 0) e)))
-
-one_among : (cmp : Way → Way → Ordering) → TellsApart cmp → (g : Way → ℕ) (w : Way) (ws : List Way) → IsStrictlySortedBy cmp ws → Among w ws → sum_by (part g w) ws ≡ g w
-unfolding IsStrictlySortedBy
-one_among cmp t g w [] sorted h = absurd h
-one_among cmp t g w (v ∷ ws) sorted h =
-    sum_by-cons (part g w) v ws
-    ∙ elim h as (λ _. part g w v + sum_by (part g w) ws ≡ g w) [
-      | inl e ↦
-          let lacks : Among w ws → ⊥ = not_among_above cmp t w ws (subst (λ (z : Way). Above cmp z ws) (sym e) sorted.0) in
-          let here : part g w v ≡ g w = subst (λ (z : Way). part g w z ≡ g w) e (ap (λ b. cond b (g w) 0) (way_itself w)) in
-          (λ i. here i + without g w ws lacks i) ∙ add-zero (g w)
-      | inr r ↦
-          let other : part g w v ≡ 0 = bool_cases (same_way w v)
-          (λ e. absurd (not_among_above cmp t v ws sorted.0 (subst (λ (z : Way). Among z ws) (same_ways w v e) r)))
-          (λ e. ap (λ b. cond b (g v) 0) e) in
-          (λ i. other i + one_among cmp t g w ws sorted.1 r i) ∙ zero-add (g w)
-    ]
 
 -- ---- sums over counts
 
@@ -150,7 +109,7 @@ module _ (names : List (List ℕ)) (keys : List Key) (numbered : Given names key
   apart : TellsApart cmp
   apart = ways_tell_apart (λ name. 0)
 
-  told_sum : (w : Way) → counted_for w (map (λ way. (way, held_count pairs way)) (held_ways pairs)) ≡ sum_by (part (held_count pairs) w) (held_ways pairs)
+  told_sum : (w : Way) → counted_for w (map (λ way. (way, held_count pairs way)) (held_ways pairs)) ≡ sum_by (part_of_way (held_count pairs) w) (held_ways pairs)
   told_sum w =
       sum_filter (λ c. c.1) (λ c. same_way w c.0) (map (λ way. (way, held_count pairs way)) (held_ways pairs))
       ∙ sum_map (λ c. cond (same_way w c.0) c.1 0) (λ way. (way, held_count pairs way)) (held_ways pairs)
@@ -163,7 +122,7 @@ module _ (names : List (List ℕ)) (keys : List Key) (numbered : Given names key
       (λ j h. let bound = among_range 0 (length held) j h in ap (λ b. cond b (count_at j) 0) (ways_apart names keys [] [] [] numbered id j low (omega (arith, bound.1, are.len)))))
       ∙ one_of_range count_at id 0 (length held) (omega arith) (omega (arith, low, are.len))
 
-  held_here : (w : Way) → has cmp w (held_ways pairs) ≡ true → sum_by (λ id. cond (same_way w (way_at names keys id)) (count_at id) 0) (range_with_len 0 (length held)) ≡ sum_by (part (held_count pairs) w) (held_ways pairs)
+  held_here : (w : Way) → has cmp w (held_ways pairs) ≡ true → sum_by (λ id. cond (same_way w (way_at names keys id)) (count_at id) 0) (range_with_len 0 (length held)) ≡ sum_by (part_of_way (held_count pairs) w) (held_ways pairs)
   held_here w e =
       let in_order = ordered_is_in_order cmp apart ways in
       let among : Among w ways = has_among cmp apart w ways (sym (in_order.same w) ∙ e) in
@@ -171,16 +130,16 @@ module _ (names : List (List ℕ)) (keys : List Key) (numbered : Given names key
       let key = are.known w pair.0.1 (subst (λ v. Among (v, pair.0.1) pairs) (sym pair.2) pair.1) in
       subst (λ v. sum_by (λ id. cond (same_way v (way_at names keys id)) (count_at id) 0) (range_with_len 0 (length held)) ≡ held_count pairs v) key.2
       (one_key key.0 key.1 ∙ sym (is_at key.0 key.1).most)
-      ∙ sym (one_among cmp apart (held_count pairs) w (held_ways pairs) in_order.ascending (has_among cmp apart w (held_ways pairs) e))
+      ∙ sym (one_way_among cmp apart (held_count pairs) w (held_ways pairs) in_order.ascending (has_among cmp apart w (held_ways pairs) e))
 
-  not_held_here : (w : Way) → has cmp w (held_ways pairs) ≡ false → sum_by (λ id. cond (same_way w (way_at names keys id)) (count_at id) 0) (range_with_len 0 (length held)) ≡ sum_by (part (held_count pairs) w) (held_ways pairs)
+  not_held_here : (w : Way) → has cmp w (held_ways pairs) ≡ false → sum_by (λ id. cond (same_way w (way_at names keys id)) (count_at id) 0) (range_with_len 0 (length held)) ≡ sum_by (part_of_way (held_count pairs) w) (held_ways pairs)
   not_held_here w lacks =
       sum_none (λ id. cond (same_way w (way_at names keys id)) (count_at id) 0) (range_with_len 0 (length held))
       (all_among (λ id. cond (same_way w (way_at names keys id)) (count_at id) 0 ≡ 0) (range_with_len 0 (length held))
       (λ id h. let bound = among_range 0 (length held) id h in bool_cases (same_way w (way_at names keys id))
       (λ e. ap (λ b. cond b (count_at id) 0) e ∙ none id (omega (arith, bound.1, are.len)) (same_ways w (way_at names keys id) e))
       (λ e. ap (λ b. cond b (count_at id) 0) e)))
-      ∙ sym (without (held_count pairs) w (held_ways pairs) (λ h. true≢false (sym (among_has cmp apart w (held_ways pairs) h) ∙ lacks)))
+      ∙ sym (no_way_among (held_count pairs) w (held_ways pairs) (λ h. true≢false (sym (among_has cmp apart w (held_ways pairs) h) ∙ lacks)))
     where
       none : (id : ℕ) → id < length keys → w ≡ way_at names keys id → count_at id ≡ 0
       none id low same = by (get_or held id None) (are.each id low)

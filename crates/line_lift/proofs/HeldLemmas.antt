@@ -22,7 +22,7 @@ use Rattle.line_lift.specs.Held.{HaveKeys, IsCountOfKey}
 use Rattle.line_lift.specs.Largest.{IsLargest}
 use Rattle.line_lift.specs.Lift.{way_in}
 use Rattle.line_lift.specs.Spans.{IsOwnerOver, counted, span_of}
-use Rattle.line_lift.proofs.AmongLemmas.{Among, among_all, among_filter, among_filter_back, among_flat, among_flat_back, among_kept, among_kept_back, among_map, among_map_back, among_one, among_range, flat_flat, one_among, range_among}
+use Rattle.line_lift.proofs.AmongLemmas.{Among, among_all, among_filter, among_filter_back, among_flat, among_flat_back, among_map, among_map_back, among_one, among_range, flat_flat, kept_among, kept_from, one_among, range_among}
 use Rattle.line_lift.proofs.KeyLemmas.{key_from}
 use Rattle.line_lift.proofs.LargestLemmas.{largest_of_larger}
 use Rattle.line_lift.proofs.OwnerLemmas.{is_held, none_some, same_some}
@@ -48,14 +48,14 @@ holds_pair way funs w n at =
     subst (Among (w, n)) (sym (all_pairs way funs))
     (among_flat (ways_in way) (w, n) block (counted funs) back.1
     (subst (λ m. Among (w, m) (ways_in way block)) count
-    (among_map (λ it. (it, block.1)) w (filter_map way (addresses_of block.0)) (among_kept way w a (addresses_of block.0) there at.1))))
+    (among_map (λ it. (it, block.1)) w (filter_map way (addresses_of block.0)) (kept_among way a w (addresses_of block.0) there at.1))))
 
 pub pair_holds : (way : ℕ → Option Way) (funs : List (Function × Repair)) (w : Way) (n : ℕ) → Among (w, n) (held_by way funs) → HoldsWay way funs w n
 pair_holds way funs w n among =
     let found = among_flat_back (ways_in way) (w, n) (counted funs) (subst (Among (w, n)) (all_pairs way funs) among) in
     let block = found.0 in
     let back = among_map_back (λ it. (it, block.1)) (w, n) (filter_map way (addresses_of block.0)) found.2 in
-    let from = among_kept_back way back.0 (addresses_of block.0) back.1 in
+    let from = kept_from way back.0 (addresses_of block.0) back.1 in
     let a = from.0 in
     let range = among_range block.0.lo (block.0.hi - block.0.lo) a from.1 in (
       a,

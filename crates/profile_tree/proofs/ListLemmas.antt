@@ -1,5 +1,5 @@
 -- Lists: what stands in them, sums over them, and their orders.
-use Rattle.std.proofs.Common.{◌≡◌, ◌⊎◌, ◌≤◌, ◌<◌, ℕ, zero, suc, ◌+◌, ◌==◌, Bool, true, false, cond, ◌||◌, List, [], ◌∷◌, ◌++◌, map, filter, length, get_or, sum_by, refl, sym, ap, subst, ◌∙◌, inl, inr, arith, add-zero, zero-add, IsPermutation, Contains}
+use Rattle.std.proofs.Common.{◌≡◌, ◌⊎◌, ◌≤◌, ◌<◌, ℕ, zero, suc, ◌+◌, ◌==◌, Bool, true, false, cond, ◌||◌, List, [], ◌∷◌, ◌++◌, map, filter, length, get_or, sum_by, Option, None, Some, refl, sym, ap, subst, ◌∙◌, inl, inr, arith, add-zero, zero-add, IsPermutation, Contains}
 use Rattle.std.proofs.lemmas.Bool.{true≢false}
 use Rattle.std.proofs.lemmas.Bool.Decides.{nat_tests}
 use Rattle.std.proofs.lemmas.Cmp.{tied_itself}
@@ -7,7 +7,7 @@ use Rattle.std.proofs.lemmas.List.{map-append}
 use Rattle.std.proofs.lemmas.List.Folds.{list_any-append}
 use Rattle.std.proofs.lemmas.List.Sorted.{Contains-permutation, IsPermutation-sym}
 use Rattle.std.proofs.lemmas.List.Sums.{sum_by-cons}
-use Rattle.std.specs.List.{AllByRecursion, flat_map, list_any, range_with_len}
+use Rattle.std.specs.List.{AllByRecursion, cons_option, filter_map as kept_of, flat_map, list_any, range_with_len}
 use Rattle.std.specs.declared.cmp.Ordering.{Ordering}
 use Rattle.std.specs.declared.cmp.Ordering.TheVariants.{Less, Equal, Greater}
 use Rattle.std.specs.Ordering.{is_eq, eq_by_cmp}
@@ -15,7 +15,7 @@ use Rattle.profile_model.specs.Laws.{TellsApart, has}
 use Rattle.profile_model.specs.Orders.{ordered, placed, with_item}
 use Rattle.profile_model.specs.Ways.{beginnings}
 pub use Rattle.profile_model.proofs.StepLemmas.{and_first, and_second, and_both, bool_same, nat_same, nat_refl}
-use Rattle.profile_model.proofs.OrderedLemmas.{ordered_is_in_order, only_ordered_is_in_order}
+use Rattle.profile_model.proofs.OrderedLemmas.{Above, has-head, ordered_is_in_order, only_ordered_is_in_order}
 
 -- tests
 pub or_left : (a b : Bool) → a ≡ true → (a || b) ≡ true
@@ -118,6 +118,30 @@ pub among_permuted : {T : Type 0} (x : T) (xs ys : List T) → IsPermutation xs 
 among_permuted x xs ys p h =
     let there : Contains xs x = Contains-permutation ys xs x (IsPermutation-sym xs ys p) (among_place x ys h) in
     place_among x xs there.0 there.1 there.2
+
+-- what is kept of items
+kept_here : {A B : Type 0} (f : A → Option B) (y : B) (x : A) (xs : List A) (o : Option B) → f x ≡ o → (Among y (kept_of f xs) → (z : A) × (Among z xs) × (f z ≡ Some y))
+    → Among y (cons_option o (kept_of f xs)) → (z : A) × (Among z (x ∷ xs)) × (f z ≡ Some y)
+kept_here f y x xs None e further h = let found = further h in (found.0, inr found.1, found.2)
+kept_here {A} f y x xs (Some b) e further h = elim h as (λ _. (z : A) × (Among z (x ∷ xs)) × (f z ≡ Some y)) [
+  | inl q ↦ (x, inl refl, e ∙ ap (λ z. Some z) (sym q))
+  | inr r ↦ let found = further r in (found.0, inr found.1, found.2)
+]
+
+pub kept_from : {A B : Type 0} (f : A → Option B) (y : B) (xs : List A) → Among y (kept_of f xs) → (x : A) × (Among x xs) × (f x ≡ Some y)
+kept_from f y [] h = absurd h
+kept_from f y (x ∷ xs) h = kept_here f y x xs (f x) refl (kept_from f y xs) h
+
+pub kept_among : {A B : Type 0} (f : A → Option B) (x : A) (y : B) (xs : List A) → Among x xs → f x ≡ Some y → Among y (kept_of f xs)
+kept_among f x y [] h e = absurd h
+kept_among {A} {B} f x y (z ∷ xs) h e = elim h as (λ _. Among y (cons_option (f z) (kept_of f xs))) [
+  | inl q ↦ subst (λ o. Among y (cons_option o (kept_of f xs))) (sym e ∙ ap f q) (inl refl)
+  | inr r ↦ further (f z) (kept_among f x y xs r e)
+]
+  where
+    further : (o : Option B) → Among y (kept_of f xs) → Among y (cons_option o (kept_of f xs))
+    further None g = g
+    further (Some b) g = inr g
 
 -- numbers from the first on
 pub among_range : (a n x : ℕ) → Among x (range_with_len a n) → (a ≤ x) × (x < a + n)
@@ -273,6 +297,16 @@ among_has cmp t x [] h = absurd h
 among_has cmp t x (y ∷ xs) h = elim h as (λ _. (eq_by_cmp cmp x y || has cmp x xs) ≡ true) [
   | inl e ↦ ap (λ r. is_eq r || has cmp x xs) (ap (cmp x) (sym e) ∙ tied_itself t.total x)
   | inr r ↦ elim (eq_by_cmp cmp x y) as (λ b. (b || has cmp x xs) ≡ true) [ true ↦ refl | false ↦ among_has cmp t x xs r ]
+]
+
+pub not_among_above : {T : Type 0} (cmp : T → T → Ordering) → TellsApart cmp → (x : T) (xs : List T) → Above cmp x xs → Among x xs → ⊥
+not_among_above cmp t x [] above h = h
+not_among_above cmp t x (y ∷ xs) above h = elim h as (λ _. ⊥) [
+  | inl e ↦
+      let itself : has cmp x (x ∷ []) ≡ true = has-head cmp t.total x [] in
+      let less : cmp x x ≡ Less = ap (cmp x) e ∙ above.0 in
+      true≢false (sym itself ∙ ap (λ r. is_eq r || false) less)
+  | inr r ↦ not_among_above cmp t x xs above.1 r
 ]
 
 pub any_flat : {S T : Type 0} (p : T → Bool) (f : S → List T) (xs : List S) → list_any p (flat_map f xs) ≡ list_any (λ x. list_any p (f x)) xs

@@ -1,16 +1,21 @@
 -- Counts, targets and heads of a profile, by the numbers of keys and names.
-use Rattle.std.proofs.Common.{◌≡◌, ◌≤◌, ◌<◌, ℕ, zero, suc, ◌^◌, ◌==◌, nat_lt, Bool, true, false, cond, ◌&&◌, List, [], ◌∷◌, map, filter, length, get_or, replicate, sum_by, All, Option, None, Some, refl, sym, ap, subst, ◌∙◌, inl, inr, arith}
+use Rattle.std.proofs.Common.{◌≡◌, ◌≤◌, ◌<◌, ℕ, zero, suc, ◌+◌, ◌^◌, ◌==◌, nat_lt, Bool, true, false, cond, ◌&&◌, List, [], ◌∷◌, map, filter, length, get_or, replicate, sum_by, All, Option, None, Some, refl, sym, ap, subst, ◌∙◌, inl, inr, arith, add-zero, zero-add}
 use Rattle.std.proofs.lemmas.Bool.Decides.{nat_tests}
 use Rattle.std.proofs.lemmas.List.{length-replicate}
+use Rattle.std.proofs.lemmas.List.Sums.{sum_by-cons}
 use Rattle.std.specs.Cmp.Lexicographic.{bytes_decides}
 use Rattle.std.specs.List.{AllByRecursion, range_with_len, slice_get}
+use Rattle.std.specs.List.Sorted.{IsStrictlySortedBy}
+use Rattle.std.specs.declared.cmp.Ordering.{Ordering}
 use Rattle.key_types.proofs.NumberLemmas.{one_number_each}
 use Rattle.key_types.specs.Numbers.{IsNumbered}
 use Rattle.key_types.specs.declared.key.Key.{Key}
 use Rattle.profile_lists.specs.Ranks.{AreRanks}
+use Rattle.profile_model.proofs.OrderedLemmas.{Above}
+use Rattle.profile_model.specs.Laws.{TellsApart}
 use Rattle.profile_model.specs.Profile.{capped, count_of, target_of, head_of, total_of, total_of_function}
 use Rattle.profile_model.specs.Ways.{Way, to_function, same_name, same_step, same_way, leads_to}
-use Rattle.profile_tree.proofs.ListLemmas.{and_first, and_second, and_both, bool_same, bool_cases, nat_same, nat_refl, Among, all_among, among_range, sum_map, sum_filter, sum_same, sum_at_most, one_of_range}
+use Rattle.profile_tree.proofs.ListLemmas.{and_first, and_second, and_both, bool_same, bool_cases, nat_same, nat_refl, Among, all_among, among_range, not_among_above, sum_map, sum_filter, sum_none, sum_same, sum_at_most, one_of_range}
 use Rattle.profile_tree.proofs.WayLemmas.{IsNamed, key_is_named, names_once, ways_once, keys_once, same_steps, step_itself, same_ways, way_itself}
 use Rattle.profile_tree.specs.Known.{HasNames, IsGiven}
 use Rattle.profile_tree.specs.Said.{said, way_at}
@@ -130,6 +135,32 @@ module _ (names : List (List ℕ)) (keys : List Key) (counts : List ℕ) (calls 
       (λ call there.
       let known = all_to_each (IsGiven (length keys) (length names)) call calls g.calls_given there in
       λ m. cond (ways_apart k call.key.0 h known.0 m && same_name_is i call.callee.0 f known.1 m) call.times 0))
+
+-- what a way has where it stands
+abbrev pub part_of_way : (Way → ℕ) → Way → Way → ℕ
+part_of_way g w v = cond (same_way w v) (g v) 0
+
+pub no_way_among : (g : Way → ℕ) (w : Way) (ws : List Way) → (Among w ws → ⊥) → sum_by (part_of_way g w) ws ≡ 0
+no_way_among g w ws lacks = sum_none (part_of_way g w) ws (all_among (λ v. part_of_way g w v ≡ 0) ws (λ v h. bool_cases (same_way w v)
+    (λ e. absurd (lacks (subst (λ (z : Way). Among z ws) (sym (same_ways w v e)) h)))
+    (λ e. ap (λ b. cond b (g v) 0) e)))
+
+pub one_way_among : (cmp : Way → Way → Ordering) → TellsApart cmp → (g : Way → ℕ) (w : Way) (ws : List Way) → IsStrictlySortedBy cmp ws → Among w ws → sum_by (part_of_way g w) ws ≡ g w
+unfolding IsStrictlySortedBy
+one_way_among cmp t g w [] sorted h = absurd h
+one_way_among cmp t g w (v ∷ ws) sorted h =
+    sum_by-cons (part_of_way g w) v ws
+    ∙ elim h as (λ _. part_of_way g w v + sum_by (part_of_way g w) ws ≡ g w) [
+      | inl e ↦
+          let lacks : Among w ws → ⊥ = not_among_above cmp t w ws (subst (λ (z : Way). Above cmp z ws) (sym e) sorted.0) in
+          let here : part_of_way g w v ≡ g w = subst (λ (z : Way). part_of_way g w z ≡ g w) e (ap (λ b. cond b (g w) 0) (way_itself w)) in
+          (λ i. here i + no_way_among g w ws lacks i) ∙ add-zero (g w)
+      | inr r ↦
+          let other : part_of_way g w v ≡ 0 = bool_cases (same_way w v)
+          (λ e. absurd (not_among_above cmp t v ws sorted.0 (subst (λ (z : Way). Among z ws) (same_ways w v e) r)))
+          (λ e. ap (λ b. cond b (g v) 0) e) in
+          (λ i. other i + one_way_among cmp t g w ws sorted.1 r i) ∙ zero-add (g w)
+    ]
 
 -- sums by ranks
 pub record ByName (names : List (List ℕ)) (nr ni : List ℕ) : Type 0 where

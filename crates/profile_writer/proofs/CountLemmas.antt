@@ -2,13 +2,9 @@
 use Rattle.std.proofs.Common.{◌≡◌, ◌≤◌, ◌<◌, ℕ, ◌+◌, ◌*◌, ◌^◌, nat_lt, nat_le, max, Bool, true, false, cond, ◌&&◌, ◌||◌, List, [], ◌∷◌, map, length, get_or, sum_by, Option, None, Some, refl, sym, ap, subst, ◌∙◌, inl, inr, arith, add-zero, zero-add}
 use Rattle.std.specs.Prelude.{filter, count_by, IsSome}
 use Rattle.std.specs.List.{filter_map, range_with_len}
-use Rattle.std.specs.List.Sorted.{IsStrictlySortedBy}
 use Rattle.std.specs.Option.{option_map, option_map_or}
-use Rattle.std.specs.Ordering.{is_eq}
 use Rattle.std.specs.declared.cmp.Ordering.{Ordering}
-use Rattle.std.specs.declared.cmp.Ordering.TheVariants.{Less}
 use Rattle.std.proofs.lemmas.Bool.{true≢false}
-use Rattle.std.proofs.lemmas.List.Sums.{sum_by-cons}
 use Rattle.profile_model.specs.Hits.{hits_at, times_of}
 use Rattle.profile_model.specs.declared.ran_range.RanRange.{RanRange}
 use Rattle.profile_lists.specs.Laws.{factor_by, place_by}
@@ -30,11 +26,11 @@ use Rattle.profile_model.specs.Orders.{way_cmp}
 use Rattle.profile_model.specs.Profile.{count_of}
 use Rattle.profile_model.specs.Ways.{Way, same_way}
 use Rattle.profile_model.proofs.OrderLemmas.{ways_tell_apart}
-use Rattle.profile_model.proofs.OrderedLemmas.{Above, has-head, ordered_is_in_order}
+use Rattle.profile_model.proofs.OrderedLemmas.{ordered_is_in_order}
 use Rattle.profile_report.specs.Classed.{classed_by}
 use Rattle.profile_report.specs.declared.classed.Classed.{Classed}
 use Rattle.profile_tree.proofs.ListLemmas.{Among, all_among, among_filter, among_filter_back, among_has, among_map, among_map_back, among_range, bool_cases, has_among, nat_same, sum_filter, sum_map, sum_none}
-use Rattle.profile_tree.proofs.SumLemmas.{Given, count_is, ways_apart}
+use Rattle.profile_tree.proofs.SumLemmas.{Given, count_is, no_way_among, one_way_among, ways_apart}
 use Rattle.profile_tree.proofs.WayLemmas.{same_ways, way_itself}
 use Rattle.profile_tree.specs.Said.{AreCountsOfPlaces, said, way_at}
 use Rattle.profile_tree.specs.declared.head.Head.{Head}
@@ -98,44 +94,6 @@ module _ (program : Program) (sampled : Sampled) (function : ℕ → Option ℕ)
   pub passed_alike : passed (filter_map ran_in classed) ≡ ran_past program sampled
   passed_alike = λ i address. ran_alike (λ lo hi. nat_lt lo address && nat_le address hi) i
 
--- ---- one way among ways in order
-
-not_among_above : {T : Type 0} (cmp : T → T → Ordering) → TellsApart cmp → (x : T) (xs : List T) → Above cmp x xs → Among x xs → ⊥
-not_among_above cmp t x [] above h = h
-not_among_above cmp t x (y ∷ xs) above h = elim h as (λ _. ⊥) [
-  | inl e ↦
-      let itself : has cmp x (x ∷ []) ≡ true = has-head cmp t.total x [] in
-      let less : cmp x x ≡ Less = ap (cmp x) e ∙ above.0 in
-      true≢false (sym itself ∙ ap (λ r. is_eq r || false) less)
-  | inr r ↦ not_among_above cmp t x xs above.1 r
-]
-
-without : (g : Way → ℕ) (way : Way) (ws : List Way) → (Among way ws → ⊥) → sum_by (λ w. cond (same_way way w) (g w) 0) ws ≡ 0
-without g way ws lacks =
-    sum_none (λ w. cond (same_way way w) (g w) 0) ws
-    (all_among (λ w. cond (same_way way w) (g w) 0 ≡ 0) ws
-    (λ w h. bool_cases (same_way way w)
-    (λ e. absurd (lacks (subst (λ (z : Way). Among z ws) (sym (same_ways way w e)) h)))
-    (λ e. ap (λ b. cond b (g w) 0) e)))
-
-one_among : (cmp : Way → Way → Ordering) → TellsApart cmp → (g : Way → ℕ) (way : Way) (ws : List Way) → IsStrictlySortedBy cmp ws → Among way ws → sum_by (λ w. cond (same_way way w) (g w) 0) ws ≡ g way
-unfolding IsStrictlySortedBy
-one_among cmp t g way [] sorted h = absurd h
-one_among cmp t g way (w ∷ ws) sorted h =
-    sum_by-cons (λ w. cond (same_way way w) (g w) 0) w ws
-    ∙ elim h as (λ _. cond (same_way way w) (g w) 0 + sum_by (λ w. cond (same_way way w) (g w) 0) ws ≡ g way) [
-      | inl e ↦
-          let lacks : Among way ws → ⊥ = not_among_above cmp t way ws (subst (λ (z : Way). Above cmp z ws) (sym e) sorted.0) in
-          let here : cond (same_way way w) (g w) 0 ≡ g way = subst (λ (z : Way). cond (same_way way z) (g z) 0 ≡ g way) e (ap (λ b. cond b (g way) 0) (way_itself way)) in
-          (λ i. here i + without g way ws lacks i) ∙ add-zero (g way)
-      | inr r ↦
-          let other : cond (same_way way w) (g w) 0 ≡ 0 =
-          bool_cases (same_way way w)
-          (λ e. absurd (not_among_above cmp t w ws sorted.0 (subst (λ (z : Way). Among z ws) (same_ways way w e) r)))
-          (λ e. ap (λ b. cond b (g w) 0) e) in
-          (λ i. other i + one_among cmp t g way ws sorted.1 r i) ∙ zero-add (g way)
-    ]
-
 -- ---- places
 
 way_there : (way w : Way) → Some w ≡ Some way → w ≡ way
@@ -151,7 +109,7 @@ number_there : (m n : ℕ) → Some m ≡ Some n → m ≡ n
 number_there m n e = cc
 
 -- a place with a way has the number of a key of that way
-key_of_way : (all : List (List ℕ)) (keys : List Key) (place : Place) (answer : Where) → TellsPlace all keys place answer → (way : Way) → way_of_place place ≡ Some way
+pub key_of_way : (all : List (List ℕ)) (keys : List Key) (place : Place) (answer : Where) → TellsPlace all keys place answer → (way : Way) → way_of_place place ≡ Some way
     → (id : KeyId) × (key_of answer ≡ Some id.0) × (id.0 < length keys) × (way_at all keys id.0 ≡ way)
 key_of_way all keys outside answer shown way e = absurd (no_way way e)
 key_of_way all keys nameless answer shown way e = absurd (no_way way e)
@@ -159,7 +117,7 @@ key_of_way all keys no_line answer shown way e = absurd (no_way way e)
 key_of_way all keys (at_way w) answer shown way e = (shown.0, ap key_of shown.1, shown.2.inside, shown.2.way_is ∙ way_there way w e)
 
 -- a place with the number of a key has the way of that key
-way_of_key : (all : List (List ℕ)) (keys : List Key) (place : Place) (answer : Where) → TellsPlace all keys place answer → (n : ℕ) → key_of answer ≡ Some n
+pub way_of_key : (all : List (List ℕ)) (keys : List Key) (place : Place) (answer : Where) → TellsPlace all keys place answer → (n : ℕ) → key_of answer ≡ Some n
     → way_of_place place ≡ Some (way_at all keys n)
 way_of_key all keys outside answer shown n e = absurd (no_number n (sym (ap key_of shown) ∙ e))
 way_of_key all keys nameless answer shown n e = absurd (no_number n (sym (ap key_of shown) ∙ e))
@@ -299,7 +257,7 @@ module _ (program : Program) (sampled : Sampled) (all : List (List ℕ)) (keys :
       ∙ count_is all keys counts calls heads given key.0.0 key.2
       ∙ count_same key.0.0 low
       ∙ ap (count_among addresses program sampled) key.3
-      ∙ sym (one_among cmp apart (count_among addresses program sampled) way ws (ordered_is_in_order cmp apart items).ascending (has_among cmp apart way ws e))
+      ∙ sym (one_way_among cmp apart (count_among addresses program sampled) way ws (ordered_is_in_order cmp apart items).ascending (has_among cmp apart way ws e))
       ∙ sym (told_of_way way)
 
   -- a key whose way no address has was not counted
@@ -331,7 +289,7 @@ module _ (program : Program) (sampled : Sampled) (all : List (List ℕ)) (keys :
       let low : id < length counts = omega (arith, bound.1, len) in
       ap (λ b. cond b (get_or counts id 0) 0) e ∙ none_of way lacks id low (same_ways way (way_at all keys id) e))
       (λ e. ap (λ b. cond b (get_or counts id 0) 0) e)))
-      ∙ sym (without (count_among addresses program sampled) way ws (λ h. true≢false (sym (among_has cmp apart way ws h) ∙ lacks)))
+      ∙ sym (no_way_among (count_among addresses program sampled) way ws (λ h. true≢false (sym (among_has cmp apart way ws h) ∙ lacks)))
       ∙ sym (told_of_way way)
 
   pub counts_alike : (way : Way) → count_of (said all keys counts calls heads) way ≡ count_of (profile_among addresses program sampled) way

@@ -9,6 +9,7 @@ use Rattle.sample_model.specs.declared.pair.Pair.{Pair}
 use Rattle.branch_counts.specs.Table.{Tallies, pair_of}
 use Rattle.branch_counts.proofs.TallyLemmas.{tables_count_members}
 use Rattle.profile_tree.proofs.ListLemmas.{Among, sum_filter}
+pub use Rattle.profile_tree.proofs.ListLemmas.{kept_among, kept_from}
 
 -- a sum over what is kept of some items
 kept_more : {A B : Type 0} (f : A → Option B) (w : B → ℕ) (o : Option B) (xs : List A) → sum_by w (filter_map f xs) ≡ sum_by (λ x. option_map_or w (f x) 0) xs
@@ -19,30 +20,6 @@ kept_more f w (Some y) xs rest = sum_by-cons w y (filter_map f xs) ∙ ap (λ (n
 pub kept_sum : {A B : Type 0} (f : A → Option B) (w : B → ℕ) (xs : List A) → sum_by w (filter_map f xs) ≡ sum_by (λ x. option_map_or w (f x) 0) xs
 kept_sum f w [] = refl
 kept_sum f w (x ∷ xs) = kept_more f w (f x) xs (kept_sum f w xs) ∙ sym (sum_by-cons (λ y. option_map_or w (f y) 0) x xs)
-
--- where a kept item comes from
-kept_here : {A B : Type 0} (f : A → Option B) (y : B) (x : A) (xs : List A) (o : Option B) → f x ≡ o → (Among y (filter_map f xs) → (z : A) × (Among z xs) × (f z ≡ Some y))
-    → Among y (cons_option o (filter_map f xs)) → (z : A) × (Among z (x ∷ xs)) × (f z ≡ Some y)
-kept_here f y x xs None e further h = let found = further h in (found.0, inr found.1, found.2)
-kept_here {A} f y x xs (Some b) e further h = elim h as (λ _. (z : A) × (Among z (x ∷ xs)) × (f z ≡ Some y)) [
-  | inl q ↦ (x, inl refl, e ∙ ap (λ z. Some z) (sym q))
-  | inr r ↦ let found = further r in (found.0, inr found.1, found.2)
-]
-
-pub kept_from : {A B : Type 0} (f : A → Option B) (y : B) (xs : List A) → Among y (filter_map f xs) → (x : A) × (Among x xs) × (f x ≡ Some y)
-kept_from f y [] h = absurd h
-kept_from f y (x ∷ xs) h = kept_here f y x xs (f x) refl (kept_from f y xs) h
-
-pub kept_among : {A B : Type 0} (f : A → Option B) (x : A) (y : B) (xs : List A) → Among x xs → f x ≡ Some y → Among y (filter_map f xs)
-kept_among f x y [] h e = absurd h
-kept_among {A} {B} f x y (z ∷ xs) h e = elim h as (λ _. Among y (cons_option (f z) (filter_map f xs))) [
-  | inl q ↦ subst (λ o. Among y (cons_option o (filter_map f xs))) (sym e ∙ ap f q) (inl refl)
-  | inr r ↦ further (f z) (kept_among f x y xs r e)
-]
-  where
-    further : (o : Option B) → Among y (filter_map f xs) → Among y (cons_option o (filter_map f xs))
-    further None g = g
-    further (Some b) g = inr g
 
 -- what all kept items are
 pub kept_all : {A B : Type 0} (P : B → Type 0) (f : A → Option B) (xs : List A) → ((x : A) → Among x xs → (y : B) → f x ≡ Some y → P y) → All P (filter_map f xs)

@@ -2,24 +2,16 @@
 #![tactic(auto)]
 
 #[cfg(test)]
-mod of_address_spans;
-#[cfg(test)]
 mod of_context_map;
 #[cfg(test)]
 mod of_entry_names;
 #[cfg(test)]
 mod of_entry_pieces;
 #[cfg(test)]
-mod of_function_stretches;
-#[cfg(test)]
 mod of_inline_cover;
 #[cfg(test)]
 mod of_inline_tree;
 #[cfg(test)]
-mod of_key_segments;
-#[cfg(test)]
 mod of_member_contexts;
-#[cfg(test)]
-mod of_member_lists;
 #[cfg(test)]
 mod of_unit_bases;

@@ -39,16 +39,6 @@ const UNITS: &'static [u8] = b"\x01\x11\x01\0\0\
 \x04_f\0\x07\0\
 \x02\0\0\0\x02\0";
 
-/// Abbreviations up to 20, and a unit of 17 entries that lead to the next one each, with a named
-/// one behind them.
-const CHAIN: &'static [u8] = b"\x01\x11\x01\0\0\
-\x02\x2e\0\x31\x11\0\0\
-\x03\x2e\0\x03\x08\0\0\0\
-\x2e\0\0\0\x04\0\0\0\0\0\x08\x01\
-\x02\x0e\x02\x10\x02\x12\x02\x14\x02\x16\x02\x18\x02\x1a\x02\x1c\x02\x1e\
-\x02\x20\x02\x22\x02\x24\x02\x26\x02\x28\x02\x2a\x02\x2c\x02\x2e\
-\x03n\0\0";
-
 // The units of two sections.
 fn read_parts<'a>(alloc: Global, info: Part<'a>, abbrev: Part<'_>) -> Option<Units<'a>>
     ensures { IfSome result (λ units. AreInOrder 0 (2 ^ 64) units.entries) }
@@ -155,21 +145,4 @@ fn takes_the_first_name_and_line_of_a_way(rt: HostRuntime) {
         assert_eq!(rt; told(rt.alloc(), &units, 56, at), Some(wanted));
         assert_eq!(rt; kept_is_told(rt.alloc(), &units, 56, at), Some(true));
     }
-}
-
-#[test]
-fn follows_16_references(rt: HostRuntime) {
-    let Some(units) = read(rt.alloc(), CHAIN, 20) else {
-        panic!(rt; "not read");
-    };
-    assert_eq!(rt;
-        told(rt.alloc(), &units, 20, 34),
-        Some(Ok((Some(&b"n"[..]), 0)))
-    );
-    assert_eq!(rt;
-        told(rt.alloc(), &units, 20, 32),
-        Some(bad(32, Kind::OriginTooLong))
-    );
-    assert_eq!(rt; kept_is_told(rt.alloc(), &units, 20, 34), Some(true));
-    assert_eq!(rt; kept_is_told(rt.alloc(), &units, 20, 32), Some(true));
 }

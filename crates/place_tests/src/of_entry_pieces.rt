@@ -5,7 +5,7 @@ use dwarf_ranges::RangeParts;
 use dwarf_strings::{Bases, Texts};
 use elf_sections::{Elf, read};
 use entry_facts::{InUnit, MAX_PIECES, pieces};
-use refusal::{Kind, Place, Stop};
+use refusal::Stop;
 use std::alloc::Global;
 use std::test::Fail;
 
@@ -29,8 +29,6 @@ const SIZE: (u64, u64, Value<'static>) = (0x12, 6, Value::Const(0x40));
 const LIST: (u64, u64, Value<'static>) = (0x55, 7, Value::Offset(0));
 
 const INDEXED: (u64, u64, Value<'static>) = (0x11, 8, Value::AddrIndex(0));
-
-const INDEXED_END: (u64, u64, Value<'static>) = (0x12, 9, Value::AddrIndex(0));
 
 fn code(alloc: Global) -> Result<Elf<'static>, Stop> {
     read(alloc, FILE)
@@ -110,25 +108,6 @@ fn code_is_kept(rt: HostRuntime) -> Result<(), Fail> {
         match pieces_by(rt.alloc(), &elf, MAX_PIECES - 2, attributes) {
             Ok(found) => assert_eq!(rt; found.as_slice(), kept),
             Err(_) => assert!(rt; false),
-        }
-    }
-    Ok(())
-}
-
-#[test]
-fn the_first_bad_place_is_told(rt: HostRuntime) -> Result<(), Fail> {
-    let elf = code(rt.alloc())?;
-    let cases: [(&[(u64, u64, Value<'static>)], u64, Kind); 4] = [
-        (&[INDEXED_END, INDEXED], 8, Kind::NoBase),
-        (&[INDEXED_END, LOW], 9, Kind::NoBase),
-        (&[LOW, (0x55, 7, Value::Offset(65))], 7, Kind::PastSection),
-        (&[LOW, SIZE], 3, Kind::TooManyRanges),
-    ];
-    for (attributes, at, kind) in cases {
-        let stop = Stop::Refused(Place { file: 1, at, kind });
-        match pieces_by(rt.alloc(), &elf, MAX_PIECES, attributes) {
-            Ok(_) => assert!(rt; false),
-            Err(found) => assert_eq!(rt; found, stop),
         }
     }
     Ok(())

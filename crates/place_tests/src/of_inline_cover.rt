@@ -1,8 +1,8 @@
-use address_spans::{Span, owner_at};
+use address_spans::Span;
 use chain_model::Member;
 use key_types::Chain;
 use refusal::NoMemory;
-use span_cover::{cover, function_cover};
+use span_cover::cover;
 use std::alloc::Global;
 use std::test;
 
@@ -59,42 +59,5 @@ fn the_innermost_member_owns(rt: HostRuntime) -> Result<(), test::Fail> {
         span(160, 200, 0),
     ];
     assert_eq!(rt; made.as_slice(), want.as_slice());
-    Ok(())
-}
-
-#[test]
-fn the_first_function_owns(rt: HostRuntime) -> Result<(), test::Fail> {
-    let alloc = rt.alloc();
-    let made = function_cover(alloc, &overlapping(alloc)?)?;
-    let want = [span(50, 100, 5), span(100, 200, 0)];
-    assert_eq!(rt; made.as_slice(), want.as_slice());
-    Ok(())
-}
-
-/// A function and 255 calls, each in the one before.
-fn nested(alloc: Global) -> Result<Vec<Member>, NoMemory> {
-    let mut members = Vec::new(alloc);
-    for depth in 0..=255u8 {
-        let from = u64::from(depth);
-        members.push(member(alloc, depth, &[(from, 600 - from)])?)?;
-    }
-    Ok(members)
-}
-
-#[test]
-fn calls_stand_in_calls(rt: HostRuntime) -> Result<(), test::Fail> {
-    let alloc = rt.alloc();
-    let made = cover(alloc, &nested(alloc)?)?;
-    let cases = [
-        (0, Some(0)),
-        (10, Some(10)),
-        (300, Some(255)),
-        (345, Some(254)),
-        (599, Some(0)),
-        (600, None),
-    ];
-    for (address, want) in cases {
-        assert_eq!(rt; owner_at(&made, address), want, "{address}");
-    }
     Ok(())
 }

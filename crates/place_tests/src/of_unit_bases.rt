@@ -2,7 +2,7 @@ use byte_view::Part;
 use dwarf_info::{Units, read_units};
 use dwarf_strings::{Bases, Texts};
 use entry_facts::{base_address, bases_of};
-use refusal::{Kind, Place, Stop};
+use refusal::Stop;
 use std::alloc::Global;
 use std::test::Fail;
 
@@ -76,19 +76,5 @@ fn roots_say_bases_and_addresses(rt: HostRuntime) -> Result<(), Fail> {
         assert_eq!(rt; bases_of(&units, unit), counted);
         assert_eq!(rt; base_address(&units, unit, &there), Ok(base));
     }
-    Ok(())
-}
-
-#[test]
-fn a_bad_address_stands_at_its_value(rt: HostRuntime) -> Result<(), Fail> {
-    let Ok(units) = read(rt.alloc()) else {
-        panic!(rt; "not read");
-    };
-    let place = Place {
-        file: 1,
-        at: 25,
-        kind: Kind::NoSection,
-    };
-    assert_eq!(rt; base_address(&units, 0, &texts(None)), Err(place));
     Ok(())
 }

@@ -46,28 +46,3 @@ fn hits_are_sums_over_ranges(rt: HostRuntime) -> Result<(), test::Fail> {
     }
     Ok(())
 }
-
-#[test]
-fn the_largest_is_found_by_search_and_on_a_walk(rt: HostRuntime) -> Result<(), test::Fail> {
-    let ranges = [range(10, 19, 3), range(15, 24, 4), range(LAST - 1, LAST, 5)];
-    let hits = sweep(rt.alloc(), &ranges)?;
-    let found = [
-        hits.max_in(0, 10),
-        hits.max_in(10, 11),
-        hits.max_in(11, 15),
-        hits.max_in(15, 16),
-        hits.max_in(16, 40),
-        hits.max_in(40, LAST - 1),
-        hits.max_in(LAST - 1, LAST),
-    ];
-    assert_eq!(rt; found, [0, 3, 3, 7, 7, 0, 5]);
-    let mut walk = hits.walk();
-    let first = walk.max_in(0, 10);
-    let second = walk.max_in(11, 15);
-    let third = walk.max_in(15, 16);
-    let fourth = walk.max_in(24, LAST - 1);
-    let last = walk.max_in(LAST - 1, LAST);
-    let on_a_walk = [first, second, third, fourth, last];
-    assert_eq!(rt; on_a_walk, [0, 3, 7, 4, 5]);
-    Ok(())
-}

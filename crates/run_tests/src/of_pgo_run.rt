@@ -58,22 +58,34 @@ const REPAIR: &[u8] = b"# function f0000 flow\n# block 0 weight 1 count 1 in 0 o
 # block 3 weight 1 count 1 in 0 out 0\n# edge 0 1 count 1\n# edge 0 2 count 0\n\
 # edge 1 3 count 1\n# edge 2 3 count 0\n# end 0\n";
 
-// The words for a profile of it.
-const LIFT: &[&[u8]] = &[b"lift", b"bin", b"cfg", b"repair"];
+// The words for a profile of it, in the place of a branch text.
+const LIFT: &[&[u8]] = &[b"lift", b"bin", b"cfg", b"perf"];
 
-// The words for eight profiles that are merged, and for what one comes to.
+// The words for eight profiles that are merged, and for what one comes to, in that place too.
 const MERGE: &[&[u8]] = &[
-    b"merge", b"1", b"prof", b"2", b"prof", b"3", b"prof", b"4", b"prof", b"5", b"prof", b"6",
-    b"prof", b"7", b"prof", b"8", b"prof",
+    b"merge", b"1", b"perf", b"2", b"perf", b"3", b"perf", b"4", b"perf", b"5", b"perf", b"6",
+    b"perf", b"7", b"perf", b"8", b"perf",
 ];
 
-const TOTALS: &[&[u8]] = &[b"summary", b"prof"];
+const TOTALS: &[&[u8]] = &[b"summary", b"perf"];
 
 // The words for a summary.
 const SUM: &[&[u8]] = &[b"make", b"1", b"sum"];
 
 // What `make 1 sum` writes.
 const SUMMARY: &[u8] = b"functions 1 branches 5 total 7 cost 40 cuts 0\n";
+
+// The commands, each with what stands in the file `perf`.
+const COMMANDS: [(&[&[u8]], &[u8]); 8] = [
+    (&[b"counts", b"perf"], SAMPLE),
+    (WORDS, SAMPLE),
+    (BUILD, SAMPLE),
+    (CHECK, b""),
+    (SUM, b""),
+    (LIFT, REPAIR),
+    (MERGE, PROFILE),
+    (TOTALS, PROFILE),
+];
 
 // How files are read and an output is written: in pieces, and with calls that fail.
 #[derive(Clone, Copy)]
@@ -125,8 +137,6 @@ fn inputs_of(
         file(alloc, b"cfg", BLOCKS)?,
         file(alloc, b"loop", LOOP)?,
         file(alloc, b"cut", CUT)?,
-        file(alloc, b"repair", REPAIR)?,
-        file(alloc, b"prof", PROFILE)?,
     ]?;
     let fail = vec![in alloc; how.fail_read]?;
     Ok(MemoryInputs::new(files, how.read, fail))
@@ -190,18 +200,18 @@ fn each_failing_read_is_told(rt: HostRuntime) -> Result<(), test::Fail> {
         (BUILD, SAMPLE, 3, 5),
         (CHECK, b"", 1, 4),
         (CHECK, b"", 2, 4),
-        (LIFT, b"", 1, 13),
-        (LIFT, b"", 2, 5),
-        (LIFT, b"", 3, 7),
-        (MERGE, b"", 1, 6),
-        (MERGE, b"", 2, 6),
-        (MERGE, b"", 3, 6),
-        (MERGE, b"", 4, 6),
-        (MERGE, b"", 5, 6),
-        (MERGE, b"", 6, 6),
-        (MERGE, b"", 7, 6),
-        (MERGE, b"", 8, 6),
-        (TOTALS, b"", 1, 6),
+        (LIFT, REPAIR, 1, 13),
+        (LIFT, REPAIR, 2, 5),
+        (LIFT, REPAIR, 3, 7),
+        (MERGE, PROFILE, 1, 6),
+        (MERGE, PROFILE, 2, 6),
+        (MERGE, PROFILE, 3, 6),
+        (MERGE, PROFILE, 4, 6),
+        (MERGE, PROFILE, 5, 6),
+        (MERGE, PROFILE, 6, 6),
+        (MERGE, PROFILE, 7, 6),
+        (MERGE, PROFILE, 8, 6),
+        (TOTALS, PROFILE, 1, 6),
     ];
     for (words, perf, number, calls) in cases {
         for call in 0..calls + 2 {
@@ -232,11 +242,11 @@ fn written_before(write: u64, whole: usize) -> usize {
 fn a_failing_write_cuts_the_output_off(rt: HostRuntime) -> Result<(), test::Fail> {
     let alloc = rt.alloc();
     let bin = binary(alloc, 1)?;
-    for words in [WORDS, BUILD, CHECK, SUM, LIFT, MERGE, TOTALS] {
-        let (_, whole) = answer(alloc, words, &bin, SAMPLE, &failing(0, 0, 99))?;
+    for (words, perf) in COMMANDS {
+        let (_, whole) = answer(alloc, words, &bin, perf, &failing(0, 0, 99))?;
         let writes = whole.len().div_ceil(16) as u64;
         for write in 0..writes.saturating_add(2) {
-            let (status, written) = answer(alloc, words, &bin, SAMPLE, &failing(0, 0, write))?;
+            let (status, written) = answer(alloc, words, &bin, perf, &failing(0, 0, write))?;
             let want = if write <= writes {
                 Status::WriteFault
             } else {
@@ -254,13 +264,13 @@ fn a_failing_write_cuts_the_output_off(rt: HostRuntime) -> Result<(), test::Fail
 fn a_byte_too_little_room_cuts_the_output_off(rt: HostRuntime) -> Result<(), test::Fail> {
     let alloc = rt.alloc();
     let bin = binary(alloc, 1)?;
-    for words in [WORDS, BUILD, CHECK, SUM, LIFT, MERGE, TOTALS] {
-        let (_, whole) = answer(alloc, words, &bin, SAMPLE, &failing(0, 0, 99))?;
+    for (words, perf) in COMMANDS {
+        let (_, whole) = answer(alloc, words, &bin, perf, &failing(0, 0, 99))?;
         let how = Pieces {
             room: whole.len().saturating_sub(1),
             ..failing(0, 0, 99)
         };
-        let (status, written) = answer(alloc, words, &bin, SAMPLE, &how)?;
+        let (status, written) = answer(alloc, words, &bin, perf, &how)?;
         assert_eq!(rt; status, Status::WriteFault);
         assert_eq!(rt; Some(written.as_slice()), whole.get(..how.room));
     }
@@ -296,9 +306,8 @@ fn without_memory_nothing_is_written(rt: HostRuntime) {
     let Ok(bin) = binary(alloc, 1) else {
         return;
     };
-    let counts: &[&[u8]] = &[b"counts", b"perf"];
-    for words in [counts, BUILD, CHECK, SUM, LIFT, MERGE, TOTALS] {
-        if let Ok((status, out)) = answer(alloc, words, &bin, SAMPLE, &failing(0, 0, 99)) {
+    for (words, perf) in COMMANDS {
+        if let Ok((status, out)) = answer(alloc, words, &bin, perf, &failing(0, 0, 99)) {
             let refused = status == Status::NoMemory;
             assert!(rt; refused || status == Status::Done);
             assert_eq!(rt; out.is_empty(), refused);

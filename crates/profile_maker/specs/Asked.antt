@@ -6,10 +6,11 @@ use Rattle.key_types.specs.declared.places.Where.TheVariants.{Outside, Nameless,
 use Rattle.sample_model.specs.declared.pair.Pair.{Pair}
 use Rattle.block_model.specs.declared.parts.Block.{Block}
 use Rattle.span_cover.specs.Asked.{asks}
+use Rattle.cfg_text.specs.declared.fun.Fun.{Fun}
 use Rattle.context_map.specs.Maps.{place_told}
 use Rattle.binary_model.specs.Addresses.{entered_at, factor_of_address, function_of_address}
 use Rattle.binary_model.specs.Places.{Place, outside, nameless, no_line, place_of_address}
-use Rattle.binary_places.specs.Binary.{asks_in}
+use Rattle.binary_places.specs.Binary.{IsPlaced, asks_in}
 use Rattle.binary_places.specs.declared.binary.Placed.{Placed}
 use Rattle.output_model.specs.Program.{Program}
 
@@ -49,3 +50,13 @@ AsksBlock function marks block = (address : ℕ) → block.lo ≤ address → ad
 
 abbrev pub AsksBlocks : (ℕ → Option ℕ) → List Bool → List Block → Type 0
 AsksBlocks function marks blocks = All (AsksBlock function marks) blocks
+
+-- Places of a binary, of functions that were asked for: the ends of these branches and ranges are in them, and all
+-- addresses of the blocks of these functions.
+pub record ArePlacesFor
+    (file : List ℕ) (base : Bool) (branches ranges : List Pair) (funs : List Fun) (placed : Placed) : Type 0 where
+  pub marks : List Bool
+  pub is_placed : IsPlaced file base marks placed
+  pub of_branches : All (AsksEnds (function_of_address file) marks) branches
+  pub of_ranges : All (AsksEnds (function_of_address file) marks) ranges
+  pub in_blocks : All (λ (fun : Fun). AsksBlocks (function_of_address file) marks fun.blocks) funs

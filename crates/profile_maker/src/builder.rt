@@ -10,12 +10,15 @@ ghost use Rattle.flow_model.specs.Sound.{IsSound};
 ghost use Rattle.key_types.specs.Segments.{AreSegments, key_told};
 ghost use Rattle.sample_model.specs.Limits.{max_branches};
 ghost use Rattle.sample_model.specs.Moves.{LoadMap};
+ghost use Rattle.profile_tree.specs.Told.{IsOf};
+ghost use Rattle.report_model.specs.Report.{Sampled};
 ghost use Rattle.repair_model.specs.Made.{AreRepairsOf};
 ghost use Rattle.output_model.specs.Output.{sampled_by};
-ghost use Rattle.output_model.specs.Program.{program_of};
+ghost use Rattle.output_model.specs.Program.{Program, program_of};
 ghost use Rattle.output_model.specs.Scaled.{AreAllAugmentations, IsBuiltBy, augmentations_line};
 ghost use Rattle.profile_writer.specs.Profile.{ran as ranges_run};
 ghost use Rattle.profile_maker.specs.Edges.{edges_by};
+ghost use Rattle.profile_maker.specs.Profiled.{IsProfiled};
 
 use crate::profiled::{Profiled, profile_of};
 use binary_places::Binary;
@@ -53,17 +56,32 @@ pub fn build(
         (map function_of funs.now) out.items) }
 {
     let made = profile_of(alloc, binary, counts, funs)?;
+    text_of(alloc, &made, funs, edges, scaled)
+}
+
+/// The lines of a profile, a repair of each function by its counts, the report, and the line that
+/// tells a number of augmentations where it is asked for.
+fn text_of(
+    alloc: Global,
+    made: &Profiled<'_>,
+    funs: &[Fun<'_>],
+    edges: bool,
+    scaled: bool,
+) -> Result<Vec<u8>, NoMemory>
+    requires segments { AreSegments made.now.placed.map.segments }
+    requires names { All (IsOf made.now.placed.names) made.now.profile.lines }
+    requires few_branches { total_in made.now.branches.items ≤ max_branches }
+    requires sound { All (λ fun. IsSound fun.blocks fun.edges) funs.now }
+    requires few { length funs.now ≤ 2 ^ 29 }
+    ensures { IfOk result (λ out. (program : Program) (sampled : Sampled)
+        → IsProfiled program sampled made.now.placed.names made.now.placed.map.segments
+        made.now.profile made.now.branches.items made.now.total
+        → IsBuiltBy scaled edges program sampled (map function_of funs.now) out.items) }
+{
+    let segments = made.placed.map.segments();
     let mut out = Vec::new(alloc);
     made.profile.push_lines(&made.placed.names, &mut out)?;
-    let augmentations = push_repairs(
-        alloc,
-        &made,
-        made.placed.map.segments(),
-        funs,
-        edges,
-        scaled,
-        &mut out,
-    )?;
+    let augmentations = push_repairs(alloc, made, segments, funs, edges, scaled, &mut out)?;
     made.profile.push_report(&mut out)?;
     push_augmentations(&mut out, scaled, augmentations)?;
     Ok(out)

@@ -1,18 +1,23 @@
 // The profile of a binary, by what was counted of a branch text.
-ghost use Rattle.std.specs.Prelude.{◌≡◌, ◌≤◌, ℕ, Bool, List, Option, map, true, IfOk};
+ghost use Rattle.std.specs.Prelude.{◌≡◌, ◌≤◌, ℕ, Bool, List, Option, length, map, true, IfOk};
 ghost use Rattle.std.specs.List.{All};
-ghost use Rattle.binary_places.specs.Binary.{IsBinary};
-ghost use Rattle.branch_counts.specs.Table.{total_in};
+ghost use Rattle.std.specs.List.Sorted.{IsSorted};
+ghost use Rattle.binary_places.specs.Binary.{IsBinary, IsPlaced};
+ghost use Rattle.branch_counts.specs.Pair.{pair_cmp};
+ghost use Rattle.branch_counts.specs.Table.{Tallies, total_in};
 ghost use Rattle.branch_counts.specs.Tally.{Tells};
 ghost use Rattle.cfg_text.specs.Fun.{function_of};
 ghost use Rattle.key_types.specs.Segments.{AreSegments};
 ghost use Rattle.sample_model.specs.Limits.{max_branches};
-ghost use Rattle.sample_model.specs.Moves.{LoadMap};
+ghost use Rattle.sample_model.specs.Moves.{LoadMap, branches_by, ranges_by};
 ghost use Rattle.output_model.specs.Output.{sampled_by};
 ghost use Rattle.output_model.specs.Program.{program_of};
 ghost use Rattle.profile_tree.specs.Told.{IsOf};
+ghost use Rattle.profile_writer.specs.Profile.{IsProfileOf};
+ghost use Rattle.profile_writer.specs.Told.{TellsSampled};
+ghost use Rattle.report_model.specs.Report.{Sampled};
 ghost use Rattle.span_cover.specs.Stretches.{function_at};
-ghost use Rattle.profile_maker.specs.Asked.{AsksBlocks, AsksEnds};
+ghost use Rattle.profile_maker.specs.Asked.{ArePlacesFor, AsksBlocks, AsksEnds, program_asked};
 ghost use Rattle.profile_maker.specs.Profiled.{IsProfiledLike};
 
 use crate::asked::{ask_blocks, ask_samples};
@@ -35,6 +40,15 @@ pub(crate) struct Profiled<'a> {
     pub(crate) total: u64,
 }
 
+/// What was counted of a branch text, in rows.
+#[derive(Drop)]
+struct Rows {
+    branches: Vec<Pair>,
+    ranges: Vec<Pair>,
+    /// How many branches were sampled, all in all.
+    total: u64,
+}
+
 /// The profile of a binary and its samples. `counts` have the branches and the sampled ranges of a
 /// branch text, as they stand or moved by its load lines. Of the binary it makes the places that
 /// the samples and the blocks of these functions ask for.
@@ -55,35 +69,120 @@ pub(crate) fn profile_of<'a>(
     ensures names { IfOk result (λ made. All (IsOf made.placed.names) made.profile.lines) }
     ensures few { IfOk result (λ made. total_in made.branches.items ≤ max_branches) }
 {
-    let total = counts.total();
-    let ranges = Vec::from_slice(alloc, counts.ranges())?;
-    let branches = counts.into_sorted_branches()?;
     let units = Units {
         read: binary.read as u64,
         passed: binary.passed as u64,
     };
-    let asked = asked_of(alloc, &binary, &branches, &ranges, funs)?;
-    let placed = places(alloc, binary, &asked)?;
+    let Rows {
+        branches,
+        ranges,
+        total,
+    } = rows_of(alloc, counts)?;
+    profile_by_rows(alloc, binary, branches, total, &ranges, units, funs)
+}
+
+/// The rows of branches, by source and then by target, and of sampled ranges.
+fn rows_of(alloc: Global, counts: Counts) -> Result<Rows, NoMemory>
+    ensures told { IfOk result (λ rows. (loading : Option LoadMap) (lines : List (List ℕ))
+        → counts.with_ranges ≡ true → Tells loading lines counts
+        → Tallies (branches_by loading lines) rows.branches.items
+        × Tallies (ranges_by loading lines) rows.ranges.items
+        × (rows.total ≡ length (branches_by loading lines))) }
+    ensures sorted { IfOk result (λ rows. IsSorted pair_cmp rows.branches.items) }
+    ensures few_branches { IfOk result (λ rows. total_in rows.branches.items ≤ max_branches) }
+    ensures few_ranges { IfOk result (λ rows. total_in rows.ranges.items ≤ max_branches) }
+{
+    let total = counts.total();
+    let ranges = Vec::from_slice(alloc, counts.ranges())?;
+    let branches = counts.into_sorted_branches()?;
+    Ok(Rows {
+        branches,
+        ranges,
+        total,
+    })
+}
+
+/// The profile of a binary, by the rows of its branches, of which there are so many all in all, and
+/// by those of its sampled ranges.
+fn profile_by_rows<'a>(
+    alloc: Global,
+    binary: Binary<'a>,
+    branches: Vec<Pair>,
+    total: u64,
+    ranges: &[Pair],
+    units: Units,
+    funs: &[Fun<'_>],
+) -> Result<Profiled<'a>, NoMemory>
+    requires binary { (file : List ℕ) × (base : Bool) × IsBinary file base binary }
+    requires few_branches { total_in branches.items ≤ max_branches }
+    requires few_ranges { total_in ranges.now ≤ max_branches }
+    ensures told { IfOk result (λ made. (file : List ℕ) (base : Bool) (sampled : Sampled)
+        → IsBinary file base binary.entry → TellsSampled sampled branches.items ranges.now units
+        → total ≡ length sampled.branches
+        → IsProfiledLike (program_of file base) (map function_of funs.now) sampled
+        made.placed.names made.placed.map.segments made.profile made.branches.items made.total) }
+    ensures segments { IfOk result (λ made. AreSegments made.placed.map.segments) }
+    ensures names { IfOk result (λ made. All (IsOf made.placed.names) made.profile.lines) }
+    ensures few { IfOk result (λ made. total_in made.branches.items ≤ max_branches) }
+{
+    let placed = places_of(alloc, binary, &branches, ranges, funs)?;
     let samples = Samples {
         branches: &branches,
-        ranges: &ranges,
+        ranges,
         units,
     };
-    let map = &placed.map;
-    let profile = Profile::make(
-        alloc,
-        &samples,
-        map,
-        map.segments(),
-        &placed.keys,
-        &placed.names,
-    )?;
+    let profile = profile_over(alloc, &samples, &placed)?;
     Ok(Profiled {
         profile,
         placed,
         branches,
         total,
     })
+}
+
+/// The profile of these samples over these places.
+fn profile_over(
+    alloc: Global,
+    samples: &Samples<'_>,
+    placed: &Placed<'_>,
+) -> Result<Profile, NoMemory>
+    requires placed { (file : List ℕ) × (base : Bool) × (marks : List Bool)
+        × IsPlaced file base marks placed.now }
+    requires few_branches { total_in samples.now.branches.now ≤ max_branches }
+    requires few_ranges { total_in samples.now.ranges.now ≤ max_branches }
+    ensures told { IfOk result (λ profile. (file : List ℕ) (base : Bool) (marks : List Bool)
+        (sampled : Sampled) → IsPlaced file base marks placed.now
+        → TellsSampled sampled samples.now.branches.now samples.now.ranges.now samples.now.units
+        → IsProfileOf (program_asked file base marks placed.now) sampled placed.now.names
+        placed.now.map.segments profile) }
+    ensures names { IfOk result (λ profile. All (IsOf placed.now.names) profile.lines) }
+{
+    let map = &placed.map;
+    Profile::make(
+        alloc,
+        samples,
+        map,
+        map.segments(),
+        &placed.keys,
+        &placed.names,
+    )
+}
+
+/// The places of a binary that these samples and functions ask for.
+fn places_of<'a>(
+    alloc: Global,
+    binary: Binary<'a>,
+    branches: &[Pair],
+    ranges: &[Pair],
+    funs: &[Fun<'_>],
+) -> Result<Placed<'a>, NoMemory>
+    requires { (file : List ℕ) × (base : Bool) × IsBinary file base binary }
+    ensures { IfOk result (λ placed. (file : List ℕ) (base : Bool)
+        → IsBinary file base binary.entry
+        → ArePlacesFor file base branches.now ranges.now funs.now placed) }
+{
+    let asked = asked_of(alloc, &binary, branches, ranges, funs)?;
+    places(alloc, binary, &asked)
 }
 
 /// The functions of a binary whose places these samples and functions ask for.

@@ -6,12 +6,15 @@ ghost use Rattle.binary_places.specs.Binary.{IsBinary};
 ghost use Rattle.branch_counts.specs.Tally.{Tells};
 ghost use Rattle.cfg_text.specs.Fun.{function_of};
 ghost use Rattle.flow_model.specs.Sound.{IsSound};
+ghost use Rattle.key_types.specs.Segments.{AreSegments};
+ghost use Rattle.report_model.specs.Report.{Sampled};
 ghost use Rattle.sample_model.specs.Moves.{LoadMap};
 ghost use Rattle.output_model.specs.Output.{sampled_by};
-ghost use Rattle.output_model.specs.Program.{program_of};
+ghost use Rattle.output_model.specs.Program.{Program, program_of};
 ghost use Rattle.output_model.specs.Summary.{IsSummary, summary_text};
+ghost use Rattle.profile_maker.specs.Profiled.{IsProfiled};
 
-use crate::profiled::profile_of;
+use crate::profiled::{Profiled, profile_of};
 use binary_places::Binary;
 use branch_counts::Counts;
 use cfg_text::Fun;
@@ -51,6 +54,18 @@ pub fn summarize(
         (map function_of funs.now) out.items) }
 {
     let made = profile_of(alloc, binary, counts, funs)?;
+    line_of(alloc, &made, funs)
+}
+
+/// The line that sums up a profile and the repairs of these functions by its counts.
+fn line_of(alloc: Global, made: &Profiled<'_>, funs: &[Fun<'_>]) -> Result<Vec<u8>, NoMemory>
+    requires segments { AreSegments made.now.placed.map.segments }
+    requires sound { All (λ fun. IsSound fun.blocks fun.edges) funs.now }
+    ensures { IfOk result (λ out. (program : Program) (sampled : Sampled)
+        → IsProfiled program sampled made.now.placed.names made.now.placed.map.segments
+        made.now.profile made.now.branches.items made.now.total
+        → IsSummary program sampled (map function_of funs.now) out.items) }
+{
     let segments = made.placed.map.segments();
     let costs = costs_of(alloc, funs, segments, made.profile.counts())?;
     text_of(

@@ -1,34 +1,15 @@
-use Rattle.std.proofs.Common.{ℕ, List, map, subst, sym}
-use Rattle.std.specs.List.{AllZip}
-use Rattle.std.proofs.lemmas.List.{length-map}
+use Rattle.std.proofs.Common.{map}
 use Rattle.std.proofs.lemmas.Result.{IfOk-weaker}
 use Rattle.asked_laws.proofs.BuildLemmas.{summaries_ask_no_more}
-use Rattle.block_weights.specs.Counts.{count_in}
 use Rattle.cfg_text.specs.Fun.{function_of}
-use Rattle.key_types.specs.Segments.{key_told}
-use Rattle.key_types.specs.declared.places.Seg.{Seg}
 use Rattle.output_model.specs.Output.{sampled_by}
 use Rattle.output_model.specs.Program.{program_of}
-use Rattle.output_model.specs.Summary.{IsRepairCost}
-use Rattle.profile_writer.specs.Profile.{IsProfileOf}
-use Rattle.profile_maker.proofs.SummaryLemmas.{summarized}
 use Rattle.profile_maker.proofs.summary.summarize.Goals as goal
 
 pub returns : goal.returns
 returns c =
-    IfOk-weaker c.text_of.result _ _ (λ out spelled file base loading lines is with_ranges tells.
-    let names = c.in_ok-made.made.placed.names in
-    let funs = map function_of c.args.funs.now in
+    IfOk-weaker c.line_of.result _ _ (λ out summed file base loading lines is with_ranges tells.
     let sampled = sampled_by loading file lines in
-    let profile = c.in_ok-made.made.profile in
     let like = c.in_ok-made.ensures.told file base loading lines is with_ranges tells in
-    let program = like.program in
-    let made = like.profiled in
-    let told : IsProfileOf program sampled names c.segments-segments.result.now profile =
-    subst (λ (segments : List Seg). IsProfileOf program sampled names segments profile) (sym c.segments-segments.ensures) made.profile in
-    let (costs, each, cost_is, cuts_are) = c.in_ok-costs.ensures in
-    summaries_ask_no_more sampled program (program_of file base) funs out.items like.answers like.in_blocks
-    (summarized program sampled names c.segments-segments.result.now profile funs told
-    _ _ _ _ _ (sym (length-map c.args.funs.now function_of)) made.total_is c.total.ensures costs
-    (subst (λ (counts : List ℕ). AllZip (IsRepairCost (key_told c.segments-segments.result.now) (count_in counts)) funs costs) c.counts.ensures.same each)
-    cost_is cuts_are out.items spelled)) c.text_of.ensures
+    summaries_ask_no_more sampled like.program (program_of file base) (map function_of c.args.funs.now) out.items like.answers like.in_blocks
+    (summed like.program sampled like.profiled)) c.line_of.ensures

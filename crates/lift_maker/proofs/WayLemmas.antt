@@ -9,6 +9,7 @@ use Rattle.asked_laws.proofs.LiftLemmas.{lifts_ask_no_more}
 use Rattle.binary_places.specs.Binary.{IsPlaced}
 use Rattle.binary_places.specs.declared.binary.Placed.{Placed}
 use Rattle.block_model.specs.Function.{Function}
+use Rattle.block_model.specs.Text.{functions_of}
 use Rattle.context_map.specs.Maps.{place_told}
 use Rattle.key_types.specs.Segments.{segment_at}
 use Rattle.key_types.specs.declared.key.Frame.{Frame}
@@ -16,21 +17,27 @@ use Rattle.key_types.specs.declared.key.Key.{Key}
 use Rattle.key_types.specs.declared.places.Seg.{Seg}
 use Rattle.key_types.specs.declared.places.Where.{Where}
 use Rattle.line_lift.specs.Lift.{HaveKeys, way_in}
-use Rattle.output_model.specs.Lift.{held_by, repaired_in}
-use Rattle.output_model.specs.Program.{Program, way_at, way_of_place}
+use Rattle.output_model.specs.Lift.{held_by, lifted as lifted_in, repaired_in}
+use Rattle.output_model.specs.Program.{Program, program_of, way_at, way_of_place}
 use Rattle.repair_model.specs.Text.{repairs_of}
 use Rattle.profile_lists.specs.Segments.{AllFit}
 use Rattle.profile_maker.specs.Asked.{program_asked}
 use Rattle.profile_maker.proofs.NameLemmas.{keys_have_names}
 use Rattle.profile_maker.proofs.SegmentLemmas.{segments_fit}
 use Rattle.profile_maker.proofs.ShownLemmas.{programs_shown}
+use Rattle.profile_model.specs.Spelled.{spelled}
+use Rattle.profile_model.specs.Text.{profile_text}
 use Rattle.profile_model.specs.Ways.{Way, to_call, to_function}
-use Rattle.profile_text.proofs.OpenLemmas.{kept_grows, name_kept}
+use Rattle.profile_text.proofs.OpenLemmas.{name_kept}
 use Rattle.profile_text.specs.Draft.{Kept}
 use Rattle.profile_tree.specs.Known.{HasNames}
 use Rattle.profile_tree.specs.Said as said
 use Rattle.profile_tree.specs.Steps.{at_line, frame_step, name_at, named, steps_of, steps_of_given}
 use Rattle.profile_writer.specs.Told.{TellsPlace, key_of}
+use Rattle.lift_maker.specs.Lift.{Lifts}
+use Rattle.lift_maker.specs.Tested.{LiftsBy}
+use Rattle.lift_maker.specs.declared.maker.Lifted.{Lifted}
+use Rattle.lift_maker.specs.declared.maker.Lifted.TheVariants.{Failed, Text}
 
 some_key : (keys : List Key) (k : ℕ) → k < length keys → Key
 some_key [] k within = absurd (omega (arith, within))
@@ -89,11 +96,18 @@ have_keys n m le (segment ∷ segments) fit =
     let here = fit.0 in
     (omega (arith, here, le), have_keys n m le segments fit.2)
 
--- Its keys are still among all keys.
-pub keys_stay : (bytes : List ℕ) (base : Bool) (marks : List Bool) (placed : Placed) (more_keys : List Key) → IsPlaced bytes base marks placed → Kept placed.keys more_keys
-    → HaveKeys (length more_keys) placed.map.segments
-keys_stay bytes base marks placed more_keys is keys_kept =
-    have_keys (length placed.keys) (length more_keys) (kept_grows placed.keys more_keys keys_kept) placed.map.segments (segments_fit bytes base marks placed is)
+-- Its keys are among those that were told.
+pub keys_told : (bytes : List ℕ) (base : Bool) (marks : List Bool) (placed : Placed) → IsPlaced bytes base marks placed
+    → HaveKeys (length placed.keys) placed.map.segments
+keys_told bytes base marks placed is =
+    have_keys (length placed.keys) (length placed.keys) (omega (arith)) placed.map.segments (segments_fit bytes base marks placed is)
+
+-- They stay among more keys.
+pub more_have_keys : (n m : ℕ) → n ≤ m → (segments : List Seg) → HaveKeys n segments → HaveKeys m segments
+more_have_keys n m le [] have = tt
+more_have_keys n m le (segment ∷ segments) have =
+    let here = have.0 in
+    (omega (arith, here, le), more_have_keys n m le segments have.1)
 
 -- What is held in the blocks is what the whole binary tells.
 first_of : {B : Type 0} (P : Function → Type 0) (funs : List Function) (others : List B) → AllByRecursion P funs → AllByRecursion P (map (λ it. it.0) (zip funs others))
@@ -106,3 +120,19 @@ pub held_same : (program other : Program) (funs : List Function) (out : List ℕ
 held_same program other funs out alike =
     lifts_ask_no_more program other (repaired_in funs out)
     (first_of (λ (fun : Function). AllByRecursion (AreAlikeIn program other) fun.blocks) funs (map (λ it. it.1) (repairs_of funs out)) alike)
+
+-- What lifting comes to by its segments is what it comes to by the binary.
+pub lifts_of_binary : (bytes : List ℕ) (base : Bool) (marks : List Bool) (placed : Placed) (more : List (List ℕ)) (more_keys : List Key) → IsPlaced bytes base marks placed
+    → Kept placed.names more → Kept placed.keys more_keys → (segments : List Seg) → segments ≡ placed.map.segments
+    → (blocks text : List ℕ) → AreAlikeInBlocks (program_asked bytes base marks placed) (program_of bytes base) (functions_of blocks)
+    → (lifted : Lifted) → LiftsBy (way_in more more_keys segments) blocks text lifted → Lifts bytes base blocks text lifted
+lifts_of_binary bytes base marks placed more more_keys is kept keys_kept segments same blocks text alike (Failed line) on = on
+lifts_of_binary bytes base marks placed more more_keys is kept keys_kept segments same blocks text alike (Text out) on =
+    let ways = ways_stay bytes base marks placed more more_keys is kept keys_kept in (
+      on.0,
+      on.1
+          ∙ ap (λ segments. profile_text (lifted_in (held_by (way_in more more_keys segments) (repaired_in (functions_of blocks) text)) (spelled text))) same
+          ∙ (λ i. profile_text (lifted_in (held_by (λ address. ways address i) (repaired_in (functions_of blocks) text)) (spelled text)))
+          ∙ ap (λ held. profile_text (lifted_in held (spelled text)))
+          (held_same (program_asked bytes base marks placed) (program_of bytes base) (functions_of blocks) text alike),
+    )

@@ -1,21 +1,25 @@
 // What was built of a binary, with the repaired counts of blocks on its lines.
 ghost use Rattle.std.specs.Prelude.{◌≡◌, ◌≤◌, ◌^◌, ℕ, All, Bool, List, length, map, IfOk};
-ghost use Rattle.std.specs.List.{AllByRecursion};
+ghost use Rattle.std.specs.List.{AllByRecursion, AllZip};
 ghost use Rattle.refusal.specs.Place.{JudgesUnlessNoMemory};
 ghost use Rattle.binary_places.specs.Binary.{IsBinary};
 ghost use Rattle.block_model.specs.Text.{functions_of};
 ghost use Rattle.cfg_text.specs.Fun.{function_of};
 ghost use Rattle.flow_model.specs.Sound.{IsSound};
 ghost use Rattle.key_types.specs.Segments.{AreSegments};
-ghost use Rattle.line_lift.specs.Lift.{HaveKeys, lifted_by, repaired};
+ghost use Rattle.line_lift.specs.Lift.{HaveKeys, lifted_by, repaired, way_in};
 ghost use Rattle.profile_laws.specs.Once.{StandOnce};
 ghost use Rattle.profile_model.specs.Judging.{first_bad_of_profile};
 ghost use Rattle.profile_model.specs.Text.{profile_text};
-ghost use Rattle.profile_text.specs.Draft.{IsGivenItem};
+ghost use Rattle.profile_text.specs.Draft.{IsGivenItem, Kept};
 ghost use Rattle.profile_text.specs.Text.{TellText};
 ghost use Rattle.profile_tree.specs.Known.{HasNames};
+ghost use Rattle.repair_model.specs.Checking as model;
+ghost use Rattle.repair_model.specs.Laws.{IsToldOf};
+ghost use Rattle.repair_text.specs.Repair.{numbered};
 ghost use Rattle.lift_maker.specs.Lift.{Lifts, first_bad_of_lines};
 ghost use Rattle.lift_maker.specs.Placed.{IsPlacedIn};
+ghost use Rattle.lift_maker.specs.Tested.{LiftsBy, LiftsTo};
 
 use binary_places::{Asked, Binary, Placed, places};
 use cfg_text::Fun;
@@ -64,14 +68,66 @@ pub fn lift<'a>(
 {
     let placed = placed_for(alloc, binary, funs)?;
     let (mut names, mut keys) = (placed.names, placed.keys);
-    let part = read_part(alloc, text, file, &mut names, &mut keys)?;
+    let segments = placed.map.segments();
+    lift_on(alloc, segments, funs, text, file, &mut names, &mut keys)
+}
+
+/// What lifting comes to on the segments of a binary, of these names and keys. Those of the text
+/// are added to them.
+fn lift_on<'a>(
+    alloc: Global,
+    segments: &[Seg],
+    funs: &[Fun<'_>],
+    text: &'a [u8],
+    file: u8,
+    names: &mut Names<'a>,
+    keys: &mut Keys,
+) -> Result<Lifted, Stop>
+    requires size { length text.now ≤ 2 ^ 28 }
+    requires segments { AreSegments segments.now }
+    requires known { HaveKeys (length keys.old) segments.now }
+    requires key_names { All (HasNames (length names.old)) keys.old }
+    requires sound { All (λ fun. IsSound fun.blocks fun.edges) funs.now }
+    ensures { (blocks : List ℕ) → map function_of funs.now ≡ functions_of blocks
+        → JudgesUnlessNoMemory (first_bad_of_lines file (functions_of blocks) text.now) result
+        (λ lifted. Kept names.old names.new × Kept keys.old keys.new
+        × LiftsBy (way_in names.new keys.new segments.now) blocks text.now lifted) }
+{
+    let part = read_part(alloc, text, file, names, keys)?;
     let repairs = repair_text::read(alloc, text, file, funs)?;
-    let failed = failed_line(alloc, funs, &repairs)?;
+    let lifted = lift_read(alloc, &part, segments, funs, &repairs, keys, names)?;
+    Ok(lifted)
+}
+
+/// What lifting comes to by what was read: these repairs are tested, and if all pass, stand on the
+/// lines of this profile.
+fn lift_read(
+    alloc: Global,
+    part: &Profile,
+    segments: &[Seg],
+    funs: &[Fun<'_>],
+    repairs: &[Repair],
+    keys: &Keys,
+    names: &Names<'_>,
+) -> Result<Lifted, NoMemory>
+    requires segments { AreSegments segments.now }
+    requires known { HaveKeys (length keys.now) segments.now }
+    requires once { StandOnce (λ item. item.what) part.now.items }
+    requires given { AllByRecursion (IsGivenItem (length names.now) (length keys.now))
+        part.now.items }
+    requires key_names { All (HasNames (length names.now)) keys.now }
+    requires sound { All (λ fun. IsSound fun.blocks fun.edges) funs.now }
+    requires told { AllZip IsToldOf (map function_of funs.now) (map numbered repairs.now) }
+    ensures { IfOk result (LiftsTo
+        (model.failed_line (map function_of funs.now) (map numbered repairs.now))
+        (profile_text (lifted_by names.now keys.now segments.now
+        (repaired funs.now repairs.now) part.now.items))) }
+{
+    let failed = failed_line(alloc, funs, repairs)?;
     if let Some(line) = failed {
         return Ok(Lifted::Failed(line));
     }
-    let segments = placed.map.segments();
-    let out = text_of(alloc, &part, segments, funs, &repairs, &keys, &names)?;
+    let out = text_of(alloc, part, segments, funs, repairs, keys, names)?;
     Ok(Lifted::Text(out))
 }
 

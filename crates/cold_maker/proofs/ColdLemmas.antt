@@ -1,8 +1,12 @@
 -- The keys of a binary are the places of its addresses.
-use Rattle.std.proofs.Common.{◌≡◌, ℕ, zero, suc, ◌<◌, ◌≤◌, ◌-◌, ◌^◌, Bool, true, List, [], ◌∷◌, ◌++◌, map, filter, length, Option, None, Some, refl, sym, ap, subst, ◌∙◌, arith}
+use Rattle.std.proofs.Common.{◌≡◌, ℕ, zero, suc, ◌<◌, ◌≤◌, ◌+◌, ◌-◌, ◌^◌, Bool, true, List, [], ◌∷◌, ◌++◌, map, filter, length, Option, None, Some, Result, refl, sym, ap, subst, ◌∙◌, arith}
 use Rattle.std.specs.Prelude.{if◌then◌else◌}
 use Rattle.std.specs.List.{filter_map, range_with_len}
 use Rattle.std.specs.Option.{option_map}
+use Rattle.std.specs.Global.{Vec}
+use Rattle.refusal.specs.declared.place.Place.{Place}
+use Rattle.refusal.specs.declared.place.Stop.{Stop}
+use Rattle.refusal.specs.Place.{JudgesUnlessNoMemory}
 use Rattle.address_spans.proofs.SpanLemmas.{held, missed-behind, reach}
 use Rattle.address_spans.specs.Spans.{AreBetween}
 use Rattle.binary_model.specs.Addresses.{function_of_address}
@@ -12,7 +16,6 @@ use Rattle.binary_places.specs.declared.binary.Placed.{Placed}
 use Rattle.context_map.specs.Maps.{place_told}
 use Rattle.cold_model.proofs.ColdLemmas.{same_lines}
 use Rattle.cold_model.specs.Cold.{cold_lines_of, stands_in}
-use Rattle.key_types.specs.Numbers.{IsNumbered}
 use Rattle.key_types.specs.Segments.{HasSegment, segment_at, span_of}
 use Rattle.key_types.specs.declared.key.Key.{Key}
 use Rattle.key_types.specs.declared.places.Seg.{Seg}
@@ -22,7 +25,6 @@ use Rattle.output_model.specs.Program as program_told
 use Rattle.output_model.specs.Sampled.{all_addresses}
 use Rattle.profile_lists.specs.Laws.{place_by}
 use Rattle.profile_maker.specs.Asked.{lack_of}
-use Rattle.profile_maker.proofs.NameLemmas.{keys_have_names}
 use Rattle.profile_maker.proofs.ShownLemmas.{programs_shown}
 use Rattle.profile_merge.proofs.TellLemmas.{what_same}
 use Rattle.profile_merge.specs.Laws.{AreNumbered}
@@ -95,62 +97,35 @@ module _ (bytes : List ℕ) (base : Bool) (placed : Placed) (is : IsPlaced bytes
       kept_among way_here there.at (way_at placed.names placed.keys n) all_addresses (inside there.at there.high)
       (way_of_key placed.names placed.keys (place_of_address bytes base there.at) (place_told placed.map there.at) (place_shown there.at) n (sym (shown.keys_told there.at) ∙ there.is))
 
-  -- ---- behind the names and keys of a profile text
+  -- ---- the lines of a profile
 
-  module _ (text : List ℕ) (items : List Item) (more : List (List ℕ)) (more_keys : List Key)
-      (names_once : IsNumbered placed.names) (keys_once : IsNumbered placed.keys) (tells : TellText placed.names placed.keys text items more more_keys)
-      (more_names_once : IsNumbered more) (more_keys_once : IsNumbered more_keys) where
-    before : AreNumbered placed.names placed.keys
-    before = record { names_once = names_once; keys_once = keys_once; key_names = keys_have_names bytes base [] placed is }
-
-    behind : AreNumbered more more_keys
-    behind = record { names_once = more_names_once; keys_once = more_keys_once; key_names = tells.named }
-
-    way_in : ToldWhat → Way
-    way_in (head name) = []
-    way_in (count way) = way
-    way_in (target way name) = way
-
-    way_stays : (n : ℕ) → n < length placed.keys → way_at more more_keys n ≡ way_at placed.names placed.keys n
-    unfolding way_in
-    way_stays n given = ap way_in (what_same placed.names more placed.keys more_keys before tells.names_kept tells.keys_kept (Count (record { 0 = n })) given)
-
-    abbrev p : Profile
-    p = counted more more_keys items
-
+  module _ (p : Profile) where
     abbrev ways : List Way
-    ways = first_ways more more_keys (length placed.keys)
+    ways = first_ways placed.names placed.keys (length placed.keys)
 
     abbrev places : List Way
     places = filter_map way_here all_addresses
 
-    -- the ways of the first keys are those of all addresses
+    -- the ways of the keys are those of all addresses
     there : (z : Way) → Among z ways → Among z places
     there z h =
-        let key = among_map_back (way_at more more_keys) z (range_with_len 0 (length placed.keys)) h in
+        let key = among_map_back (way_at placed.names placed.keys) z (range_with_len 0 (length placed.keys)) h in
         let range = among_range 0 (length placed.keys) key.0 key.1 in
-        let given : key.0 < length placed.keys = omega (arith, range.1) in
-        subst (λ w. Among w places) (sym (key.2 ∙ way_stays key.0 given)) (key_among key.0 given)
+        subst (λ w. Among w places) (sym key.2) (key_among key.0 (omega (arith, range.1)))
 
     back : (z : Way) → Among z places → Among z ways
     back z h =
         let from = kept_from way_here z all_addresses h in
         let key = key_of_way placed.names placed.keys (place_of_address bytes base from.0) (place_told placed.map from.0) (place_shown from.0) z from.2 in
-        subst (λ w. Among w ways) (way_stays key.0.0 key.2 ∙ key.3)
-        (among_map (way_at more more_keys) key.0.0 (range_with_len 0 (length placed.keys))
+        subst (λ w. Among w ways) key.3
+        (among_map (way_at placed.names placed.keys) key.0.0 (range_with_len 0 (length placed.keys))
         (range_among 0 (length placed.keys) key.0.0 (omega arith) (omega (arith, key.2))))
 
     kept_both : (test : Way → Bool) (xs ys : List Way) → ((z : Way) → Among z xs → Among z ys) → (z : Way) → Among z (filter test xs) → Among z (filter test ys)
     kept_both test xs ys inside z h = let kept = among_filter_back test z xs h in among_filter test z ys kept.0 (inside z kept.1)
 
-    kept_itself : {T : Type 0} (xs : List T) → Kept xs xs
-    kept_itself xs = λ n x h. h
-
-    told_is : p ≡ spelled text
-    told_is = ap profile_by (tells.told.tell more more_keys (kept_itself more) (kept_itself more_keys))
-
     -- What has lines besides is what the definition says.
-    pub lines_are : cold_lines_of ways p ≡ cold_lines (program_of bytes base) (spelled text)
+    pub lines_are : cold_lines_of ways p ≡ cold_lines (program_of bytes base) p
     unfolding cold_lines
     lines_are =
         let cmp = way_cmp (total_of_function p) in
@@ -161,10 +136,49 @@ module _ (bytes : List ℕ) (base : Bool) (placed : Placed) (is : IsPlaced bytes
         (λ z. bool_same (has cmp z one) (has cmp z all)
         (λ e. among_has cmp t z all (kept_both (stands_in p) ways places there z (has_among cmp t z one e)))
         (λ e. among_has cmp t z one (kept_both (stands_in p) places ways back z (has_among cmp t z all e))))
-        ∙ ap (cold_lines_of places) told_is
 
-    pub output_is : (known : ℕ) → known ≡ length placed.keys → text_of_lines (cold_lines_of (first_ways more more_keys known) p) ≡ cold_output base bytes text
-    output_is known is_known = ap (λ n. text_of_lines (cold_lines_of (first_ways more more_keys n) p)) is_known ∙ ap text_of_lines lines_are
+  pub output_is : (text : List ℕ) → text_of_lines (cold_lines_of (first_ways placed.names placed.keys (length placed.keys)) (spelled text)) ≡ cold_output base bytes text
+  output_is text = ap text_of_lines (lines_are (spelled text))
+
+-- ---- behind the names and keys of a binary
+
+same_in_range : {T : Type 0} (f g : ℕ → T) (from n : ℕ) → ((k : ℕ) → from ≤ k → k < from + n → f k ≡ g k) → map f (range_with_len from n) ≡ map g (range_with_len from n)
+same_in_range f g from zero same = refl
+same_in_range f g from (suc n) same =
+    λ i. same from (omega arith) (omega arith) i ∷ same_in_range f g (from + 1) n (λ k low high. same k (omega (arith, low)) (omega (arith, high))) i
+
+module _ (names : List (List ℕ)) (keys : List Key) (text : List ℕ) (items : List Item) (more : List (List ℕ)) (more_keys : List Key)
+    (before : AreNumbered names keys) (tells : TellText names keys text items more more_keys) where
+  way_in : ToldWhat → Way
+  way_in (head name) = []
+  way_in (count way) = way
+  way_in (target way name) = way
+
+  way_stays : (n : ℕ) → n < length keys → way_at more more_keys n ≡ way_at names keys n
+  unfolding way_in
+  way_stays n given = ap way_in (what_same names more keys more_keys before tells.names_kept tells.keys_kept (Count (record { 0 = n })) given)
+
+  ways_stay : first_ways more more_keys (length keys) ≡ first_ways names keys (length keys)
+  ways_stay = same_in_range (way_at more more_keys) (way_at names keys) 0 (length keys) (λ k low high. way_stays k (omega (arith, high)))
+
+  kept_itself : {T : Type 0} (xs : List T) → Kept xs xs
+  kept_itself xs = λ n x h. h
+
+  told_is : counted more more_keys items ≡ spelled text
+  told_is = ap profile_by (tells.told.tell more more_keys (kept_itself more) (kept_itself more_keys))
+
+  -- What was read of a text is what it spells, and the ways of the keys before it stay.
+  pub read_behind : (known : ℕ) → known ≡ length keys
+      → text_of_lines (cold_lines_of (first_ways more more_keys known) (counted more more_keys items))
+      ≡ text_of_lines (cold_lines_of (first_ways names keys (length keys)) (spelled text))
+  read_behind known is_known =
+      ap (λ n. text_of_lines (cold_lines_of (first_ways more more_keys n) (counted more more_keys items))) is_known
+      ∙ (λ i. text_of_lines (cold_lines_of (ways_stay i) (told_is i)))
+
+-- The same is judged by the same.
+pub judges_same : (bad : Option Place) (r : Result (Vec ℕ) Stop) (text other : List ℕ) → text ≡ other → JudgesUnlessNoMemory bad r (λ out. out.items ≡ text)
+    → JudgesUnlessNoMemory bad r (λ out. out.items ≡ other)
+judges_same bad r text other same judged = subst (λ t. JudgesUnlessNoMemory bad r (λ out. out.items ≡ t)) same judged
 
 -- What was appended to nothing stands alone.
 pub stands_alone : (out front more text : List ℕ) → out ≡ front ++ more → front ≡ [] → more ≡ text → out ≡ text

@@ -1,5 +1,5 @@
 // How hot the lines of a profile text are.
-ghost use Rattle.std.specs.Prelude.{◌≡◌, ◌≤◌, ◌^◌, length};
+ghost use Rattle.std.specs.Prelude.{◌≡◌, ◌≤◌, ◌^◌, [], length};
 ghost use Rattle.refusal.specs.Place.{JudgesUnlessNoMemory};
 ghost use Rattle.profile_model.specs.Judging.{first_bad_of_profile};
 ghost use Rattle.profile_model.specs.Spelled.{spelled};
@@ -22,10 +22,27 @@ pub fn summarize(alloc: Global, text: &[u8], file: u8) -> Result<Vec<u8>, Stop>
 {
     let mut names = Names::new(alloc)?;
     let mut keys = Keys::new(alloc)?;
-    let part = read(alloc, text, file, &mut names, &mut keys)?;
+    summary_read(alloc, text, file, &mut names, &mut keys)
+}
+
+/// The same by these names and keys, which are none before the text is read.
+fn summary_read<'a>(
+    alloc: Global,
+    text: &'a [u8],
+    file: u8,
+    names: &mut Names<'a>,
+    keys: &mut Keys,
+) -> Result<Vec<u8>, Stop>
+    requires size { length text.now ≤ 2 ^ 28 }
+    requires no_names { names.old ≡ [] }
+    requires no_keys { keys.old ≡ [] }
+    ensures { JudgesUnlessNoMemory (first_bad_of_profile file text.now) result
+        (λ out. out.items ≡ summary_text (spelled text.now)) }
+{
+    let part = read(alloc, text, file, names, keys)?;
     names.each_once();
     keys.each_once();
     let mut out = Vec::new(alloc);
-    summary(alloc, &part, &keys, &mut out)?;
+    summary(alloc, &part, keys, &mut out)?;
     Ok(out)
 }

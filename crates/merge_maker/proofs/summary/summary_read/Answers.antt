@@ -1,7 +1,7 @@
 use Rattle.std.proofs.Common.{ap}
 use Rattle.profile_model.specs.Summary.{summary_text}
 use Rattle.merge_maker.proofs.MergeLemmas.{part_is_spelled, stands_alone}
-use Rattle.merge_maker.proofs.summary.summarize.Goals as goal
+use Rattle.merge_maker.proofs.summary.summary_read.Goals as goal
 
 pub returns : goal.returns
 returns c =

@@ -1,5 +1,5 @@
 // `merge`: the sum of profiles, each with a weight.
-ghost use Rattle.std.specs.Prelude.{◌≡◌, ◌≤◌, ℕ, List, length, map};
+ghost use Rattle.std.specs.Prelude.{◌≡◌, ◌≤◌, ℕ, List, [], length, map};
 ghost use Rattle.io_edge.specs.Faults.{raised};
 ghost use Rattle.command_model.specs.Command.{merge as merge_command};
 ghost use Rattle.command_words.specs.Words.{told_weighed};
@@ -37,13 +37,31 @@ pub(crate) fn output<I: Inputs>(
     // The buffers come first: names are borrowed from them.
     let mut buffers: [Vec<u8>; MOST_FILES] = array::from_fn(|_| Vec::new(alloc));
     let mut merge = Merge::new(alloc)?;
+    merged_text(alloc, parts, inputs, &mut buffers, &mut merge)
+}
+
+/// The same, with the buffers that the files are read into and a merge that has read none.
+fn merged_text<'a, I: Inputs>(
+    alloc: Global,
+    parts: &[Part<'_>],
+    inputs: &mut I,
+    buffers: &'a mut [Vec<u8>; MOST_FILES],
+    merge: &mut Merge<'a>,
+) -> Result<Vec<u8>, Halt>
+    requires few { length parts.now ≤ 8 }
+    requires none { IsMergeOf merge.old [] }
+    ensures carried { Carries
+        (merge_command (map told_weighed parts.now)) (I.store inputs.old) result
+        (I.opens inputs.old) (I.opens inputs.new) (I.faults inputs.old) (I.faults inputs.new) }
+    ensures store { I.store inputs.new ≡ I.store inputs.old }
+{
     let mut free = buffers.iter_mut();
     let mut k = 0;
     for part in parts {
         // There is one for each file.
         let buffer = free.next().unwrap();
         k += 1;
-        add_file(alloc, inputs, k, *part, buffer, &mut merge)?;
+        add_file(alloc, inputs, k, *part, buffer, merge)?;
     }
     let text = merge.text(alloc)?;
     Ok(text)

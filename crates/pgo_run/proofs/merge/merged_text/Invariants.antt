@@ -2,7 +2,7 @@ use Rattle.std.specs.Slice.Iter.{iter_mut_rest}
 use Rattle.std.proofs.Common.{◌+◌, length, ◌≡◌, map}
 use Rattle.command_words.specs.Words.{told_weighed}
 use Rattle.pgo_run.proofs.MergeLemmas.{Merging}
-use Rattle.pgo_run.proofs.merge.output.Given as goal
+use Rattle.pgo_run.proofs.merge.merged_text.Given as goal
 
 abbrev pub invariant-loop-part : goal.invariant-loop-part
 invariant-loop-part g l = record {

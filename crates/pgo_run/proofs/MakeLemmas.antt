@@ -165,18 +165,17 @@ made-summary n store text opens faults first second third is = record {
   cause = refl;
 }
 
--- The summary of a binary, of what was counted of a branch text, and of a block text.
-pub summed : (n : ℕ) (bytes : List ℕ) (binary : Binary) (counts : Tally) (blocks out : List ℕ) (funs : List Fun)
-    → bytes ≡ case_file bin_file n → blocks ≡ case_file cfg_file n → IsBinary bytes false binary
-    → ((file : List ℕ) (base : Bool) (loading : Option LoadMap) (lines : List (List ℕ)) → IsBinary file base binary → counts.with_ranges ≡ true → Tells loading lines counts
-    → IsSummary (program_of file base) (sampled_by loading file lines) (map function_of funs) out)
-    → counts.with_ranges ≡ true → Tells None (lines_of (case_file perf_file n)) counts → map function_of funs ≡ functions_of blocks
-    → IsSummaryOf (case_file bin_file n) (case_file perf_file n) (case_file cfg_file n) out
-summed n bytes binary counts blocks out funs bytes_are blocks_are is made ranged tells are =
-    let text = case_file perf_file n in
-    subst (λ b. IsSummaryOf b text (case_file cfg_file n) out) bytes_are
-    (subst (λ b. IsSummaryOf bytes text b out) blocks_are
-    (subst (λ fs. IsSummary (program_of bytes false) (sampled_by None bytes (lines_of text)) fs out) are (made bytes false None (lines_of text) is ranged tells)))
+-- What is written of a binary, of what was counted and of a block text is their summary.
+abbrev pub Sums : Binary → Tally → List ℕ → Vec ℕ → Type 0
+Sums binary counts blocks out =
+    (file perf : List ℕ) → IsBinary file false binary → counts.with_ranges ≡ true → Tells None (lines_of perf) counts → IsSummaryOf file perf blocks out.items
+
+-- The summary of the case's files is one of the case.
+pub summed : (n : ℕ) (bytes blocks out : List ℕ) → bytes ≡ case_file bin_file n → blocks ≡ case_file cfg_file n
+    → IsSummaryOf bytes (case_file perf_file n) blocks out → IsSummaryOf (case_file bin_file n) (case_file perf_file n) (case_file cfg_file n) out
+summed n bytes blocks out bytes_are blocks_are is =
+    subst (λ b. IsSummaryOf b (case_file perf_file n) (case_file cfg_file n) out) bytes_are
+    (subst (λ b. IsSummaryOf bytes (case_file perf_file n) b out) blocks_are is)
 
 -- A good block text has sound functions.
 good-by-lines : (file : ℕ) (text : List ℕ) → first_bad_of_blocks file text ≡ None → block_model.first_bad_of_text file text ≡ None

@@ -1,5 +1,5 @@
 // `make`: a file of a generated case, or the summary of what is built of its three files.
-ghost use Rattle.std.specs.Prelude.{◌≡◌, ◌≤◌, ℕ, Option, None, false, true, length, map, IfOk};
+ghost use Rattle.std.specs.Prelude.{◌≡◌, ◌≤◌, ℕ, List, Option, None, false, true, length, map, IfOk};
 ghost use Rattle.refusal.specs.Place.{JudgesUnlessNoMemory, size_item};
 ghost use Rattle.text_model.specs.Lines.{lines_of};
 ghost use Rattle.io_edge.specs.Inputs.{Store};
@@ -13,6 +13,7 @@ ghost use Rattle.command_model.specs.Command.{make as make_command, make_sum, pe
 ghost use Rattle.command_model.specs.Files.{first_bad_of_blocks};
 ghost use Rattle.command_model.specs.Make.{case_file as file_told};
 ghost use Rattle.command_words.specs.Words.{told_part};
+ghost use Rattle.output_model.specs.Summary.{IsSummaryOf};
 ghost use Rattle.pgo_run.specs.Output.{Carries};
 
 use crate::halt::{Halt, in_file};
@@ -50,7 +51,24 @@ pub(crate) fn summary_output(alloc: Global, functions: u64) -> Result<Vec<u8>, H
     let binary = in_file(1, binary_in(alloc, &file))?;
     let counts = in_file(2, samples_of(alloc, functions))?;
     let block_text = case_file(alloc, CasePart::Cfg, functions)?;
-    let funs = in_file(3, functions_in(alloc, &block_text))?;
+    let text = in_file(3, summary_of(alloc, binary, counts, &block_text))?;
+    Ok(text)
+}
+
+/// The summary of a binary, of its samples and of a block text, which is file 3.
+fn summary_of(
+    alloc: Global,
+    binary: Binary<'_>,
+    counts: Counts,
+    block_text: &[u8],
+) -> Result<Vec<u8>, Stop>
+    requires { (file : List ℕ) × IsBinary file false binary }
+    ensures { JudgesUnlessNoMemory (first_bad_of_blocks 3 block_text.now) result
+        (λ out. (file perf : List ℕ) → IsBinary file false binary.entry
+        → counts.with_ranges ≡ true → Tells None (lines_of perf) counts
+        → IsSummaryOf file perf block_text.now out.items) }
+{
+    let funs = functions_in(alloc, block_text)?;
     let text = summarize(alloc, binary, counts, &funs)?;
     Ok(text)
 }

@@ -1,8 +1,9 @@
 // `where`: the place of an address of a binary.
-ghost use Rattle.std.specs.Prelude.{◌≡◌, ◌≤◌, length};
+ghost use Rattle.std.specs.Prelude.{◌≡◌, ◌≤◌, ℕ, Bool, List, length, true, IfOk};
 ghost use Rattle.refusal.specs.Place.{JudgesUnlessNoMemory};
 ghost use Rattle.binary_model.specs.Binary.{first_bad_of_binary, max_binary_bytes};
 ghost use Rattle.binary_model.specs.Places.{place_of_address};
+ghost use Rattle.binary_places.specs.Binary.{IsBinary, IsPlaced, asks_in};
 ghost use Rattle.command_model.specs.Command.{where_ as where_command};
 ghost use Rattle.command_model.specs.Where.{where_text};
 ghost use Rattle.command_words.specs.Words.{told_options};
@@ -11,11 +12,11 @@ ghost use Rattle.pgo_run.specs.Output.{Carries};
 use crate::halt::{Halt, in_file};
 use crate::order::{MAX_BINARY, read_file};
 use answer_text::place_line;
-use binary_places::{Asked, places, read};
+use binary_places::{Asked, Binary, Placed, places, read};
 use command_words::Options;
 use io_edge::Inputs;
 use key_types::Places;
-use refusal::Stop;
+use refusal::{NoMemory, Stop};
 use std::alloc::Global;
 
 /// What `where` writes for an address of the binary in this file.
@@ -46,13 +47,24 @@ fn line_of(alloc: Global, file: &[u8], base: bool, address: u64) -> Result<Vec<u
         (λ out. out.items ≡ where_text (place_of_address file.now base address)) }
 {
     let binary = read(alloc, file, base)?;
-    let mut asked = Asked::none(alloc, binary.members.len())?;
-    asked.ask(&binary.functions, address);
-    let placed = places(alloc, binary, &asked)?;
+    let placed = placed_at(alloc, binary, address)?;
     Ok(place_line(
         alloc,
         &placed.names,
         &placed.keys,
         placed.map.place(address),
     )?)
+}
+
+/// The places of a binary, as far as this address asks for them.
+fn placed_at(alloc: Global, binary: Binary<'_>, address: u64) -> Result<Placed<'_>, NoMemory>
+    requires { (file : List ℕ) × (base : Bool) × IsBinary file base binary }
+    ensures { IfOk result (λ placed. (file : List ℕ) (base : Bool)
+        → IsBinary file base binary.entry → (marks : List Bool)
+        × IsPlaced file base marks placed × (asks_in file marks address ≡ true)) }
+{
+    let mut asked = Asked::none(alloc, binary.members.len())?;
+    asked.ask(&binary.functions, address);
+    let placed = places(alloc, binary, &asked)?;
+    Ok(placed)
 }

@@ -7,6 +7,7 @@ changed byte is refused too. The last line tells how many cases passed and faile
 import itertools
 import os
 import re
+import struct
 import sys
 
 sys.dont_write_bytecode = True
@@ -336,6 +337,40 @@ def profiles():
         b"# unmapped FromOutside 0x9 0x401030 1\n# unmapped ToOutside 0x401004 0x9 2\n"
         b"# unmapped ToOutside 0x401050 0x9 1\n", 0, reversed=1, outside=1, crossing=1,
     )
+
+
+def touched():
+    # The places of a function are made where something asks for it. What asks for one function alone tells of no other,
+    # and tells the same where others lie over it or have its name.
+    def ran(times, *addresses):
+        text = b"".join(b"0x%x/0x9 0x9/0x%x\n" % (at, at) * times for at in addresses)
+        ends = [b"# unmapped FromOutside 0x9 0x%x %d\n" % (at, times) for at in addresses]
+        ends += [b"# unmapped ToOutside 0x%x 0x9 %d\n" % (at, times) for at in addresses]
+        branches = 2 * times * len(addresses)
+        return text, b"# branches %d\n# entries 0\n# inside 0\n" % branches + b"".join(ends), times * len(addresses)
+
+    def alone(title, binary, lines, times, *addresses):
+        text, report, ranges = ran(times, *addresses)
+        profile(title, binary, text, lines + report, ranges)
+
+    profile(
+        "a call of a function in which nothing ran", TWO, b"0x401034/0x401040",
+        b"f0000:0:0\n 3: 0 f0001:1\nf0001:0:1\n# branches 1\n# entries 1\n# inside 0\n", 0,
+    )
+    profile(
+        "a function that is entered from elsewhere alone", TWO, b"0x9/0x401040",
+        b"f0001:0:1\n# branches 1\n# entries 1\n# inside 0\n", 0,
+    )
+    # Both functions of the name share its lines, of which each has its largest count.
+    twice = TWO.replace(b"f0001\0", b"f0000\0")
+    alone("the first of two functions with one name", twice, b"f0000:3:0\n 0: 3\n", 3, 0x401004)
+    alone("the second of them", twice, b"f0000:3:0\n 0: 3\n", 3, 0x401044)
+    alone("both of them", twice, b"f0000:3:0\n 0: 3\n", 3, 0x401004, 0x401044)
+    # The second function begins within the first one, which holds what both have, as it stands first.
+    over = TWO.replace(struct.pack("<QI", 0x401040, 0x40), struct.pack("<QI", 0x401020, 0x60))
+    alone("what two functions have", over, b"f0000:1:0\n 2.2: 1\n", 1, 0x401024)
+    alone("what the second of them has alone", over, b"f0001:1:0\n 0: 1\n", 1, 0x401044)
+    alone("what each of them has", over, b"f0000:1:0\n 2.2: 1\nf0001:1:0\n 0: 1\n", 1, 0x401024, 0x401044)
 
 
 def reports():
@@ -1084,6 +1119,11 @@ def makes():
     built = run(["build", "bin", "perf", "cfg"], files).stdout
     judge("64 functions built again", (DONE, built, b""), ["build", "bin", "perf", "cfg"], **files)
     judge("what is built and its summary", (DONE, summary_of(built), b""), ["make", "64", "sum"])
+    # The second solver's counts cost as little, 40 a function.
+    judge(
+        "64 functions within a bound on augmentations", (DONE, b"# end 40\n" * 64, b""), ["build", "--scaled", "bin", "perf", "cfg"],
+        told=lambda out: b"".join(re.findall(rb"# end .*\n", out)), **files,
+    )
 
 
 def large():
@@ -1109,4 +1149,4 @@ def large():
     )
 
 
-try_all([places, range_lists, other_places, refusals, words, profiles, reports, bases_and_loads, builds, builds_with_options, block_texts, weights, checks, lifts, makes, large])
+try_all([places, range_lists, other_places, refusals, words, profiles, touched, reports, bases_and_loads, builds, builds_with_options, block_texts, weights, checks, lifts, makes, large])

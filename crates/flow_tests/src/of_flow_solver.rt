@@ -1,7 +1,8 @@
-// What worked networks cost at least.
+// What worked networks cost at least, by either solver.
 ghost use Rattle.std.specs.Prelude.{◌≡◌};
 ghost use Rattle.flow_model.specs.Sound.{AreWeights, IsSoundBound};
 
+use crate::of_flow_scaling::scaled_cost;
 use cfg_text::{Block, Bound, Edge, Fun, Weight};
 use flow_network::{Net, Solved, cost, net_of};
 use flow_solver::solve;
@@ -132,6 +133,7 @@ fn least_costs_are_those_of_worked_networks(rt: HostRuntime) {
             panic!(rt; "no memory");
         };
         assert_eq!(rt; least_cost(alloc, &net), Ok(costs));
+        assert_eq!(rt; scaled_cost(alloc, &net), Ok(costs));
     }
 }
 
@@ -180,5 +182,6 @@ fn a_loop_apart_needs_no_exit(rt: HostRuntime) {
             panic!(rt; "no memory");
         };
         assert_eq!(rt; least_cost(alloc, &net), Ok(costs));
+        assert_eq!(rt; scaled_cost(alloc, &net), Ok(costs));
     }
 }

@@ -835,6 +835,10 @@ def weights():
     found("a line that ran behind the block", ONE, at(0x401005, 5), part % (0x401000, 0x401004), single % (b"5", 5, 0))
     found("a line that begins behind the block", ONE, at(0x401008, 5), part % (0x401000, 0x401008), single % (b"0", 0, 0))
     found("addresses outside of the function", ONE, at(0x401000, 5), part % (0x400FF0, 0x401008), single % (b"5", 5, 0))
+    # Where `outer` and `inner` lie over one another, a block of `inner` has the lines of `outer`, and behind that its own.
+    within = b"func inner\nblock 0 0x%x 0x%x exit\nend\n"
+    found("a block of another function's lines", CHAINED, at(0x401079, 3), within % (0x401078, 0x401090), single % (b"3", 3, 0))
+    found("the larger of both", CHAINED, at(0x401088, 1) + at(0x401090, 2), within % (0x401088, 0x401098), single % (b"2", 2, 0))
     # Two functions of one name, the second from line 9: its first line is the second one of the other.
     alike = changed(TWO, (233, 233, 0x30), (235, 235, 0x09))
     for ran, block in (0x401040, 0x401008), (0x401008, 0x401040):
@@ -1106,6 +1110,10 @@ def lifts():
     lifted(
         "lines that the binary has not", BLOCKS, b"other:3:1\n 1: 3\nf0000:7:0\n 9: 4\n 2.1: k:3\n  1: 3\n" + COUNTS,
         b"f0000:407:0\n 0: 100\n 1: 100\n 2.2: 100\n 3: 100\n 9: 4\n 2.1: k:3\n  1: 3\nother:3:1\n 1: 3\n",
+    )
+    lift(
+        "lifted: a block of two functions' lines", b"func inner\nblock 0 0x401078 0x401098 exit\nend\n", at_once(5, b"inner"),
+        (DONE, b"outer:15:0\n 10: 5\n 11: 5\n 12: 5\ninner:5:0\n 6: 5\n", b""), binary=CHAINED,
     )
     lifted("a block of no line", FRONT.replace(b"0x4010", b"0x5010"), SAMPLED + at_once(9), SAMPLED)
     most = 2**64 - 1

@@ -43,6 +43,9 @@ def by_hand():
         "a text of discriminators, and bases of the binary",
         b"f0000:7:1\n 0: 1\n 1: 1\n 2.1: 0\n 2.2: 2\n 3: 2 f0000:1\n 2: g:0\n  1: 0\n 2.1: g:1\n  1: 1\n", F, ONE, ["--base"],
     )
+    # A second function of that name, from line 9, has its places as well.
+    alike = TWO[:233] + b"0\0\x09" + TWO[236:]
+    made("two functions of one name", b"f0000:1:1\n 0: 0\n 1: 1\n 2: 0\n 2.2: 0\n 3: 0\n 3.2: 0\n 4: 0\n 2.1: g:0\n  1: 0\n 3.1: g:0\n  1: 0\n", b"f0000:1:1\n 1: 1\n", alike)
     two = b"f0001:1:0\n 0: 0\n 1: 1\n 2.2: 0\n 3: 0\n 2.1: g:0\n  1: 0\n"
     made("functions in their order", b"f0000:2:0\n 0: 2\n 1: 0\n 2.2: 0\n 3: 0\n 2.1: g:0\n  1: 0\n" + two, b"f0001:0:0\n 1: 1\nf0000:0:0\n 0: 2\n", TWO)
 

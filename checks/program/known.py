@@ -78,6 +78,49 @@ LONG_DISCRIMINATORS = make.binary(
     line=make.line_program(bytes.fromhex("0009020010400000000000 0309 000604 8180808010 01 0240 000101")),
 )
 
+
+def chained():
+    """Functions in pieces and over one another, with calls in them. A row of line 100 + k stands at 0x401000 + 8 * k up to line
+    121, then one of line 0 up to 0x4010b8, and none behind.
+
+    `two`, from line 98, first has the piece from 0x401040 and then that from 0x401000, and in the second half of either a call of
+    `g`; `mid`, from line 102, lies between them. In `outer`, from line 105, are `h`, in that `k`, which sticks out of it, and `m`,
+    which overlaps both. `inner`, from line 112, begins in `outer`; of its two pieces of `h` the first is in `outer` too. Behind
+    them are a function without a name, and `bare`, with a call of what has no name."""
+    extent = (make.LOW, make.ADDR), (make.HIGH, make.DATA4)
+    listed, start = (make.RANGES, make.OFFSET), (make.DECL_LINE, make.UDATA)
+    called = (make.ORIGIN, make.REF4), (make.CALL_LINE, make.DATA2), (0x2136, make.UDATA)
+    abbrevs = make.ROOT_WITH_LINES
+    for code, tag, children, *attributes in [
+        (2, 0x2E, 0, (make.NAME, make.STRING), start), (3, 0x2E, 0, start), (4, 0x2E, 1, (make.NAME, make.STRING), start, listed),
+        (5, 0x2E, 1, (make.NAME, make.STRING), start, *extent), (6, 0x2E, 0, start, *extent),
+        (7, 0x1D, 1, *called, listed), (8, 0x1D, 1, *called, *extent),
+    ]:
+        abbrevs += make.abbreviation(code, tag, children, *attributes)
+    pairs = lambda *pieces: b"".join(struct.pack("<QQ", *piece) for piece in pieces) + bytes(16)
+    ranges = pairs((0x401040, 0x401050), (0x401000, 0x401010)) + pairs((0x401048, 0x401050), (0x401008, 0x401010))
+    ranges += pairs((0x401080, 0x401088), (0x4010A0, 0x4010A8))
+    entries, at = b"\1" + bytes(4), {}
+    for name, line in [(b"g", 90), (b"h", 80), (b"k", 70), (b"m", 60), (b"", 50)]:
+        at[name] = 11 + len(entries)
+        entries += (b"\2" + name + b"\0" if name else b"\3") + bytes([line])
+    spelled = lambda address, size: struct.pack("<QI", address, size)
+    call = lambda code, name, line, disc, where: bytes([code]) + struct.pack("<IHB", at[name], line, disc) + where
+    entries += b"\4two\0\x62" + struct.pack("<I", 0) + call(7, b"g", 101, 2, struct.pack("<I", 48)) + bytes(2)
+    entries += b"\5mid\0\x66" + spelled(0x401010, 0x30) + bytes(1)
+    entries += b"\5outer\0\x69" + spelled(0x401050, 0x40) + call(8, b"h", 108, 0, spelled(0x401060, 0x10))
+    entries += call(8, b"k", 84, 0, spelled(0x401068, 0x10)) + bytes(2)
+    entries += call(8, b"m", 109, 0, spelled(0x40106C, 0x08)) + bytes(2)
+    entries += b"\5inner\0\x70" + spelled(0x401078, 0x38) + call(7, b"h", 120, 0, struct.pack("<I", 96)) + bytes(2)
+    entries += b"\6\5" + spelled(0x4010B0, 0x10)
+    entries += b"\5bare\0\5" + spelled(0x4010C0, 0x10) + call(8, b"", 6, 0, spelled(0x4010C8, 4)) + bytes(3)
+    rows = b"\x03" + make.sleb(99) + b"\1" + b"\x03\1\2\x08\1" * 21 + b"\x03" + make.sleb(-121) + b"\2\x08\1\2\x08"
+    lines = make.line_program(make.set_address(make.CODE) + rows + make.END)
+    return make.binary(abbrevs + b"\0", make.unit(entries), 0x100, line=lines, ranges=ranges)
+
+
+CHAINED = chained()
+
 # The nine sections, in the file the last of them first, and the offset of the header of each.
 NINE = [b"abbrev", b"info", b"line", b"str", b"line_str", b"str_offsets", b"addr", b"ranges", b"rnglists"]
 FILLED = {b"abbrev": ONE[120:166], b"info": ONE[166:229], b"line": ONE[229:286]}
@@ -166,6 +209,80 @@ def other_places():
     over = changed(TWO, (237, 237, 0))
     place("two functions over one another", over, "401008", b"f0000 1\n")
     place("two functions over one another", over, "401040", b"outside\n")
+
+
+def chains():
+    for first, last, line in [
+        (0x401000, 0x401007, b"two 2\n"),
+        (0x401008, 0x40100F, b"two 3.2 g 11\n"),
+        (0x401010, 0x401017, b"mid 0\n"),
+        (0x401038, 0x40103F, b"mid 5\n"),
+        (0x401040, 0x401047, b"two 10\n"),
+        (0x401048, 0x40104F, b"two 3.2 g 19\n"),
+        (0x401050, 0x401057, b"outer 5\n"),
+        (0x401060, 0x401067, b"outer 3 h 32\n"),
+        # In `h` its own call, though `m` holds these addresses too; behind `h` only `m`, and behind that neither.
+        (0x401068, 0x40106F, b"outer 3 h 4 k 43\n"),
+        (0x401070, 0x401073, b"outer 4 m 54\n"),
+        (0x401074, 0x401077, b"outer 9\n"),
+        # Where `outer` and `inner` lie over one another the first of them, and no call of the other.
+        (0x401078, 0x40107F, b"outer 10\n"),
+        (0x401080, 0x401087, b"outer 11\n"),
+        (0x401088, 0x40108F, b"outer 12\n"),
+        (0x401090, 0x401097, b"inner 6\n"),
+        (0x4010A0, 0x4010A7, b"inner 8 h 40\n"),
+        (0x4010A8, 0x4010AF, b"inner 9\n"),
+        # What has no name counts as that, also on line 0 and without a line.
+        (0x4010B0, 0x4010B7, b"nameless\n"),
+        (0x4010B8, 0x4010BF, b"nameless\n"),
+        (0x4010C0, 0x4010C7, b"noline\n"),
+        (0x4010C8, 0x4010CB, b"nameless\n"),
+        (0x4010CC, 0x4010CF, b"noline\n"),
+        (0x4010D0, 0x4010D0, b"outside\n"),
+    ]:
+        for address in {first, last}:
+            place("chains", CHAINED, f"{address:x}", line)
+
+
+def chained_profiles():
+    # A function is entered at its first piece alone, and not where another one holds that address.
+    profile(
+        "where functions are entered", CHAINED, b"".join(b"0x401010/0x%x\n" % to for to in (0x401040, 0x401000, 0x401078, 0x401050)),
+        b"mid:0:0\n 0: 0 outer:1 two:1\nouter:0:1\ntwo:0:1\n# branches 4\n# entries 2\n# inside 2\n", 0,
+    )
+    profile(
+        "both pieces of a function ran", CHAINED, b"0x40100f/0x9 0x9/0x401000\n" + b"0x40104f/0x9 0x9/0x401040\n" * 2,
+        b"two:6:2\n 2: 1\n 10: 2\n 3.2: g:3\n  11: 1\n  19: 2\n# branches 6\n# entries 2\n# inside 0\n"
+        b"# unmapped FromOutside 0x9 0x401000 1\n# unmapped ToOutside 0x40100f 0x9 1\n# unmapped ToOutside 0x40104f 0x9 2\n", 3,
+    )
+    profile(
+        "ranges through what lies between pieces, over two functions, and out of one of them", CHAINED,
+        b"0x40104f/0x9 0x9/0x401000\n0x40107b/0x9 0x9/0x401074\n0x401093/0x9 0x9/0x40108c\n",
+        b"outer:2:0\n 9: 1\n 10: 1\n# branches 6\n# entries 0\n# inside 0\n"
+        b"# unmapped FromOutside 0x9 0x401000 1\n# unmapped FromOutside 0x9 0x401074 1\n# unmapped FromOutside 0x9 0x40108c 1\n"
+        b"# unmapped ToOutside 0x40104f 0x9 1\n# unmapped ToOutside 0x40107b 0x9 1\n# unmapped ToOutside 0x401093 0x9 1\n",
+        1, crossing=2,
+    )
+    profile(
+        "a range that goes back from outside, and one whose last address alone is in another function", CHAINED,
+        b"0x9/0x401000 0x401000/0x401004\n0x401090/0x9 0x9/0x401088\n",
+        b"# branches 4\n# entries 0\n# inside 1\n# unmapped FromOutside 0x9 0x401000 1\n"
+        b"# unmapped FromOutside 0x9 0x401088 1\n# unmapped ToOutside 0x401090 0x9 1\n", 0, reversed=1, crossing=1,
+    )
+    profile(
+        "calls from where no place is, and what the source lacks first", CHAINED,
+        b"0x4010b0/0x401050\n0x4010c0/0x401050\n0x4010b0/0x4010b8\n0x4010c0/0x4010b8\n",
+        b"outer:0:2\n# branches 4\n# entries 2\n# inside 0\n# unmapped FromNameless 0x4010b0 0x4010b8 1\n"
+        b"# unmapped FromNoLine 0x4010c0 0x4010b8 1\n", 0,
+    )
+    # Functions by their totals, and targets by how often they were called; by name where these are the same.
+    profile(
+        "the greatest first", CHAINED,
+        b"0x401010/0x401050\n" + b"0x401010/0x401040\n" * 2 + b"0x401017/0x9 0x9/0x401011\n" + b"0x401047/0x9 0x9/0x401041\n" * 2,
+        b"two:2:2\n 10: 2\nmid:1:0\n 0: 1 two:2 outer:1\nouter:0:1\n# branches 9\n# entries 3\n# inside 0\n"
+        b"# unmapped FromOutside 0x9 0x401011 1\n# unmapped FromOutside 0x9 0x401041 2\n"
+        b"# unmapped ToOutside 0x401017 0x9 1\n# unmapped ToOutside 0x401047 0x9 2\n", 3,
+    )
 
 
 # The places from the first to the last one, both held, that are set to this byte, and where that is refused.
@@ -752,6 +869,14 @@ def weights():
     found("a line that ran behind the block", ONE, at(0x401005, 5), part % (0x401000, 0x401004), single % (b"5", 5, 0))
     found("a line that begins behind the block", ONE, at(0x401008, 5), part % (0x401000, 0x401008), single % (b"0", 0, 0))
     found("addresses outside of the function", ONE, at(0x401000, 5), part % (0x400FF0, 0x401008), single % (b"5", 5, 0))
+    # Where `outer` and `inner` lie over one another, a block of `inner` has the lines of `outer`, and behind that its own.
+    within = b"func inner\nblock 0 0x%x 0x%x exit\nend\n"
+    found("a block of another function's lines", CHAINED, at(0x401079, 3), within % (0x401078, 0x401090), single % (b"3", 3, 0))
+    found("the larger of both", CHAINED, at(0x401088, 1) + at(0x401090, 2), within % (0x401088, 0x401098), single % (b"2", 2, 0))
+    # Two functions of one name, the second from line 9: its first line is the second one of the other.
+    alike = changed(TWO, (233, 233, 0x30), (235, 235, 0x09))
+    for ran, block in (0x401040, 0x401008), (0x401008, 0x401040):
+        found("a line of another function of the name", alike, at(ran, 4), part % (block, block + 8), single % (b"4", 4, 0))
     found("addresses of two functions", TWO, at(0x401030, 2) + at(0x401040, 4), part % (0x401030, 0x401048), single % (b"4", 4, 0))
     found("addresses without a line alone", ONE, at(0x401000, 5), part % (0x401040, 0x401048), single % (b"?", 0, 0))
     found("calls are no runs", ONE, b"0x401034/0x401000\n" * 3, part % (0x401000, 0x401008), single % (b"0", 0, 0))
@@ -1020,6 +1145,10 @@ def lifts():
         "lines that the binary has not", BLOCKS, b"other:3:1\n 1: 3\nf0000:7:0\n 9: 4\n 2.1: k:3\n  1: 3\n" + COUNTS,
         b"f0000:407:0\n 0: 100\n 1: 100\n 2.2: 100\n 3: 100\n 9: 4\n 2.1: k:3\n  1: 3\nother:3:1\n 1: 3\n",
     )
+    lift(
+        "lifted: a block of two functions' lines", b"func inner\nblock 0 0x401078 0x401098 exit\nend\n", at_once(5, b"inner"),
+        (DONE, b"outer:15:0\n 10: 5\n 11: 5\n 12: 5\ninner:5:0\n 6: 5\n", b""), binary=CHAINED,
+    )
     lifted("a block of no line", FRONT.replace(b"0x4010", b"0x5010"), SAMPLED + at_once(9), SAMPLED)
     most = 2**64 - 1
     lifted(
@@ -1149,4 +1278,7 @@ def large():
     )
 
 
-try_all([places, range_lists, other_places, refusals, words, profiles, touched, reports, bases_and_loads, builds, builds_with_options, block_texts, weights, checks, lifts, makes, large])
+try_all([
+    places, range_lists, other_places, chains, chained_profiles, refusals, words, profiles, touched, reports, bases_and_loads, builds,
+    builds_with_options, block_texts, weights, checks, lifts, makes, large,
+])

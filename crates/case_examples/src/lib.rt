@@ -2,5 +2,5 @@
 //! written of it.
 //!
 //! Examples alone, in `proofs/`: each joins all models, where those of a model stop at its own
-//! door.
+//! door. `LawExamples` has values of which laws speak.
 #![tactic(auto)]

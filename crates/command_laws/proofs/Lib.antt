@@ -5,3 +5,4 @@ pub mod NameLemmas
 pub mod RepairLemmas
 mod MergedLemmas
 mod CommentLemmas
+mod OrderLemmas

@@ -1,6 +1,7 @@
 // How one command answers what another one wrote.
 ghost use Rattle.command_laws.specs.Laws.{BuiltIsAccepted};
 ghost use Rattle.command_laws.specs.Merged.{BuiltIsMerged, ProfiledIsMerged};
+ghost use Rattle.command_laws.specs.Orders.{MergesInAnyOrder};
 
 /// Where `build` may write a text of at most 2^28 bytes, `check` accepts it with the same block
 /// text: neither file has a bad place, and no line fails its test.
@@ -18,4 +19,10 @@ pub fn what_profile_writes_is_merged()
 /// accepts it and writes its profile lines again, without the repairs and the report.
 pub fn what_build_writes_is_merged()
     ensures { BuiltIsMerged }
+{}
+
+/// Files that `merge` accepts with their weights it accepts in any other order, and writes the same
+/// text.
+pub fn merges_in_any_order()
+    ensures { MergesInAnyOrder }
 {}

@@ -38,7 +38,7 @@ class Program:
             self.read_sections()
             self.read_symbols()
             self.read_relocations()
-        except (struct.error, IndexError, ValueError) as fault:
+        except (struct.error, IndexError, ValueError, OverflowError) as fault:
             raise Refused(f"{path} is damaged or cut off: {fault}") from None
 
     def read_sections(self):

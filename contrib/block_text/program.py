@@ -38,8 +38,8 @@ class Program:
             self.read_sections()
             self.read_symbols()
             self.read_relocations()
-        except (struct.error, IndexError, ValueError) as fault:
-            raise Refused(f"{path} is damaged: {fault}") from None
+        except (struct.error, IndexError, ValueError, OverflowError) as fault:
+            raise Refused(f"{path} is damaged or cut off: {fault}") from None
 
     def read_sections(self):
         at, = struct.unpack_from("<Q", self.data, 40)
@@ -158,7 +158,7 @@ class Functions:
     def __init__(self, program):
         code = sorted((it for it in program.loaded if it.flags & EXECUTE), key=lambda it: it.address)
         if not code:
-            raise Refused("the program has no code")
+            raise Refused("the program has no code: give the program itself, and no debug file of it")
         self.entries, self.ends = [], []
         addresses = sorted(at for at in program.names if any(it.address <= at < it.address + it.size for it in code))
         if not addresses:

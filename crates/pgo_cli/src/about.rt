@@ -50,8 +50,8 @@ most 4096. FILE is a profile text, as `pgo profile` and `pgo build` print it, W
             the binary has this name: position-independent programs and shared
             objects need it, and `perf script --show-mmap-events`
 --edges     edges are weighed by the branches along them, and their weights told
---scaled    functions are repaired within a bound on augmentations: the same
-            cost, and a last line with their number
+--scaled    functions are repaired within a bound on augmentations, steps of the
+            solver: the same cost, and a last line with their number
 
 if you see:
   only lines with #      the profile is empty: `pgo-profile` tells why
@@ -65,7 +65,9 @@ if you see:
                          see that it is not empty
   usage                  options come in front, each once; NAME stands behind
                          `--map=` without a space; HEX is never decimal, and N
-                         and W always are
+                         and W always are; `pgo --help COMMAND` says the rest
+  no such file: 1        of the file words the first; /dev/stdin is the input,
+                         and `-` is not
 
 Messages count file words and lines from 1, and places in a binary from 0.
 

@@ -9,7 +9,8 @@ pub(crate) const REMEDIES: [Topic; 59] = [
         text: b"\
 NotElf: no ELF file.
 What helps: the program first, then the text; in place of a script the program
-that it starts; unpack a packed file, and see that it is not empty.
+that it starts, of a static library the one that it was linked into; unpack a
+packed file, and see that it is not empty.
 ",
     },
     Topic {
@@ -299,9 +300,9 @@ The line looks like:
 - `words 4711 .. 4011c0 0x4011ce/..`, `cycles: 4011c0 ..`, `7 4011c0 ..`: fields
   in front: `comm`, `pid`, `tid`, `time`, `event`; `-F ip,brstack` and no other
   fields.
-- `4011c0 main 0x4011ce/..`, `.. main+0x8e/main+0x20/..`, `..
-  0x4011ce(/srv/app/words)/..`: names or files beside addresses: `sym`,
-  `brstacksym`, `dso`; the same.
+- `4011c0 main 0x4011ce/..`, `.. main+0x8e/main+0x20/..`,
+  `..[unknown]/[unknown]/..`, `.. 0x4011ce(/srv/app/words)/..`: names or files
+  beside addresses: `sym`, `brstacksym`, `dso`; the same.
 - `.  0000:  03 00 ..`, `0xe8 [0x20]: event: 3`: a dump; `perf script` without
   `-D`.
 - a good line with `^M` at its end: line ends of another system; `tr -d '\\r'`.

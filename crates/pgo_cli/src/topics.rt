@@ -32,8 +32,9 @@ counted from where the function starts. `outside` says that no function holds
 the address, `nameless` that a profile cannot hold the name of the function or
 of an inlined call, `noline` that it stands for no line.
 
-HEX is an address of the file, as nm and objdump print it: hexadecimal digits
-with 0x or without, never decimal.
+HEX is an address of the file, as nm and objdump print it, and not one at which
+a position-independent program ran: hexadecimal digits with 0x or without, never
+decimal.
 
 --base  for programs of clang and rustc: places as profiles have them
 
@@ -50,7 +51,8 @@ Reads a program with its debugging information, and a branch text, which may be
 a pipe (/dev/stdin). Writes the sample profile of the program, which clang takes
 by -fprofile-sample-use=, and then a report: lines that begin with #, which
 compilers pass over. Where all lines do, the profile is empty, with status 0;
-`pgo-profile` makes a profile and tells why it is empty.
+`pgo-profile` makes a profile and tells why it is empty. `pgo-cold` behind it is
+the last step before clang.
 
 --base      for all programs of clang and rustc, and not for those of gcc
 --map=NAME  for position-independent programs and shared objects (`readelf -h`

@@ -13,11 +13,13 @@ use Rattle.reached_sides.specs.declared.mark.Way.{Way}
 use Rattle.reached_sides.specs.declared.mark.Way.TheVariants.{Along, Against}
 use Rattle.path_search.specs.Ground.{arc_at, count_at, price_at}
 use Rattle.path_search.specs.Search.{mark_at, distance_at, is_settled}
-use Rattle.path_search.specs.Ways.{AreWays, HasComeTo, IsOpen, cost_of_step, end_of, rank_of, start_of}
+use Rattle.path_search.specs.Ways.{AreWays, IsOpen, cost_of_step, end_of, rank_of, start_of}
 use Rattle.path_search.proofs.RowLemmas.{each_at, each_by_place}
 use Rattle.path_search.specs.declared.step.Step.{Step}
 use Rattle.path_search.specs.Path.{AreApart, StepTakes, count_after, pushed, step_end, step_start}
 use Rattle.path_search.specs.Trace.{IsTold, IsTraced}
+use Rattle.path_search.specs.Found.{HasComeTo, task_of}
+use Rattle.path_search.specs.declared.walk.Search.{Search}
 use Rattle.path_search.proofs.PathLemmas.{pushed_at}
 use Rattle.path_search.proofs.RoomLemmas.{left_alike}
 use Rattle.flow_balance.specs.State.{HasMoved, IsAugmented}
@@ -110,9 +112,7 @@ ways_kept : (net : Network) (counts : List ℕ) (prices : List ℤ) (source side
     → AreApart steps → All (StepTakes (arcs_of net) counts (amount + 1)) steps
     → AreWays net (pushed amount steps counts) prices source marks
 ways_kept net counts prices source side amount marks steps counted ways traced apart_steps takes = record {
-  level = ways.level;
   small = ways.small;
-  starts = ways.starts;
   begun = ways.begun;
   steps = λ v mark at apart.
       let arcs = arcs_of net in
@@ -164,15 +164,15 @@ ends_level net counts prices source side marks step ways told level =
     ] in
     by_way step.way (arc_at arcs step.arc) (distance_at marks) (distance_at marks side) (level (step_start arcs step) way.0) end
 
-pub goes_on : (net : Network) (counts : List ℕ) (prices excess : List ℤ) (source side : ℕ) (marks : List (Option Mark)) (frontier : List (ℕ × ℕ))
-    (order : List ℕ) (steps : List Step) (new_counts : List ℕ) (new_excess : List ℤ)
-    → IsFound net counts prices excess source side marks → source < length excess
-    → HasComeTo net counts prices excess source marks frontier order side (distance_at marks side)
-    → ((other : ℕ) → is_settled (mark_at marks other) ≡ true → distance_at marks other ≡ distance_at marks side)
-    → IsTraced net source marks side steps → HasMoved (arcs_of net) counts excess source side steps new_counts new_excess true
+pub goes_on : (net : Network) (counts : List ℕ) (prices excess : List ℤ) (source side : ℕ) (held : Search) (steps : List Step)
+    (new_counts : List ℕ) (new_excess : List ℤ)
+    → IsFound net counts prices excess source side held.marks → source < length excess
+    → HasComeTo (task_of net counts prices excess source) held side (distance_at held.marks side)
+    → ((other : ℕ) → is_settled (mark_at held.marks other) ≡ true → distance_at held.marks other ≡ distance_at held.marks side)
+    → IsTraced net source held.marks side steps → HasMoved (arcs_of net) counts excess source side steps new_counts new_excess true
     → IsAugmented net counts prices excess new_counts prices new_excess
-    → HasComeTo net new_counts prices new_excess source marks frontier order side (distance_at marks side)
-goes_on net counts prices excess source side marks frontier order steps new_counts new_excess found source_inside come level traced has now =
+    → HasComeTo (task_of net new_counts prices new_excess source) held side (distance_at held.marks side)
+goes_on net counts prices excess source side held steps new_counts new_excess found source_inside come level traced has now =
     let arcs = arcs_of net in
     let amount = has.amount in
     let path = traced.path counts prices found.ways in
@@ -181,15 +181,15 @@ goes_on net counts prices excess source side marks frontier order steps new_coun
     let side_inside : side < length excess = let inside = found.reached.inside in let told = found.state.told in omega (arith, inside, told) in
     let fair : IsFair excess source side amount =
     record { starts = source_inside; leads = side_inside; some = has.some; has = has.has; lacks = has.lacks } in
-    let Led : ℕ → ℕ → ℤ → Type 0 = λ from to cost. is_settled (mark_at marks from) ≡ true
-    → pos (distance_at marks to) ≤ℤ (pos (distance_at marks from) +ℤ reduced (price_at prices) from to cost) in
+    let Led : ℕ → ℕ → ℤ → Type 0 = λ from to cost. is_settled (mark_at held.marks from) ≡ true
+    → pos (distance_at held.marks to) ≤ℤ (pos (distance_at held.marks from) +ℤ reduced (price_at prices) from to cost) in
     let led : (place : ℕ) → place < length arcs → StepsOn Led (arc_at arcs place) (count_at new_counts place) = λ place inside.
     elim (pushed_at amount steps counts place path.apart (omega (arith, inside, counted))) [
       | inl there ↦
           let step = there.0 in
-          let told = All-contains (IsTold arcs marks source side) steps step traced.told there.1 in
-          let at_step = ends_level net counts prices source side marks step come.ways told level in
-          let ends = subst (λ (p : ℕ). (distance_at marks (arc_at arcs p).tail ≡ distance_at marks side) × (distance_at marks (arc_at arcs p).head ≡ distance_at marks side)) there.2 at_step in
+          let told = All-contains (IsTold arcs held.marks source side) steps step traced.told there.1 in
+          let at_step = ends_level net counts prices source side held.marks step come.settled.ways told level in
+          let ends = subst (λ (p : ℕ). (distance_at held.marks (arc_at arcs p).tail ≡ distance_at held.marks side) × (distance_at held.marks (arc_at arcs p).head ≡ distance_at held.marks side)) there.2 at_step in
           let fits = each_at (FitsOn (price_at prices)) arcs new_counts now.given.state.ground.fit place inside in
           record {
             along = λ below settled. let fit = fits.more below in omega (arith, ints, fit, ends.0, ends.1);
@@ -197,21 +197,21 @@ goes_on net counts prices excess source side marks frontier order steps new_coun
           }
       | inr same ↦
           subst (λ (n : ℕ). StepsOn Led (arc_at arcs place) n) (sym (ap (λ (list : List ℕ). count_at list place) has.counts_are ∙ same))
-          (each_at (StepsOn Led) arcs counts come.done.led place inside)
+          (each_at (StepsOn Led) arcs counts come.settled.led place inside)
     ] in
     record {
-      done = record {
-        each = come.done.each;
-        begins = come.done.begins;
+      settled = record {
+        each = come.settled.each;
+        begins = come.settled.begins;
         led = each_by_place (StepsOn Led) arcs new_counts now.given.state.ground.counted led;
         none_lacks = λ other settled. not_lacking (price_at new_excess other) (λ lacks.
             let lacked = fair_lacks excess source side amount fair other
             (subst (λ (list : List ℤ). price_at list other <ℤ pos 0) has.excess_is lacks) in
-            let enough = come.done.none_lacks other settled in
+            let enough = come.settled.none_lacks other settled in
             omega (arith, ints, enough, lacked));
+        ways = subst (λ (list : List ℕ). AreWays net list prices source held.marks) (sym has.counts_are)
+            (ways_kept net counts prices source side amount held.marks steps counted come.settled.ways traced path.apart takes);
       };
+      listed = come.listed;
       next = come.next;
-      ways = subst (λ (list : List ℕ). AreWays net list prices source marks) (sym has.counts_are)
-          (ways_kept net counts prices source side amount marks steps counted come.ways traced path.apart takes);
-      settled = come.settled;
     }

@@ -16,7 +16,7 @@ use Rattle.reached_sides.specs.declared.mark.Way.{Way}
 use Rattle.reached_sides.specs.declared.mark.Way.TheVariants.{Along, Against}
 use Rattle.path_search.specs.Ground.{AreSmall, IsSmallCost, IsSmallPrice, IsGround, arc_at, count_at, price_at, sides_of}
 use Rattle.path_search.specs.Search.{mark_at, distance_of, distance_at, is_settled, settled_count}
-use Rattle.path_search.specs.Ways.{start_of, IsOpen, cost_of_step, rank_of, AreWays}
+use Rattle.path_search.specs.Ways.{start_of, IsOpen, cost_of_step, rank_of, height_at, AreWays}
 use Rattle.path_search.proofs.RowLemmas.{placed}
 use Rattle.path_search.proofs.SearchLemmas.{few_settled}
 
@@ -65,7 +65,7 @@ step_is_small Against arc n cheap leaves = less_is_small arc n (omega (arith, le
 
 -- ---- a whole way
 
--- distance and price of a side are together within this much of a level: what a way there costs
+-- the height of a side is within this much of a level: what a way there costs
 pub record IsWayCost (level : ℤ) (prices : List ℤ) (side distance most : ℕ) : Type 0 where
   pub above : (pos distance +ℤ price_at prices side) ≤ℤ (level +ℤ pos most)
   pub below : level ≤ℤ (pos distance +ℤ price_at prices side +ℤ pos most)
@@ -76,16 +76,15 @@ settled_mark (Some mark) settled = (mark, refl)
 
 -- a settled side is at most as many steps from the source as sides were settled before it
 settled_cost : (net : Network) (counts : List ℕ) (prices : List ℤ) (source : ℕ) (marks : List (Option Mark)) → IsGround net counts prices
-    → (ways : AreWays net counts prices source marks) → (n side : ℕ) → is_settled (mark_at marks side) ≡ true → rank_of (mark_at marks side) < n
-    → IsWayCost ways.level prices side (distance_at marks side) (40 * rank_of (mark_at marks side))
+    → AreWays net counts prices source marks → (n side : ℕ) → is_settled (mark_at marks side) ≡ true → rank_of (mark_at marks side) < n
+    → IsWayCost (height_at prices marks source) prices side (distance_at marks side) (40 * rank_of (mark_at marks side))
 settled_cost net counts prices source marks ground ways zero side settled below = absurd (omega (arith, below))
 settled_cost net counts prices source marks ground ways (suc n) side settled below =
     elim (cases_eq side source) [
       | inl e ↦
-          let starts = ways.starts in
           let d = ap (distance_at marks) e in
           let price = ap (price_at prices) e in
-          record { above = omega (arith, ints, starts, d, price); below = omega (arith, ints, starts, d, price) }
+          record { above = omega (arith, ints, d, price); below = omega (arith, ints, d, price) }
       | inr apart ↦
           let found = settled_mark (mark_at marks side) settled in
           let mark = found.0 in
@@ -107,16 +106,15 @@ settled_cost net counts prices source marks ground ways (suc n) side settled bel
 
 -- and each marked one at most as many as sides are settled
 pub way_cost : (net : Network) (counts : List ℕ) (prices : List ℤ) (source : ℕ) (marks : List (Option Mark)) → IsGround net counts prices
-    → (ways : AreWays net counts prices source marks) → (side : ℕ) (mark : Mark) → mark_at marks side ≡ Some mark
-    → IsWayCost ways.level prices side mark.distance (40 * settled_count marks)
+    → AreWays net counts prices source marks → (side : ℕ) (mark : Mark) → mark_at marks side ≡ Some mark
+    → IsWayCost (height_at prices marks source) prices side mark.distance (40 * settled_count marks)
 way_cost net counts prices source marks ground ways side mark at =
     let d = ap distance_of at in
     elim (cases_eq side source) [
       | inl e ↦
-          let starts = ways.starts in
           let same = ap (distance_at marks) e in
           let price = ap (price_at prices) e in
-          record { above = omega (arith, ints, starts, d, same, price); below = omega (arith, ints, starts, d, same, price) }
+          record { above = omega (arith, ints, d, same, price); below = omega (arith, ints, d, same, price) }
       | inr apart ↦
           let step = ways.steps side mark at apart in
           let arc = arc_at (arcs_of net) mark.arc in
@@ -141,5 +139,5 @@ way_near net counts prices source marks ground ways each side mark at =
     let priced = ground.priced in
     let count = few_settled marks in
     let here = small_at prices ground.small side in
-    let level = ways.small in
-    omega (arith, ints, cost.above, few, priced, count, each, here.least, level.most)
+    let height = ways.small in
+    omega (arith, ints, cost.above, few, priced, count, each, here.least, height.most)

@@ -13,9 +13,9 @@ use Rattle.residual_model.specs.Residual.{reduced}
 use Rattle.reached_sides.specs.declared.mark.Mark.{Mark}
 use Rattle.reached_sides.specs.declared.mark.Way.{Way}
 use Rattle.reached_sides.specs.declared.mark.Way.TheVariants.{Along, Against}
-use Rattle.path_search.specs.Ground.{AreSmall, IsGround, arc_at, count_at, price_at}
+use Rattle.path_search.specs.Ground.{AreSmall, IsGround, IsSmallPrice, arc_at, count_at, price_at}
 use Rattle.path_search.specs.Search.{mark_at, distance_of, distance_at, is_settled, is_open, settled_count, settled_as, Offers, ComeNearer, IsLooking}
-use Rattle.path_search.specs.Ways.{start_of, end_of, IsOpen, cost_of_step, rank_of, IsStepTo, AreWays, AreWaysFrom, KeepWays, MarksAtMost}
+use Rattle.path_search.specs.Ways.{start_of, end_of, IsOpen, cost_of_step, rank_of, height_at, IsStepTo, AreWays, AreWaysFrom, KeepWays, MarksAtMost}
 use Rattle.path_search.proofs.RowLemmas.{placed, row_only}
 use Rattle.path_search.proofs.SearchLemmas.{IsSet, set_is, not_settled}
 use Rattle.path_search.proofs.WalkLemmas.{IsBegun, first, begun, open_mark, not_both, never, IsSettledNow}
@@ -26,12 +26,12 @@ pub ways_begin : (net : Network) (counts : List ℕ) (prices : List ℤ) (source
     → AreSmall prices → source < length prices → marks ≡ slice_set (replicate n None) source (Some first) → AreWays net counts prices source marks
 ways_begin net counts prices source n marks within small priced is =
     let begun_now = subst (λ (after : List (Option Mark)). IsBegun source after) (sym is) (begun n source within) in
+    let here = small source (pos 0) priced in
+    let d = ap distance_of begun_now.here in
     record {
-      level = price_at prices source;
-      small = small source (pos 0) priced;
+      small = record { least = omega (arith, ints, here.least, d); most = omega (arith, ints, here.most, d) };
       steps = λ side mark at apart. let clash : None ≡ Some mark = sym (begun_now.others side apart) ∙ at in absurd (cc);
       ranked = λ side settled. absurd (never _ (begun_now.none_settled side) settled);
-      starts = let d = ap distance_of begun_now.here in omega (arith, ints, d);
       begun = λ side settled. absurd (never _ (begun_now.none_settled side) settled);
     }
 
@@ -74,6 +74,11 @@ step_kept net counts prices old new side mark kept step =
       further = step.further ∙ ap (λ (d : ℕ). pos d +ℤ reduced (price_at prices) start side
           (cost_of_step mark.way (arc_at (arcs_of net) mark.arc) (count_at counts mark.arc))) (sym (ap distance_of same));
     }
+
+-- a height stays small where the distance stays
+small_kept : (prices : List ℤ) (old new : List (Option Mark)) (side : ℕ) → distance_at new side ≡ distance_at old side
+    → IsSmallPrice (height_at prices old side) → IsSmallPrice (height_at prices new side)
+small_kept prices old new side same small = record { least = omega (arith, ints, same, small.least); most = omega (arith, ints, same, small.most) }
 
 same_marks : (one two : Mark) (at : Option Mark) → at ≡ Some one → at ≡ Some two → one ≡ two
 same_marks one two at is also = let both : Some one ≡ Some two = sym is ∙ also in cc
@@ -137,12 +142,7 @@ look_keeps net counts prices way place side distance old new look nearer (inr by
     let source_settled = from.ways.begun side from.settled in
     record {
       ways = record {
-        level = from.ways.level;
-        small = from.ways.small;
-        starts =
-            let same = ap distance_of (nearer.kept source source_settled) in
-            let starts = from.ways.starts in
-            omega (arith, ints, starts, same);
+        small = small_kept prices old new source (ap distance_of (nearer.kept source source_settled)) from.ways.small;
         begun = λ other done. nearer.alike source ∙ source_settled;
         steps = λ other mark at apart.
             elim (cases_eq other end) [
@@ -220,9 +220,7 @@ ways_from net counts prices source marks new_marks side rank distance within wai
     let count = now.count in
     record {
       ways = record {
-        level = ways.level;
-        small = ways.small;
-        starts = let same = now.distances source in let starts = ways.starts in omega (arith, ints, starts, same);
+        small = small_kept prices marks new_marks source (now.distances source) ways.small;
         begun = λ other done.
             elim (cases_eq side source) [
               | inl e ↦ subst (λ (s : ℕ). is_settled (mark_at new_marks s) ≡ true) e now.here

@@ -10,7 +10,8 @@ use Rattle.reached_sides.specs.declared.mark.Mark.{Mark}
 use Rattle.path_search.specs.Ground.{arc_at, count_at, price_at}
 use Rattle.path_search.specs.Search.{mark_at, far, distance_of, distance_at, is_settled, is_open}
 use Rattle.path_search.specs.Ways.{AreWays, IsStepTo, rank_of, start_of}
-use Rattle.path_search.specs.Found.{HasComeTo, HasEnded, HasSettled, task_of}
+use Rattle.path_search.specs.Task.{task_of}
+use Rattle.path_search.specs.Found.{HasComeTo, HasEnded, HasSettled}
 use Rattle.path_search.specs.declared.walk.Search.{Search}
 use Rattle.path_search.proofs.RowLemmas.{each_at, each_by_place}
 use Rattle.path_search.proofs.WalkLemmas.{not_both}
@@ -117,7 +118,7 @@ raised_by net counts prices excess source side limit marks new_prices new_marks 
 step_raised : (net : Network) (counts : List ℕ) (prices excess : List ℤ) (source side : ℕ) (marks : List (Option Mark)) (new_prices : List ℤ)
     (new_marks : List (Option Mark)) (v : ℕ) (mark after : Mark) → IsRaised net counts prices excess source side marks new_prices new_marks
     → mark_at marks v ≡ Some mark → mark_at new_marks v ≡ Some after → after ≡ record mark { distance = after.distance }
-    → IsStepTo net counts prices marks v mark → IsStepTo net counts new_prices new_marks v after
+    → IsStepTo (task_of net counts prices excess source) marks v mark → IsStepTo (task_of net counts new_prices excess source) new_marks v after
 step_raised net counts prices excess source side marks new_prices new_marks v mark after raised at at_now same step =
     let limit = distance_at marks side in
     let start = start_of mark.way (arc_at (arcs_of net) mark.arc) in
@@ -125,7 +126,7 @@ step_raised net counts prices excess source side marks new_prices new_marks v ma
     let there = is_at net counts prices excess source side marks new_prices new_marks raised.found raised.are raised.level start in
     let d = ap distance_of at in
     let d_now = ap distance_of at_now in
-    let told : IsStepTo net counts new_prices new_marks v (record mark { distance = after.distance }) = record {
+    let told : IsStepTo (task_of net counts new_prices excess source) new_marks v (record mark { distance = after.distance }) = record {
       inside = step.inside;
       leads = step.leads;
       leaves = step.leaves;
@@ -136,7 +137,7 @@ step_raised net counts prices excess source side marks new_prices new_marks v ma
           omega (arith, before, rank);
       further = let further = step.further in omega (arith, ints, further, here.price, there.price, d, d_now);
     } in
-    subst (λ (m : Mark). IsStepTo net counts new_prices new_marks v m) (sym same) told
+    subst (λ (m : Mark). IsStepTo (task_of net counts new_prices excess source) new_marks v m) (sym same) told
 
 -- the mark that a side had
 had_mark : (old new : List (Option Mark)) (limit side : ℕ) (after : Mark) → IsLevelled old limit new → mark_at new side ≡ Some after
@@ -164,7 +165,7 @@ had_mark old new limit side after level at = by_mark (mark_at old side) refl
 
 ways_raised : (net : Network) (counts : List ℕ) (prices excess : List ℤ) (source side : ℕ) (marks : List (Option Mark)) (new_prices : List ℤ)
     (new_marks : List (Option Mark)) → IsRaised net counts prices excess source side marks new_prices new_marks
-    → AreWays net counts new_prices source new_marks
+    → AreWays (task_of net counts new_prices excess source) new_marks
 ways_raised net counts prices excess source side marks new_prices new_marks raised =
     let limit = distance_at marks side in
     let ways = raised.found.ways.ways in

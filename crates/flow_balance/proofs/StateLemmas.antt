@@ -19,7 +19,8 @@ use Rattle.reached_sides.specs.declared.mark.Mark.{Mark}
 use Rattle.path_search.specs.Ground.{IsSmallPrice, AreSmall, arc_at, count_at, price_at, sides_of}
 use Rattle.path_search.specs.Search.{distance_of, distance_at, settled_count}
 use Rattle.path_search.specs.Ways.{HasWays}
-use Rattle.path_search.specs.Found.{HasEnded, HasReached, task_of}
+use Rattle.path_search.specs.Task.{task_of}
+use Rattle.path_search.specs.Found.{HasEnded, HasReached}
 use Rattle.path_search.specs.declared.walk.Search.{Search}
 use Rattle.path_search.proofs.CostLemmas.{few_sides, small_at, way_cost, way_near}
 use Rattle.path_search.proofs.RowLemmas.{each_by_place}
@@ -120,7 +121,7 @@ started net counts prices excess start zeros =
 pub record IsFound (net : Network) (counts : List ℕ) (prices excess : List ℤ) (source side : ℕ) (marks : List (Option Mark)) : Type 0 where
   pub state : IsState net counts prices excess
   pub reached : HasReached (task_of net counts prices excess source) marks side
-  pub ways : HasWays net counts prices source marks side
+  pub ways : HasWays (task_of net counts prices excess source) marks side
 
 pub found_at : (net : Network) (counts : List ℕ) (prices excess : List ℤ) (source side : ℕ) (held : Search)
     → IsState net counts prices excess → HasEnded (task_of net counts prices excess source) held (Some side)
@@ -144,7 +145,7 @@ pub limit_near : (net : Network) (counts : List ℕ) (prices excess : List ℤ) 
     → IsFound net counts prices excess source side marks → distance_at marks side < 2 ^ 62
 limit_near net counts prices excess source side marks found =
     let mark = marked marks side side found.ways.waits (inl refl) in
-    let near = way_near net counts prices source marks found.state.ground found.ways.ways found.reached.settled.each side mark.0 mark.1 in
+    let near = way_near (task_of net counts prices excess source) marks found.state.ground found.ways.ways found.reached.settled.each side mark.0 mark.1 in
     let d = ap distance_of mark.1 in
     omega (arith, near, d)
 
@@ -169,10 +170,10 @@ moved_near net counts prices excess source side marks found other =
       | inl near ↦
           let few = few_marks net counts prices excess source side marks found in
           let end = marked marks side side found.ways.waits (inl refl) in
-          let end_cost = way_cost net counts prices source marks found.state.ground found.ways.ways side end.0 end.1 in
+          let end_cost = way_cost (task_of net counts prices excess source) marks found.state.ground found.ways.ways side end.0 end.1 in
           let end_d = ap distance_of end.1 in
           let mark = marked marks side other found.ways.waits (inr (found.reached.nearest other near)) in
-          let cost = way_cost net counts prices source marks found.state.ground found.ways.ways other mark.0 mark.1 in
+          let cost = way_cost (task_of net counts prices excess source) marks found.state.ground found.ways.ways other mark.0 mark.1 in
           let d = ap distance_of mark.1 in
           inr (record {
             side = side;

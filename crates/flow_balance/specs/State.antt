@@ -9,7 +9,8 @@ use Rattle.residual_model.specs.Residual.{starting}
 use Rattle.reached_sides.specs.declared.mark.Mark.{Mark}
 use Rattle.path_search.specs.Ground.{IsGround, arc_at, count_at, price_at, sides_of}
 use Rattle.path_search.specs.Search.{distance_at}
-use Rattle.path_search.specs.Found.{Task, HasClosed, HasComeTo, task_of}
+use Rattle.path_search.specs.Task.{Task, task_of}
+use Rattle.path_search.specs.Found.{HasClosed, HasComeTo}
 use Rattle.path_search.specs.declared.walk.Search.{Search}
 use Rattle.path_search.specs.declared.step.Step.{Step}
 use Rattle.path_search.specs.Path.{StepTakes, pushed}

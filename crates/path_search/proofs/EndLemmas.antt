@@ -11,7 +11,8 @@ use Rattle.residual_model.specs.Residual.{StepsOn, reduced}
 use Rattle.reached_sides.specs.declared.mark.Mark.{Mark}
 use Rattle.path_search.specs.Ground.{AreSmall, IsSmallCost, arc_at, count_at, price_at, IsGround}
 use Rattle.path_search.specs.Search.{far, mark_at, distance_of, distance_at, is_settled, is_open, is_reached, IsNext}
-use Rattle.path_search.specs.Found.{Task, HasClosed, HasReached, HasSettled}
+use Rattle.path_search.specs.Task.{Task}
+use Rattle.path_search.specs.Found.{HasClosed, HasReached, HasSettled}
 use Rattle.path_search.proofs.RowLemmas.{each_at, each_by_place, placed}
 use Rattle.path_search.proofs.CostLemmas.{way_near, settled_mark, more_is_small, less_is_small}
 use Rattle.path_search.proofs.WalkLemmas.{open_mark}
@@ -53,7 +54,7 @@ pub next_near : (task : Task) (marks : List (Option Mark)) (frontier : List (ℕ
     → IsNext marks frontier side distance → distance_at marks side < 2 ^ 33
 next_near task marks frontier side distance ground done next =
     let found = open_mark (mark_at marks side) next.current.waits in
-    let near = way_near task.net task.counts task.prices task.source marks ground done.ways done.each side found.0 found.1 in
+    let near = way_near task marks ground done.ways done.each side found.0 found.1 in
     let d = ap distance_of found.1 in
     omega (arith, near, d)
 
@@ -122,7 +123,7 @@ closed task marks ground done none_open =
     let settled = λ (side : ℕ) (is : is_reached marks side ≡ true). reached_is_settled marks side (none_open side) is in
     let near : (side : ℕ) → is_reached marks side ≡ true → distance_at marks side < 2 ^ 33 = λ side is.
     let mark = settled_mark (mark_at marks side) (settled side is) in
-    let close = way_near task.net task.counts task.prices task.source marks ground done.ways done.each side mark.0 mark.1 in
+    let close = way_near task marks ground done.ways done.each side mark.0 mark.1 in
     let d = ap distance_of mark.1 in
     omega (arith, close, d) in
     record {

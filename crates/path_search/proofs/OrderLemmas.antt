@@ -7,7 +7,8 @@ use Rattle.reached_sides.specs.declared.mark.Mark.{Mark}
 use Rattle.path_search.specs.Ground.{IsGround}
 use Rattle.path_search.specs.Search.{mark_at, distance_of, distance_at, is_settled, is_open, settled_as, settled_count, ComeNearer}
 use Rattle.path_search.specs.Ways.{rank_of, AreSettled}
-use Rattle.path_search.specs.Found.{Task, HasComeTo}
+use Rattle.path_search.specs.Task.{Task}
+use Rattle.path_search.specs.Found.{HasComeTo}
 use Rattle.path_search.specs.declared.walk.Search.{Search}
 use Rattle.path_search.proofs.SearchLemmas.{IsSet, set_is}
 use Rattle.path_search.proofs.WalkLemmas.{first, begins, begun, open_mark, not_both, never, IsSettledNow}
@@ -118,7 +119,7 @@ pub come_to_source : (task : Task) (n : ℕ) (held : Search) → IsGround task.n
 come_to_source task n held ground inside marked is no_frontier no_order =
     let priced = ground.priced in
     let within : task.source < length task.prices = omega (arith, inside, priced) in
-    let ways = ways_begin task.net task.counts task.prices task.source n held.marks (omega (arith, within, marked)) ground.small within is in
+    let ways = ways_begin task n held.marks (omega (arith, within, marked)) ground.small within is in
     let now = begins task n held.marks ground within marked is ways in
     record {
       settled = now.settled;

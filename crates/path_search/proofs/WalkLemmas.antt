@@ -14,7 +14,8 @@ use Rattle.reached_sides.specs.declared.mark.Mark.{Mark}
 use Rattle.reached_sides.specs.declared.mark.Way.TheVariants.{Along}
 use Rattle.path_search.specs.Ground.{AreSmall, arc_at, count_at, price_at, IsGround}
 use Rattle.path_search.specs.Search.{mark_at, distance_of, distance_at, is_settled, is_open, settled_one, settled_count, settled_as, ComeNearer, IsLooking, LedOut, LedBack, IsNext, IsWaiting}
-use Rattle.path_search.specs.Found.{Task, HasSettled}
+use Rattle.path_search.specs.Task.{Task}
+use Rattle.path_search.specs.Found.{HasSettled}
 use Rattle.path_search.specs.Ways.{AreWays}
 use Rattle.path_search.proofs.RowLemmas.{each_at, each_by_place}
 use Rattle.path_search.proofs.SearchLemmas.{IsSet, set_is}
@@ -69,7 +70,7 @@ pub record HasBegun (task : Task) (marks : List (Option Mark))
 
 pub begins : (task : Task) (n : ℕ) (marks : List (Option Mark))
     → IsGround task.net task.counts task.prices → task.source < length task.prices → n ≡ length task.prices
-    → marks ≡ slice_set (replicate n None) task.source (Some first) → AreWays task.net task.counts task.prices task.source marks
+    → marks ≡ slice_set (replicate n None) task.source (Some first) → AreWays task marks
     → HasBegun task marks
 begins task n marks ground within same is ways =
     let begun_now = subst (λ (after : List (Option Mark)). IsBegun task.source after) (sym is) (begun n task.source (omega (arith, same, within))) in
@@ -194,7 +195,7 @@ pub walked : (task : Task) (marks now_marks new_marks : List (Option Mark))
     → IsStepping task marks now_marks frontier side distance → pos 0 ≤ℤ price_at task.excess side
     → IsLooking task.prices new_marks new_frontier distance → ComeNearer now_marks new_marks
     → LedOut task.net task.counts task.prices new_marks distance side → LedBack task.net task.counts task.prices new_marks distance side
-    → AreWays task.net task.counts task.prices task.source new_marks → HasSettled task new_marks
+    → AreWays task new_marks → HasSettled task new_marks
 walked task marks now_marks new_marks frontier new_frontier side distance ground stepping enough looking nearer out back ways =
     let next = stepping.next in
     let now = stepping.now in

@@ -14,6 +14,7 @@ use Rattle.reached_sides.specs.declared.mark.Mark.{Mark}
 use Rattle.reached_sides.specs.declared.mark.Way.{Way}
 use Rattle.reached_sides.specs.declared.mark.Way.TheVariants.{Along, Against}
 use Rattle.path_search.specs.Ground.{AreSmall, IsGround, IsSmallPrice, arc_at, count_at, price_at}
+use Rattle.path_search.specs.Task.{Task, task_of}
 use Rattle.path_search.specs.Search.{mark_at, distance_of, distance_at, is_settled, is_open, settled_count, settled_as, Offers, ComeNearer, IsLooking}
 use Rattle.path_search.specs.Ways.{start_of, end_of, IsOpen, cost_of_step, rank_of, height_at, IsStepTo, AreWays, AreWaysFrom, KeepWays, MarksAtMost}
 use Rattle.path_search.proofs.RowLemmas.{placed, row_only}
@@ -22,11 +23,11 @@ use Rattle.path_search.proofs.WalkLemmas.{IsBegun, first, begun, open_mark, not_
 
 -- ---- the start
 
-pub ways_begin : (net : Network) (counts : List ℕ) (prices : List ℤ) (source n : ℕ) (marks : List (Option Mark)) → source < n
-    → AreSmall prices → source < length prices → marks ≡ slice_set (replicate n None) source (Some first) → AreWays net counts prices source marks
-ways_begin net counts prices source n marks within small priced is =
-    let begun_now = subst (λ (after : List (Option Mark)). IsBegun source after) (sym is) (begun n source within) in
-    let here = small source (pos 0) priced in
+pub ways_begin : (task : Task) (n : ℕ) (marks : List (Option Mark)) → task.source < n
+    → AreSmall task.prices → task.source < length task.prices → marks ≡ slice_set (replicate n None) task.source (Some first) → AreWays task marks
+ways_begin task n marks within small priced is =
+    let begun_now = subst (λ (after : List (Option Mark)). IsBegun task.source after) (sym is) (begun n task.source within) in
+    let here = small task.source (pos 0) priced in
     let d = ap distance_of begun_now.here in
     record {
       small = record { least = omega (arith, ints, here.least, d); most = omega (arith, ints, here.most, d) };
@@ -59,11 +60,11 @@ taken_by way prices place distance arc n mark marks frontier new_marks new_front
 -- ---- ways that are kept
 
 -- a step from a settled side stays one where settled sides keep their marks
-step_kept : (net : Network) (counts : List ℕ) (prices : List ℤ) (old new : List (Option Mark)) (side : ℕ) (mark : Mark)
+step_kept : (task : Task) (old new : List (Option Mark)) (side : ℕ) (mark : Mark)
     → ((other : ℕ) → is_settled (mark_at old other) ≡ true → mark_at new other ≡ mark_at old other)
-    → IsStepTo net counts prices old side mark → IsStepTo net counts prices new side mark
-step_kept net counts prices old new side mark kept step =
-    let start = start_of mark.way (arc_at (arcs_of net) mark.arc) in
+    → IsStepTo task old side mark → IsStepTo task new side mark
+step_kept task old new side mark kept step =
+    let start = start_of mark.way (arc_at (arcs_of task.net) mark.arc) in
     let same : mark_at new start ≡ mark_at old start = kept start step.from_settled in
     record {
       inside = step.inside;
@@ -71,8 +72,8 @@ step_kept net counts prices old new side mark kept step =
       leaves = step.leaves;
       from_settled = ap is_settled same ∙ step.from_settled;
       from_earlier = λ settled. let before = step.from_earlier settled in let rank = ap rank_of same in omega (arith, before, rank);
-      further = step.further ∙ ap (λ (d : ℕ). pos d +ℤ reduced (price_at prices) start side
-          (cost_of_step mark.way (arc_at (arcs_of net) mark.arc) (count_at counts mark.arc))) (sym (ap distance_of same));
+      further = step.further ∙ ap (λ (d : ℕ). pos d +ℤ reduced (price_at task.prices) start side
+          (cost_of_step mark.way (arc_at (arcs_of task.net) mark.arc) (count_at task.counts mark.arc))) (sym (ap distance_of same));
     }
 
 -- a height stays small where the distance stays
@@ -90,30 +91,30 @@ pub record IsLook (net : Network) (counts : List ℕ) (prices : List ℤ) (way :
   pub within : end_of way (arc_at (arcs_of net) place) < length old
 
 -- the step that a look found
-found_step : (net : Network) (counts : List ℕ) (prices : List ℤ) (way : Way) (place side distance : ℕ) (old : List (Option Mark))
-    → IsLook net counts prices way place side old → is_settled (mark_at old side) ≡ true → distance_at old side ≡ distance
+found_step : (task : Task) (way : Way) (place side distance : ℕ) (old : List (Option Mark))
+    → IsLook task.net task.counts task.prices way place side old → is_settled (mark_at old side) ≡ true → distance_at old side ≡ distance
     → (mark : Mark) → mark.arc ≡ place → mark.way ≡ way → is_settled (Some mark) ≡ false
-    → IsOpen way (arc_at (arcs_of net) place) (count_at counts place)
-    → pos mark.distance ≡ pos distance +ℤ reduced (price_at prices) (start_of way (arc_at (arcs_of net) place)) (end_of way (arc_at (arcs_of net) place))
-    (cost_of_step way (arc_at (arcs_of net) place) (count_at counts place))
-    → IsStepTo net counts prices old (end_of way (arc_at (arcs_of net) place)) mark
-found_step net counts prices way place side distance old look settled at mark same_arc same_way is_not leaves further =
-    let arc = arc_at (arcs_of net) place in
-    let n = count_at counts place in
+    → IsOpen way (arc_at (arcs_of task.net) place) (count_at task.counts place)
+    → pos mark.distance ≡ pos distance +ℤ reduced (price_at task.prices) (start_of way (arc_at (arcs_of task.net) place)) (end_of way (arc_at (arcs_of task.net) place))
+    (cost_of_step way (arc_at (arcs_of task.net) place) (count_at task.counts place))
+    → IsStepTo task old (end_of way (arc_at (arcs_of task.net) place)) mark
+found_step task way place side distance old look settled at mark same_arc same_way is_not leaves further =
+    let arc = arc_at (arcs_of task.net) place in
+    let n = count_at task.counts place in
     let Is : ℕ → Way → Type 0 = λ p w.
-    (p < length (arcs_of net))
-    × (end_of w (arc_at (arcs_of net) p) ≡ end_of way arc)
-    × IsOpen w (arc_at (arcs_of net) p) (count_at counts p)
-    × (is_settled (mark_at old (start_of w (arc_at (arcs_of net) p))) ≡ true)
-    × (pos mark.distance ≡ pos (distance_at old (start_of w (arc_at (arcs_of net) p)))
-    +ℤ reduced (price_at prices) (start_of w (arc_at (arcs_of net) p)) (end_of way arc) (cost_of_step w (arc_at (arcs_of net) p) (count_at counts p))) in
+    (p < length (arcs_of task.net))
+    × (end_of w (arc_at (arcs_of task.net) p) ≡ end_of way arc)
+    × IsOpen w (arc_at (arcs_of task.net) p) (count_at task.counts p)
+    × (is_settled (mark_at old (start_of w (arc_at (arcs_of task.net) p))) ≡ true)
+    × (pos mark.distance ≡ pos (distance_at old (start_of w (arc_at (arcs_of task.net) p)))
+    +ℤ reduced (price_at task.prices) (start_of w (arc_at (arcs_of task.net) p)) (end_of way arc) (cost_of_step w (arc_at (arcs_of task.net) p) (count_at task.counts p))) in
     let from : distance_at old (start_of way arc) ≡ distance = ap (distance_at old) look.starts ∙ at in
     let here : Is place way = (
       look.inside,
       refl,
       leaves,
       ap (λ (s : ℕ). is_settled (mark_at old s)) look.starts ∙ settled,
-      further ∙ ap (λ (d : ℕ). pos d +ℤ reduced (price_at prices) (start_of way arc) (end_of way arc) (cost_of_step way arc n)) (sym from),
+      further ∙ ap (λ (d : ℕ). pos d +ℤ reduced (price_at task.prices) (start_of way arc) (end_of way arc) (cost_of_step way arc n)) (sym from),
     ) in
     let there : Is mark.arc mark.way = subst (λ (w : Way). Is mark.arc w) (sym same_way) (subst (λ (p : ℕ). Is p way) (sym same_arc) here) in
     record {
@@ -129,15 +130,16 @@ pub look_keeps : (net : Network) (counts : List ℕ) (prices : List ℤ) (way : 
     → IsLook net counts prices way place side old → ComeNearer old new
     → MarksAtMost way prices place distance (arc_at (arcs_of net) place) (count_at counts place) old new
     → KeepWays net counts prices side distance old new
-look_keeps net counts prices way place side distance old new look nearer (inl same) source from =
-    subst (λ (marks : List (Option Mark)). AreWaysFrom net counts prices source side distance marks) (sym same) from
-look_keeps net counts prices way place side distance old new look nearer (inr by) source from =
+look_keeps net counts prices way place side distance old new look nearer (inl same) excess source from =
+    subst (λ (marks : List (Option Mark)). AreWaysFrom (task_of net counts prices excess source) side distance marks) (sym same) from
+look_keeps net counts prices way place side distance old new look nearer (inr by) excess source from =
     let arc = arc_at (arcs_of net) place in
     let n = count_at counts place in
     let end = end_of way arc in
     let set = subst (λ (marks : List (Option Mark)). IsSet end by.mark old marks) (sym by.set) (set_is end by.mark old look.within) in
-    let kept = step_kept net counts prices old new in
-    let step = found_step net counts prices way place side distance old look from.settled from.at by.mark by.same_arc by.same_way by.not_settled by.leaves by.further in
+    let task = task_of net counts prices excess source in
+    let kept = step_kept task old new in
+    let step = found_step task way place side distance old look from.settled from.at by.mark by.same_arc by.same_way by.not_settled by.leaves by.further in
     let count = nearer.count in
     let source_settled = from.ways.begun side from.settled in
     record {
@@ -149,9 +151,9 @@ look_keeps net counts prices way place side distance old new look nearer (inr by
               | inl e ↦
                   let here : mark_at new end ≡ Some mark = subst (λ (s : ℕ). mark_at new s ≡ Some mark) e at in
                   let same = same_marks by.mark mark (mark_at new end) set.here here in
-                  let told : IsStepTo net counts prices new end mark =
-                  subst (λ (m : Mark). IsStepTo net counts prices new end m) same (kept end by.mark nearer.kept step) in
-                  subst (λ (s : ℕ). IsStepTo net counts prices new s mark) (sym e) told
+                  let told : IsStepTo task new end mark =
+                  subst (λ (m : Mark). IsStepTo task new end m) same (kept end by.mark nearer.kept step) in
+                  subst (λ (s : ℕ). IsStepTo task new s mark) (sym e) told
               | inr other_side ↦ kept other mark nearer.kept (from.ways.steps other mark (sym (set.others other other_side) ∙ at) apart)
             ];
         ranked = λ other done.
@@ -189,12 +191,12 @@ look_at way net counts prices side row j marks frontier distance is ground same 
 
 pub keep_none : (net : Network) (counts : List ℕ) (prices : List ℤ) (side distance : ℕ) (marks : List (Option Mark))
     → KeepWays net counts prices side distance marks marks
-keep_none net counts prices side distance marks source from = from
+keep_none net counts prices side distance marks excess source from = from
 
 pub keep_on : (net : Network) (counts : List ℕ) (prices : List ℤ) (side distance : ℕ) (start middle last : List (Option Mark))
     → KeepWays net counts prices side distance start middle → KeepWays net counts prices side distance middle last
     → KeepWays net counts prices side distance start last
-keep_on net counts prices side distance start middle last one two source from = two source (one source from)
+keep_on net counts prices side distance start middle last one two excess source from = two excess source (one excess source from)
 
 -- ---- a side that is settled
 
@@ -202,11 +204,11 @@ rank_settled : (marks : List (Option Mark)) (side rank : ℕ) (mark : Mark) → 
     → settled_as rank (mark_at marks side) ≡ Some (record mark { rank = Some rank })
 rank_settled marks side rank mark is = ap (settled_as rank) is
 
-pub ways_from : (net : Network) (counts : List ℕ) (prices : List ℤ) (source : ℕ) (marks new_marks : List (Option Mark)) (side rank distance : ℕ)
+pub ways_from : (task : Task) (marks new_marks : List (Option Mark)) (side rank distance : ℕ)
     → side < length marks → is_open (mark_at marks side) ≡ true → distance_at marks side ≡ distance → rank ≡ settled_count marks
     → new_marks ≡ slice_set marks side (settled_as rank (mark_at marks side)) → IsSettledNow marks new_marks side
-    → AreWays net counts prices source marks → AreWaysFrom net counts prices source side distance new_marks
-ways_from net counts prices source marks new_marks side rank distance within waits at rank_is is now ways =
+    → AreWays task marks → AreWaysFrom task side distance new_marks
+ways_from task marks new_marks side rank distance within waits at rank_is is now ways =
     let found = open_mark (mark_at marks side) waits in
     let mark = found.0 in
     let after : Mark = record mark { rank = Some rank } in
@@ -216,27 +218,27 @@ ways_from net counts prices source marks new_marks side rank distance within wai
     λ other settled e. never _ (not_both (mark_at marks side) waits) (subst (λ (s : ℕ). is_settled (mark_at marks s) ≡ true) e settled) in
     let same : (other : ℕ) → is_settled (mark_at marks other) ≡ true → mark_at new_marks other ≡ mark_at marks other =
     λ other settled. now.others other (apart_from other settled) in
-    let kept = step_kept net counts prices marks new_marks in
+    let kept = step_kept task marks new_marks in
     let count = now.count in
     record {
       ways = record {
-        small = small_kept prices marks new_marks source (now.distances source) ways.small;
+        small = small_kept task.prices marks new_marks task.source (now.distances task.source) ways.small;
         begun = λ other done.
-            elim (cases_eq side source) [
+            elim (cases_eq side task.source) [
               | inl e ↦ subst (λ (s : ℕ). is_settled (mark_at new_marks s) ≡ true) e now.here
               | inr apart ↦
                   let first = ways.begun _ (ways.steps side mark found.1 apart).from_settled in
-                  ap is_settled (same source first) ∙ first
+                  ap is_settled (same task.source first) ∙ first
             ];
         steps = λ other known here apart.
             elim (cases_eq other side) [
               | inl e ↦
-                  let not_source : side ≢ source = subst (λ (s : ℕ). s ≢ source) e apart in
+                  let not_source : side ≢ task.source = subst (λ (s : ℕ). s ≢ task.source) e apart in
                   let before = kept side mark same (ways.steps side mark found.1 not_source) in
                   let old_start = ways.steps side mark found.1 not_source in
                   let low = ways.ranked _ old_start.from_settled in
                   let rank_same = ap rank_of (same _ old_start.from_settled) in
-                  let told : IsStepTo net counts prices new_marks side after = record {
+                  let told : IsStepTo task new_marks side after = record {
                     inside = before.inside;
                     leads = before.leads;
                     leaves = before.leaves;
@@ -246,8 +248,8 @@ ways_from net counts prices source marks new_marks side rank distance within wai
                   } in
                   let at_side : mark_at new_marks side ≡ Some known = subst (λ (s : ℕ). mark_at new_marks s ≡ Some known) e here in
                   let is_after = same_marks after known (mark_at new_marks side) set.here at_side in
-                  subst (λ (s : ℕ). IsStepTo net counts prices new_marks s known) (sym e)
-                  (subst (λ (m : Mark). IsStepTo net counts prices new_marks side m) is_after told)
+                  subst (λ (s : ℕ). IsStepTo task new_marks s known) (sym e)
+                  (subst (λ (m : Mark). IsStepTo task new_marks side m) is_after told)
               | inr other_side ↦ kept other known same (ways.steps other known (sym (now.others other other_side) ∙ here) apart)
             ];
         ranked = λ other done.

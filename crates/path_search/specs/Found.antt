@@ -1,32 +1,14 @@
 -- What a search has found, while it goes on and when it ends.
 use Rattle.std.specs.Prelude.{◌≡◌, ℕ, ◌<◌, true, List, length, Option, ℤ, pos, ◌+ℤ◌, ◌≤ℤ◌, ◌<ℤ◌, IfSome, MatchOption}
-use Rattle.flow_model.specs.Network.{Network, arcs_of}
+use Rattle.flow_model.specs.Network.{arcs_of}
 use Rattle.reached_sides.specs.declared.mark.Mark.{Mark}
 use Rattle.residual_model.specs.Laws.{HoldBelow, IsClosed}
 use Rattle.residual_model.specs.Residual.{EachStep, reduced}
 use Rattle.path_search.specs.Ground.{price_at}
+use Rattle.path_search.specs.Task.{Task}
 use Rattle.path_search.specs.Search.{far, mark_at, distance_at, is_settled, is_reached, IsNext, IsWaiting}
 use Rattle.path_search.specs.Ways.{AreSettled, AreWays}
-use Rattle.path_search.specs.declared.ground.Ground.{Ground}
 use Rattle.path_search.specs.declared.walk.Search.{Search}
-
--- What a search is asked: by these prices, the nearest side that lacks something, from a source over the steps that
--- counts leave.
-pub record Task : Type 0 where
-  pub net : Network
-  pub counts : List ℕ
-  pub prices : List ℤ
-  pub excess : List ℤ
-  pub source : ℕ
-
--- The task of these.
-abbrev pub task_of : Network → List ℕ → List ℤ → List ℤ → ℕ → Task
-task_of net counts prices excess source =
-    record { net = net; counts = counts; prices = prices; excess = excess; source = source }
-
--- The task on a ground.
-abbrev pub task_on : Ground → ℕ → Task
-task_on lent source = task_of lent.net.now lent.counts.now lent.prices.now lent.excess.now source
 
 -- What a search has done at any time: it has reached its source, each step from a settled side leads no further than it
 -- costs, no settled side lacks anything, and its marks tell ways back.
@@ -37,7 +19,7 @@ pub record HasSettled (task : Task) (marks : List (Option Mark)) : Type 0 where
       → pos (distance_at marks to) ≤ℤ (pos (distance_at marks from) +ℤ reduced (price_at task.prices) from to cost))
       (arcs_of task.net) task.counts
   pub none_lacks : (side : ℕ) → is_settled (mark_at marks side) ≡ true → pos 0 ≤ℤ price_at task.excess side
-  pub ways : AreWays task.net task.counts task.prices task.source marks
+  pub ways : AreWays task marks
 
 -- It is under way: it may come to the next side.
 pub record IsUnderWay (task : Task) (held : Search) : Type 0 where

@@ -1,5 +1,6 @@
 pub mod Ground
 pub mod Search
+pub mod Task
 pub mod Ways
 pub mod Found
 pub mod Tight

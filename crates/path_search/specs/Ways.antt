@@ -8,6 +8,7 @@ use Rattle.reached_sides.specs.declared.mark.Mark.{Mark}
 use Rattle.reached_sides.specs.declared.mark.Way.{Way}
 use Rattle.reached_sides.specs.declared.mark.Way.TheVariants.{Along, Against}
 use Rattle.path_search.specs.Ground.{IsSmallPrice, arc_at, count_at, price_at}
+use Rattle.path_search.specs.Task.{Task, task_of}
 use Rattle.path_search.specs.Search.{mark_at, distance_at, is_open, is_settled, settled_count}
 
 -- Where a step over an arc starts.
@@ -36,44 +37,41 @@ rank_of None = 0
 rank_of (Some mark) = unwrap_or mark.rank 0
 
 -- A mark tells an open step to its side from one that was settled before, and so much further away as the step costs.
-pub record IsStepTo (net : Network) (counts : List ℕ) (prices : List ℤ) (marks : List (Option Mark)) (side : ℕ)
-    (mark : Mark) : Type 0 where
-  pub inside : mark.arc < length (arcs_of net)
-  pub leads : end_of mark.way (arc_at (arcs_of net) mark.arc) ≡ side
-  pub leaves : IsOpen mark.way (arc_at (arcs_of net) mark.arc) (count_at counts mark.arc)
-  pub from_settled : is_settled (mark_at marks (start_of mark.way (arc_at (arcs_of net) mark.arc))) ≡ true
+pub record IsStepTo (task : Task) (marks : List (Option Mark)) (side : ℕ) (mark : Mark) : Type 0 where
+  pub inside : mark.arc < length (arcs_of task.net)
+  pub leads : end_of mark.way (arc_at (arcs_of task.net) mark.arc) ≡ side
+  pub leaves : IsOpen mark.way (arc_at (arcs_of task.net) mark.arc) (count_at task.counts mark.arc)
+  pub from_settled : is_settled (mark_at marks (start_of mark.way (arc_at (arcs_of task.net) mark.arc))) ≡ true
   pub from_earlier : is_settled (Some mark) ≡ true
-      → rank_of (mark_at marks (start_of mark.way (arc_at (arcs_of net) mark.arc))) < rank_of (Some mark)
+      → rank_of (mark_at marks (start_of mark.way (arc_at (arcs_of task.net) mark.arc))) < rank_of (Some mark)
   pub further : pos mark.distance
-      ≡ pos (distance_at marks (start_of mark.way (arc_at (arcs_of net) mark.arc)))
-      +ℤ reduced (price_at prices) (start_of mark.way (arc_at (arcs_of net) mark.arc)) side
-      (cost_of_step mark.way (arc_at (arcs_of net) mark.arc) (count_at counts mark.arc))
+      ≡ pos (distance_at marks (start_of mark.way (arc_at (arcs_of task.net) mark.arc)))
+      +ℤ reduced (price_at task.prices) (start_of mark.way (arc_at (arcs_of task.net) mark.arc)) side
+      (cost_of_step mark.way (arc_at (arcs_of task.net) mark.arc) (count_at task.counts mark.arc))
 
 -- The distance and the price of a side together, which no move of prices changes.
 abbrev pub height_at : List ℤ → List (Option Mark) → ℕ → ℤ
 height_at prices marks side = pos (distance_at marks side) +ℤ price_at prices side
 
 -- Marks tell ways back to the source, which is settled before any other side and has a small height.
-pub record AreWays (net : Network) (counts : List ℕ) (prices : List ℤ) (source : ℕ) (marks : List (Option Mark))
-    : Type 0 where
-  pub small : IsSmallPrice (height_at prices marks source)
-  pub begun : (side : ℕ) → is_settled (mark_at marks side) ≡ true → is_settled (mark_at marks source) ≡ true
-  pub steps : (side : ℕ) (mark : Mark) → mark_at marks side ≡ Some mark → side ≢ source
-      → IsStepTo net counts prices marks side mark
+pub record AreWays (task : Task) (marks : List (Option Mark)) : Type 0 where
+  pub small : IsSmallPrice (height_at task.prices marks task.source)
+  pub begun : (side : ℕ) → is_settled (mark_at marks side) ≡ true → is_settled (mark_at marks task.source) ≡ true
+  pub steps : (side : ℕ) (mark : Mark) → mark_at marks side ≡ Some mark → side ≢ task.source
+      → IsStepTo task marks side mark
   pub ranked : (side : ℕ) → is_settled (mark_at marks side) ≡ true → rank_of (mark_at marks side) < settled_count marks
 
 -- And a side is settled at this distance.
-pub record AreWaysFrom (net : Network) (counts : List ℕ) (prices : List ℤ) (source side distance : ℕ)
-    (marks : List (Option Mark)) : Type 0 where
-  pub ways : AreWays net counts prices source marks
+pub record AreWaysFrom (task : Task) (side distance : ℕ) (marks : List (Option Mark)) : Type 0 where
+  pub ways : AreWays task marks
   pub settled : is_settled (mark_at marks side) ≡ true
   pub at : distance_at marks side ≡ distance
 
--- What looks from a side keeps all ways, whatever the source.
+-- What looks from a side keeps all ways, whatever the excess and the source.
 abbrev pub KeepWays : Network → List ℕ → List ℤ → ℕ → ℕ → List (Option Mark) → List (Option Mark) → Type 0
 KeepWays net counts prices side distance old new =
-    (source : ℕ) → AreWaysFrom net counts prices source side distance old
-    → AreWaysFrom net counts prices source side distance new
+    (excess : List ℤ) (source : ℕ) → AreWaysFrom (task_of net counts prices excess source) side distance old
+    → AreWaysFrom (task_of net counts prices excess source) side distance new
 
 -- The end of an open step is marked by it.
 pub record IsMarkedBy (way : Way) (prices : List ℤ) (place distance : ℕ) (arc : Arc) (n : ℕ)
@@ -94,9 +92,8 @@ MarksAtMost way prices place distance arc n old new =
     (new ≡ old) ⊎ IsMarkedBy way prices place distance arc n old new
 
 -- Marks tell ways to a side that is open, behind all that is settled.
-pub record HasWays (net : Network) (counts : List ℕ) (prices : List ℤ) (source : ℕ) (marks : List (Option Mark))
-    (side : ℕ) : Type 0 where
-  pub ways : AreWays net counts prices source marks
+pub record HasWays (task : Task) (marks : List (Option Mark)) (side : ℕ) : Type 0 where
+  pub ways : AreWays task marks
   pub waits : is_open (mark_at marks side) ≡ true
   pub behind : (other : ℕ) → is_settled (mark_at marks other) ≡ true → distance_at marks other ≤ distance_at marks side
 

@@ -3,7 +3,8 @@ ghost use Rattle.std.specs.Prelude.{◌≡◌, ◌*◌, ◌<◌, ◌≤◌, ◌<
 ghost use Rattle.std.specs.Prelude.{IfNone, IfOk, IfSome, OnOk};
 ghost use Rattle.path_search.specs.Ground.{IsGround, price_at};
 ghost use Rattle.path_search.specs.Search.{distance_at, settled_count};
-ghost use Rattle.path_search.specs.Found.{HasClosed, HasComeTo, HasEnded, HasReached, IsUnderWay, task_on};
+ghost use Rattle.path_search.specs.Task.{task_on};
+ghost use Rattle.path_search.specs.Found.{HasClosed, HasComeTo, HasEnded, HasReached, IsUnderWay};
 
 use crate::around::look_around;
 use crate::ground::Ground;

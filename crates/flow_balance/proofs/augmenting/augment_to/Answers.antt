@@ -19,20 +19,20 @@ pub trace-requires : goal.trace-requires
 trace-requires c =
     let found = found_at _ _ _ _ _ _ _ c.requires.state c.requires.ended in
     let raised = raised_by _ _ _ _ _ _ _ _ _ _ found c.distance_to-limit.ensures c.level.ensures.each c.level.ensures.moved c.level.ensures.levelled in
-    record { counts = c.args.counts.now; prices = c.level.new.prices; ways = (found_raised _ _ _ _ _ _ _ _ _ raised).ways }
+    record { counts = c.args.counts.now; prices = c.level.new.prices; excess = c.args.excess.now; ways = (found_raised _ _ _ _ _ _ _ _ _ raised).ways }
 
 pub move_counts-more-requires-clause-leave : goal.move_counts-more-requires-clause-leave
 move_counts-more-requires-clause-leave c =
     let found = found_at _ _ _ _ _ _ _ c.requires.state c.requires.ended in
     let raised = raised_by _ _ _ _ _ _ _ _ _ _ found c.distance_to-limit.ensures c.level.ensures.each c.level.ensures.moved c.level.ensures.levelled in
-    let path = c.in_ok-trace.ensures.path c.args.counts.now c.level.new.prices (found_raised _ _ _ _ _ _ _ _ _ raised).ways in
+    let path = c.in_ok-trace.ensures.path c.args.counts.now c.level.new.prices c.args.excess.now (found_raised _ _ _ _ _ _ _ _ _ raised).ways in
     rw c.deref-2.ensures.value path.leave
 
 pub move_counts-more-requires-clause-apart : goal.move_counts-more-requires-clause-apart
 move_counts-more-requires-clause-apart c =
     let found = found_at _ _ _ _ _ _ _ c.requires.state c.requires.ended in
     let raised = raised_by _ _ _ _ _ _ _ _ _ _ found c.distance_to-limit.ensures c.level.ensures.each c.level.ensures.moved c.level.ensures.levelled in
-    let path = c.in_ok-trace.ensures.path c.args.counts.now c.level.new.prices (found_raised _ _ _ _ _ _ _ _ _ raised).ways in
+    let path = c.in_ok-trace.ensures.path c.args.counts.now c.level.new.prices c.args.excess.now (found_raised _ _ _ _ _ _ _ _ _ raised).ways in
     rw c.deref-2.ensures.value path.apart
 
 pub move_counts-more-requires-clause-bounded : goal.move_counts-more-requires-clause-bounded
@@ -46,7 +46,7 @@ returns-clause-augmented c =
     let found = found_at _ _ _ _ _ _ _ c.requires.state c.requires.ended in
     let raised = raised_by _ _ _ _ _ _ _ _ _ _ found c.distance_to-limit.ensures c.level.ensures.each c.level.ensures.moved c.level.ensures.levelled in
     let now = found_raised _ _ _ _ _ _ _ _ _ raised in
-    let path = c.in_ok-trace.ensures.path c.args.counts.now c.level.new.prices now.ways in
+    let path = c.in_ok-trace.ensures.path c.args.counts.now c.level.new.prices c.args.excess.now now.ways in
     augmented_behind _ _ _ _ _ _ _ _ _ _ (later_moved _ _ _ _ _ _ _ _ found raised.are)
     (augmented c.args.net.now c.args.counts.now c.level.new.prices c.args.excess.now c.args.source c.args.side c.level.new.marks _ _ _ _ _
     now c.requires.source (none_moved _ _ _ _ _ _ _ _ _ raised) path (rw c.deref-2.ensures.value at c.move_counts-more.ensures))
@@ -60,7 +60,7 @@ returns-clause-goes_on c = λ yes.
     let raised = raised_by _ _ _ _ _ _ _ _ _ _ found c.distance_to-limit.ensures c.level.ensures.each c.level.ensures.moved c.level.ensures.levelled in
     let now = found_raised _ _ _ _ _ _ _ _ _ raised in
     let net = c.args.net.now in
-    let path = c.in_ok-trace.ensures.path c.args.counts.now c.level.new.prices now.ways in
+    let path = c.in_ok-trace.ensures.path c.args.counts.now c.level.new.prices c.args.excess.now now.ways in
     let can = c.can_go_on.ensures yes in
     let has = rw c.deref-2.ensures.value at c.move_counts-more.ensures in
     let has_more = subst (λ (more : Bool). HasMoved (arcs_of net) c.args.counts.now c.args.excess.now c.args.source c.args.side c.trace.new.path.items

@@ -1,4 +1,4 @@
-use Rattle.path_search.specs.Found.{task_on}
+use Rattle.path_search.specs.Task.{task_on}
 use Rattle.path_search.proofs.EndLemmas.{reached, closed}
 use Rattle.path_search.proofs.walk.Search.come_to_next.Goals as goal
 

@@ -1,6 +1,6 @@
 use Rattle.std.proofs.Common.{rules}
 use Rattle.std.proofs.lemmas.Int.{ints}
-use Rattle.path_search.specs.Found.{task_on}
+use Rattle.path_search.specs.Task.{task_on}
 use Rattle.path_search.proofs.EndLemmas.{reached}
 use Rattle.path_search.proofs.OrderLemmas.{come_to_source}
 use Rattle.path_search.proofs.walk.Search.find.Goals as goal

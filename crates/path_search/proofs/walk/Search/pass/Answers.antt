@@ -1,5 +1,5 @@
 use Rattle.std.proofs.Common.{◌≡◌, length, rules, arith}
-use Rattle.path_search.specs.Found.{task_on}
+use Rattle.path_search.specs.Task.{task_on}
 use Rattle.path_search.proofs.SearchLemmas.{few_settled}
 use Rattle.path_search.proofs.WalkLemmas.{settled_now, looks_from, waits_on, walked}
 use Rattle.path_search.proofs.CostLemmas.{few_sides}
@@ -37,12 +37,12 @@ returns-clause-under_way c =
     let rank : c.len.result ≡ length c.args.self.now.order.items = search rules in
     let now = settled_now _ _ _ _ next.inside next.current.waits c.settle.ensures in
     let count = come.listed.count in
-    let from = ways_from c.args.ground.net.now c.args.ground.counts.now c.args.ground.prices.now c.args.source _ _ _ _ _ next.inside next.current.waits next.current.at (omega (arith, rank, count))
+    let from = ways_from (task_on c.args.ground c.args.source) _ _ _ _ _ next.inside next.current.waits next.current.at (omega (arith, rank, count))
     c.settle.ensures now come.settled.ways in
     record {
       settled = walked (task_on c.args.ground c.args.source) _ _ _ _ _ _ _ c.requires.ground (record { settled = come.settled; next = next; now = now })
           c.requires.enough c.in_ok-look_around.ensures.looking c.in_ok-look_around.ensures.nearer
-          c.in_ok-look_around.ensures.out c.in_ok-look_around.ensures.back (c.in_ok-look_around.ensures.ways c.args.source from).ways;
+          c.in_ok-look_around.ensures.out c.in_ok-look_around.ensures.back (c.in_ok-look_around.ensures.ways c.args.ground.excess.now c.args.source from).ways;
       waiting = waits_on _ _ _ _ c.in_ok-look_around.ensures.looking;
       listed = rw c.in_ok-push.ensures.items
           (order_more _ _ _ _ _ _ next.inside next.current.waits rank c.settle.ensures now

@@ -2,7 +2,8 @@ use Rattle.std.proofs.Common.{ℕ, ◌-◌, ◌≤◌, length}
 use Rattle.std.specs.Prelude.{pos, ◌≤ℤ◌}
 use Rattle.path_search.specs.Ground.{price_at}
 use Rattle.path_search.specs.Search.{distance_at, settled_count}
-use Rattle.path_search.specs.Found.{HasComeTo, task_on}
+use Rattle.path_search.specs.Task.{task_on}
+use Rattle.path_search.specs.Found.{HasComeTo}
 use Rattle.path_search.proofs.walk.Search.walk.Given as goal
 
 abbrev pub invariant-loop-self : goal.invariant-loop-self

@@ -16,7 +16,7 @@ use Rattle.reached_sides.specs.declared.mark.Way.TheVariants.{Along, Against}
 use Rattle.path_search.specs.Ground.{AreSmall, IsGround, IsSmallPrice, arc_at, count_at, price_at}
 use Rattle.path_search.specs.Task.{Task, task_of}
 use Rattle.path_search.specs.Search.{mark_at, distance_of, distance_at, is_settled, is_open, settled_count, settled_as, Offers, ComeNearer, IsLooking}
-use Rattle.path_search.specs.Ways.{start_of, end_of, IsOpen, cost_of_step, rank_of, height_at, IsStepTo, AreWays, AreWaysFrom, KeepWays, MarksAtMost}
+use Rattle.path_search.specs.Ways.{start_of, end_of, IsOpen, cost_of_step, rank_of, height_at, IsStepTo, AreWays, AreWaysFrom, KeepWays, MarksAtMost, mark_by}
 use Rattle.path_search.proofs.RowLemmas.{placed, row_only}
 use Rattle.path_search.proofs.SearchLemmas.{IsSet, set_is, not_settled}
 use Rattle.path_search.proofs.WalkLemmas.{IsBegun, first, begun, open_mark, not_both, never, IsSettledNow}
@@ -38,22 +38,19 @@ ways_begin task n marks within small priced is =
 
 -- ---- a mark that is offered
 
-pub taken_by : (way : Way) (prices : List ℤ) (place distance : ℕ) (arc : Arc) (n : ℕ) (mark : Mark) (marks : List (Option Mark)) (frontier : List (ℕ × ℕ))
+pub taken_by : (way : Way) (prices : List ℤ) (place distance : ℕ) (arc : Arc) (n to : ℕ) (marks : List (Option Mark)) (frontier : List (ℕ × ℕ))
     (new_marks : List (Option Mark)) (new_frontier : List (ℕ × ℕ)) → IsLooking prices marks frontier distance → IsOpen way arc n
-    → mark.arc ≡ place → mark.way ≡ way → is_settled (Some mark) ≡ false → distance ≤ mark.distance
-    → pos mark.distance ≡ pos distance +ℤ reduced (price_at prices) (start_of way arc) (end_of way arc) (cost_of_step way arc n)
-    → Offers (end_of way arc) mark marks frontier new_marks new_frontier
+    → distance ≤ to
+    → pos to ≡ pos distance +ℤ reduced (price_at prices) (start_of way arc) (end_of way arc) (cost_of_step way arc n)
+    → Offers (end_of way arc) (mark_by way place to) marks frontier new_marks new_frontier
     → MarksAtMost way prices place distance arc n marks new_marks
-taken_by way prices place distance arc n mark marks frontier new_marks new_frontier looking leaves same_arc same_way is_not ahead further (inl same) = inl same.1
-taken_by way prices place distance arc n mark marks frontier new_marks new_frontier looking leaves same_arc same_way is_not ahead further (inr new) =
+taken_by way prices place distance arc n to marks frontier new_marks new_frontier looking leaves ahead further (inl same) = inl same.1
+taken_by way prices place distance arc n to marks frontier new_marks new_frontier looking leaves ahead further (inr new) =
     inr record {
-      mark = mark;
+      to = to;
       set = new.1;
-      was = not_settled marks frontier distance (end_of way arc) mark.distance looking.searching ahead new.0;
+      was = not_settled marks frontier distance (end_of way arc) to looking.searching ahead new.0;
       leaves = leaves;
-      same_arc = same_arc;
-      same_way = same_way;
-      not_settled = is_not;
       further = further;
     }
 
@@ -85,49 +82,33 @@ same_marks : (one two : Mark) (at : Option Mark) → at ≡ Some one → at ≡ 
 same_marks one two at is also = let both : Some one ≡ Some two = sym is ∙ also in cc
 
 -- what is known of a look over one arc from a side
-pub record IsLook (net : Network) (counts : List ℕ) (prices : List ℤ) (way : Way) (place side : ℕ) (old : List (Option Mark)) : Type 0 where
+pub record IsLook (net : Network) (way : Way) (place side : ℕ) (old : List (Option Mark)) : Type 0 where
   pub inside : place < length (arcs_of net)
   pub starts : start_of way (arc_at (arcs_of net) place) ≡ side
   pub within : end_of way (arc_at (arcs_of net) place) < length old
 
 -- the step that a look found
-found_step : (task : Task) (way : Way) (place side distance : ℕ) (old : List (Option Mark))
-    → IsLook task.net task.counts task.prices way place side old → is_settled (mark_at old side) ≡ true → distance_at old side ≡ distance
-    → (mark : Mark) → mark.arc ≡ place → mark.way ≡ way → is_settled (Some mark) ≡ false
+found_step : (task : Task) (way : Way) (place side distance to : ℕ) (old : List (Option Mark))
+    → IsLook task.net way place side old → is_settled (mark_at old side) ≡ true → distance_at old side ≡ distance
     → IsOpen way (arc_at (arcs_of task.net) place) (count_at task.counts place)
-    → pos mark.distance ≡ pos distance +ℤ reduced (price_at task.prices) (start_of way (arc_at (arcs_of task.net) place)) (end_of way (arc_at (arcs_of task.net) place))
+    → pos to ≡ pos distance +ℤ reduced (price_at task.prices) (start_of way (arc_at (arcs_of task.net) place)) (end_of way (arc_at (arcs_of task.net) place))
     (cost_of_step way (arc_at (arcs_of task.net) place) (count_at task.counts place))
-    → IsStepTo task old (end_of way (arc_at (arcs_of task.net) place)) mark
-found_step task way place side distance old look settled at mark same_arc same_way is_not leaves further =
+    → IsStepTo task old (end_of way (arc_at (arcs_of task.net) place)) (mark_by way place to)
+found_step task way place side distance to old look settled at leaves further =
     let arc = arc_at (arcs_of task.net) place in
-    let n = count_at task.counts place in
-    let Is : ℕ → Way → Type 0 = λ p w.
-    (p < length (arcs_of task.net))
-    × (end_of w (arc_at (arcs_of task.net) p) ≡ end_of way arc)
-    × IsOpen w (arc_at (arcs_of task.net) p) (count_at task.counts p)
-    × (is_settled (mark_at old (start_of w (arc_at (arcs_of task.net) p))) ≡ true)
-    × (pos mark.distance ≡ pos (distance_at old (start_of w (arc_at (arcs_of task.net) p)))
-    +ℤ reduced (price_at task.prices) (start_of w (arc_at (arcs_of task.net) p)) (end_of way arc) (cost_of_step w (arc_at (arcs_of task.net) p) (count_at task.counts p))) in
     let from : distance_at old (start_of way arc) ≡ distance = ap (distance_at old) look.starts ∙ at in
-    let here : Is place way = (
-      look.inside,
-      refl,
-      leaves,
-      ap (λ (s : ℕ). is_settled (mark_at old s)) look.starts ∙ settled,
-      further ∙ ap (λ (d : ℕ). pos d +ℤ reduced (price_at task.prices) (start_of way arc) (end_of way arc) (cost_of_step way arc n)) (sym from),
-    ) in
-    let there : Is mark.arc mark.way = subst (λ (w : Way). Is mark.arc w) (sym same_way) (subst (λ (p : ℕ). Is p way) (sym same_arc) here) in
     record {
-      inside = there.0;
-      leads = there.1;
-      leaves = there.2;
-      from_settled = there.3;
-      from_earlier = λ set. absurd (never _ is_not set);
-      further = there.4;
+      inside = look.inside;
+      leads = refl;
+      leaves = leaves;
+      from_settled = ap (λ (s : ℕ). is_settled (mark_at old s)) look.starts ∙ settled;
+      from_earlier = λ set. absurd (never false refl set);
+      further = further ∙ ap (λ (d : ℕ). pos d +ℤ reduced (price_at task.prices) (start_of way arc) (end_of way arc)
+          (cost_of_step way arc (count_at task.counts place))) (sym from);
     }
 
 pub look_keeps : (net : Network) (counts : List ℕ) (prices : List ℤ) (way : Way) (place side distance : ℕ) (old new : List (Option Mark))
-    → IsLook net counts prices way place side old → ComeNearer old new
+    → IsLook net way place side old → ComeNearer old new
     → MarksAtMost way prices place distance (arc_at (arcs_of net) place) (count_at counts place) old new
     → KeepWays net counts prices side distance old new
 look_keeps net counts prices way place side distance old new look nearer (inl same) excess source from =
@@ -136,10 +117,11 @@ look_keeps net counts prices way place side distance old new look nearer (inr by
     let arc = arc_at (arcs_of net) place in
     let n = count_at counts place in
     let end = end_of way arc in
-    let set = subst (λ (marks : List (Option Mark)). IsSet end by.mark old marks) (sym by.set) (set_is end by.mark old look.within) in
+    let by_step = mark_by way place by.to in
+    let set = subst (λ (marks : List (Option Mark)). IsSet end by_step old marks) (sym by.set) (set_is end by_step old look.within) in
     let task = task_of net counts prices excess source in
     let kept = step_kept task old new in
-    let step = found_step task way place side distance old look from.settled from.at by.mark by.same_arc by.same_way by.not_settled by.leaves by.further in
+    let step = found_step task way place side distance by.to old look from.settled from.at by.leaves by.further in
     let count = nearer.count in
     let source_settled = from.ways.begun side from.settled in
     record {
@@ -150,9 +132,9 @@ look_keeps net counts prices way place side distance old new look nearer (inr by
             elim (cases_eq other end) [
               | inl e ↦
                   let here : mark_at new end ≡ Some mark = subst (λ (s : ℕ). mark_at new s ≡ Some mark) e at in
-                  let same = same_marks by.mark mark (mark_at new end) set.here here in
+                  let same = same_marks by_step mark (mark_at new end) set.here here in
                   let told : IsStepTo task new end mark =
-                  subst (λ (m : Mark). IsStepTo task new end m) same (kept end by.mark nearer.kept step) in
+                  subst (λ (m : Mark). IsStepTo task new end m) same (kept end by_step nearer.kept step) in
                   subst (λ (s : ℕ). IsStepTo task new s mark) (sym e) told
               | inr other_side ↦ kept other mark nearer.kept (from.ways.steps other mark (sym (set.others other other_side) ∙ at) apart)
             ];
@@ -169,7 +151,7 @@ look_keeps net counts prices way place side distance old new look nearer (inr by
 pub look_at : (way : Way) (net : Network) (counts : List ℕ) (prices : List ℤ) (side : ℕ) (row : List ℕ) (j : ℕ) (marks : List (Option Mark))
     (frontier : List (ℕ × ℕ)) (distance : ℕ) → IsNet net → IsGround net counts prices
     → row ≡ places_of side (map (start_of way) (arcs_of net)) → j < length row → IsLooking prices marks frontier distance
-    → IsLook net counts prices way (get_or row j 0) side marks
+    → IsLook net way (get_or row j 0) side marks
 look_at way net counts prices side row j marks frontier distance is ground same below looking =
     let place = get_or row j 0 in
     let has = subst (λ (list : List ℕ). Contains list place) same (Contains-get_or row j 0 below) in

@@ -73,17 +73,18 @@ KeepWays net counts prices side distance old new =
     (excess : List ℤ) (source : ℕ) → AreWaysFrom (task_of net counts prices excess source) side distance old
     → AreWaysFrom (task_of net counts prices excess source) side distance new
 
+-- The mark of a step to an open side at a distance.
+abbrev pub mark_by : Way → ℕ → ℕ → Mark
+mark_by way place distance = record { distance = distance; arc = place; way = way; rank = None }
+
 -- The end of an open step is marked by it.
 pub record IsMarkedBy (way : Way) (prices : List ℤ) (place distance : ℕ) (arc : Arc) (n : ℕ)
     (old new : List (Option Mark)) : Type 0 where
-  pub mark : Mark
-  pub set : new ≡ slice_set old (end_of way arc) (Some mark)
+  pub to : ℕ
+  pub set : new ≡ slice_set old (end_of way arc) (Some (mark_by way place to))
   pub was : is_settled (mark_at old (end_of way arc)) ≡ false
   pub leaves : IsOpen way arc n
-  pub same_arc : mark.arc ≡ place
-  pub same_way : mark.way ≡ way
-  pub not_settled : is_settled (Some mark) ≡ false
-  pub further : pos mark.distance
+  pub further : pos to
       ≡ pos distance +ℤ reduced (price_at prices) (start_of way arc) (end_of way arc) (cost_of_step way arc n)
 
 -- A look over an arc marks at most the end of its step.

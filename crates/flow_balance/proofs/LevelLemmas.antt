@@ -8,8 +8,11 @@ use Rattle.flow_model.specs.Network.{Network, arcs_of}
 use Rattle.residual_model.specs.Residual.{StepsOn, moved, reduced}
 use Rattle.reached_sides.specs.declared.mark.Mark.{Mark}
 use Rattle.path_search.specs.Ground.{arc_at, count_at, price_at}
-use Rattle.path_search.specs.Search.{mark_at, far, distance_of, distance_at, is_settled, is_open, HasSettled}
-use Rattle.path_search.specs.Ways.{AreWays, HasComeTo, IsStepTo, rank_of, start_of}
+use Rattle.path_search.specs.Search.{mark_at, far, distance_of, distance_at, is_settled, is_open}
+use Rattle.path_search.specs.Ways.{AreWays, IsStepTo, rank_of, start_of}
+use Rattle.path_search.specs.Task.{task_of}
+use Rattle.path_search.specs.Found.{HasComeTo, HasEnded, HasSettled}
+use Rattle.path_search.specs.declared.walk.Search.{Search}
 use Rattle.path_search.proofs.RowLemmas.{each_at, each_by_place}
 use Rattle.path_search.proofs.WalkLemmas.{not_both}
 use Rattle.flow_balance.specs.Level.{IsLevelled, put_at}
@@ -78,7 +81,7 @@ is_at net counts prices excess source side marks new_prices new_marks found are 
         let same = ap distance_of (level.others other open_side) in
         let far : distance_at marks side ≤ distance_at marks other =
         elim (cases_lt (distance_at marks other) (distance_at marks side)) [
-          | inl near ↦ let clash : true ≡ false = sym (found.ways.nearest other near) ∙ open_side in absurd (cc)
+          | inl near ↦ let clash : true ≡ false = sym (found.reached.nearest other near) ∙ open_side in absurd (cc)
           | inr beyond ↦ beyond
         ] in
         let price = are.moved_all other in
@@ -111,9 +114,81 @@ raised_by net counts prices excess source side limit marks new_prices new_marks 
   level = subst (λ (n : ℕ). IsLevelled marks n new_marks) at level;
 }
 
+-- a step that a mark tells, where prices and distances moved together
+step_raised : (net : Network) (counts : List ℕ) (prices excess : List ℤ) (source side : ℕ) (marks : List (Option Mark)) (new_prices : List ℤ)
+    (new_marks : List (Option Mark)) (v : ℕ) (mark after : Mark) → IsRaised net counts prices excess source side marks new_prices new_marks
+    → mark_at marks v ≡ Some mark → mark_at new_marks v ≡ Some after → after ≡ record mark { distance = after.distance }
+    → IsStepTo (task_of net counts prices excess source) marks v mark → IsStepTo (task_of net counts new_prices excess source) new_marks v after
+step_raised net counts prices excess source side marks new_prices new_marks v mark after raised at at_now same step =
+    let limit = distance_at marks side in
+    let start = start_of mark.way (arc_at (arcs_of net) mark.arc) in
+    let here = is_at net counts prices excess source side marks new_prices new_marks raised.found raised.are raised.level v in
+    let there = is_at net counts prices excess source side marks new_prices new_marks raised.found raised.are raised.level start in
+    let d = ap distance_of at in
+    let d_now = ap distance_of at_now in
+    let told : IsStepTo (task_of net counts new_prices excess source) new_marks v (record mark { distance = after.distance }) = record {
+      inside = step.inside;
+      leads = step.leads;
+      leaves = step.leaves;
+      from_settled = settled_alike marks new_marks limit start raised.level ∙ step.from_settled;
+      from_earlier = λ settled.
+          let before = step.from_earlier settled in
+          let rank = rank_alike marks new_marks limit start raised.level in
+          omega (arith, before, rank);
+      further = let further = step.further in omega (arith, ints, further, here.price, there.price, d, d_now);
+    } in
+    subst (λ (m : Mark). IsStepTo (task_of net counts new_prices excess source) new_marks v m) (sym same) told
+
+-- the mark that a side had
+had_mark : (old new : List (Option Mark)) (limit side : ℕ) (after : Mark) → IsLevelled old limit new → mark_at new side ≡ Some after
+    → (mark : Mark) × (mark_at old side ≡ Some mark) × (after ≡ record mark { distance = after.distance })
+had_mark old new limit side after level at = by_mark (mark_at old side) refl
+  where
+    by_settled : (mark : Mark) → mark_at old side ≡ Some mark → (b : Bool) → is_settled (mark_at old side) ≡ b
+        → after ≡ record mark { distance = after.distance }
+    by_settled mark was true settled =
+        let is : mark_at new side ≡ Some (record mark { distance = limit }) = level.settled side settled ∙ ap (put_at limit) was in
+        let same = one_mark after (record mark { distance = limit }) (mark_at new side) at is in
+        let d : after.distance ≡ limit = ap (λ (m : Mark). m.distance) same in
+        same ∙ ap (λ (n : ℕ). record mark { distance = n }) (sym d)
+    by_settled mark was false other =
+        let same = one_mark after mark (mark_at new side) at (level.others side other ∙ was) in
+        let d : after.distance ≡ mark.distance = ap (λ (m : Mark). m.distance) same in
+        same ∙ ap (λ (n : ℕ). record mark { distance = n }) (sym d)
+
+    by_mark : (was : Option Mark) → mark_at old side ≡ was
+        → (mark : Mark) × (mark_at old side ≡ Some mark) × (after ≡ record mark { distance = after.distance })
+    by_mark None none =
+        let other : is_settled (mark_at old side) ≡ false = ap is_settled none in
+        let clash : None ≡ Some after = sym (level.others side other ∙ none) ∙ at in absurd (cc)
+    by_mark (Some mark) was = (mark, was, by_settled mark was (is_settled (mark_at old side)) refl)
+
+ways_raised : (net : Network) (counts : List ℕ) (prices excess : List ℤ) (source side : ℕ) (marks : List (Option Mark)) (new_prices : List ℤ)
+    (new_marks : List (Option Mark)) → IsRaised net counts prices excess source side marks new_prices new_marks
+    → AreWays (task_of net counts new_prices excess source) new_marks
+ways_raised net counts prices excess source side marks new_prices new_marks raised =
+    let limit = distance_at marks side in
+    let ways = raised.found.ways.ways in
+    let count = raised.level.count in
+    record {
+      small =
+          let here = is_at net counts prices excess source side marks new_prices new_marks raised.found raised.are raised.level source in
+          record { least = omega (arith, ints, ways.small.least, here.price); most = omega (arith, ints, ways.small.most, here.price) };
+      begun = λ other settled.
+          settled_alike marks new_marks limit source raised.level
+          ∙ ways.begun other (sym (settled_alike marks new_marks limit other raised.level) ∙ settled);
+      steps = λ v after at apart.
+          let had = had_mark marks new_marks limit v after raised.level at in
+          step_raised net counts prices excess source side marks new_prices new_marks v had.0 after raised had.1 at had.2 (ways.steps v had.0 had.1 apart);
+      ranked = λ other settled.
+          let before = ways.ranked other (sym (settled_alike marks new_marks limit other raised.level) ∙ settled) in
+          let rank = rank_alike marks new_marks limit other raised.level in
+          omega (arith, before, rank, count);
+    }
+
 settled_raised : (net : Network) (counts : List ℕ) (prices excess : List ℤ) (source side : ℕ) (marks : List (Option Mark)) (new_prices : List ℤ)
     (new_marks : List (Option Mark)) → IsRaised net counts prices excess source side marks new_prices new_marks
-    → HasSettled net counts new_prices excess source new_marks
+    → HasSettled (task_of net counts new_prices excess source) new_marks
 settled_raised net counts prices excess source side marks new_prices new_marks raised =
     let limit = distance_at marks side in
     let done = raised.found.reached.settled in
@@ -143,81 +218,7 @@ settled_raised net counts prices excess source side marks new_prices new_marks r
                 omega (arith, ints, step, from.price, to.price);
           });
       none_lacks = λ other settled. done.none_lacks other (was other settled);
-    }
-
--- a step that a mark tells, where prices and distances moved together
-step_raised : (net : Network) (counts : List ℕ) (prices excess : List ℤ) (source side : ℕ) (marks : List (Option Mark)) (new_prices : List ℤ)
-    (new_marks : List (Option Mark)) (v : ℕ) (mark after : Mark) → IsRaised net counts prices excess source side marks new_prices new_marks
-    → mark_at marks v ≡ Some mark → mark_at new_marks v ≡ Some after → after ≡ record mark { distance = after.distance }
-    → IsStepTo net counts prices marks v mark → IsStepTo net counts new_prices new_marks v after
-step_raised net counts prices excess source side marks new_prices new_marks v mark after raised at at_now same step =
-    let limit = distance_at marks side in
-    let start = start_of mark.way (arc_at (arcs_of net) mark.arc) in
-    let here = is_at net counts prices excess source side marks new_prices new_marks raised.found raised.are raised.level v in
-    let there = is_at net counts prices excess source side marks new_prices new_marks raised.found raised.are raised.level start in
-    let d = ap distance_of at in
-    let d_now = ap distance_of at_now in
-    let told : IsStepTo net counts new_prices new_marks v (record mark { distance = after.distance }) = record {
-      inside = step.inside;
-      leads = step.leads;
-      leaves = step.leaves;
-      from_settled = settled_alike marks new_marks limit start raised.level ∙ step.from_settled;
-      from_earlier = λ settled.
-          let before = step.from_earlier settled in
-          let rank = rank_alike marks new_marks limit start raised.level in
-          omega (arith, before, rank);
-      further = let further = step.further in omega (arith, ints, further, here.price, there.price, d, d_now);
-    } in
-    subst (λ (m : Mark). IsStepTo net counts new_prices new_marks v m) (sym same) told
-
--- the mark that a side had
-had_mark : (old new : List (Option Mark)) (limit side : ℕ) (after : Mark) → IsLevelled old limit new → mark_at new side ≡ Some after
-    → (mark : Mark) × (mark_at old side ≡ Some mark) × (after ≡ record mark { distance = after.distance })
-had_mark old new limit side after level at = by_mark (mark_at old side) refl
-  where
-    by_settled : (mark : Mark) → mark_at old side ≡ Some mark → (b : Bool) → is_settled (mark_at old side) ≡ b
-        → after ≡ record mark { distance = after.distance }
-    by_settled mark was true settled =
-        let is : mark_at new side ≡ Some (record mark { distance = limit }) = level.settled side settled ∙ ap (put_at limit) was in
-        let same = one_mark after (record mark { distance = limit }) (mark_at new side) at is in
-        let d : after.distance ≡ limit = ap (λ (m : Mark). m.distance) same in
-        same ∙ ap (λ (n : ℕ). record mark { distance = n }) (sym d)
-    by_settled mark was false other =
-        let same = one_mark after mark (mark_at new side) at (level.others side other ∙ was) in
-        let d : after.distance ≡ mark.distance = ap (λ (m : Mark). m.distance) same in
-        same ∙ ap (λ (n : ℕ). record mark { distance = n }) (sym d)
-
-    by_mark : (was : Option Mark) → mark_at old side ≡ was
-        → (mark : Mark) × (mark_at old side ≡ Some mark) × (after ≡ record mark { distance = after.distance })
-    by_mark None none =
-        let other : is_settled (mark_at old side) ≡ false = ap is_settled none in
-        let clash : None ≡ Some after = sym (level.others side other ∙ none) ∙ at in absurd (cc)
-    by_mark (Some mark) was = (mark, was, by_settled mark was (is_settled (mark_at old side)) refl)
-
-ways_raised : (net : Network) (counts : List ℕ) (prices excess : List ℤ) (source side : ℕ) (marks : List (Option Mark)) (new_prices : List ℤ)
-    (new_marks : List (Option Mark)) → IsRaised net counts prices excess source side marks new_prices new_marks
-    → AreWays net counts new_prices source new_marks
-ways_raised net counts prices excess source side marks new_prices new_marks raised =
-    let limit = distance_at marks side in
-    let ways = raised.found.ways.ways in
-    let count = raised.level.count in
-    record {
-      level = ways.level;
-      small = ways.small;
-      starts =
-          let here = is_at net counts prices excess source side marks new_prices new_marks raised.found raised.are raised.level source in
-          let starts = ways.starts in
-          omega (arith, ints, starts, here.price);
-      begun = λ other settled.
-          settled_alike marks new_marks limit source raised.level
-          ∙ ways.begun other (sym (settled_alike marks new_marks limit other raised.level) ∙ settled);
-      steps = λ v after at apart.
-          let had = had_mark marks new_marks limit v after raised.level at in
-          step_raised net counts prices excess source side marks new_prices new_marks v had.0 after raised had.1 at had.2 (ways.steps v had.0 had.1 apart);
-      ranked = λ other settled.
-          let before = ways.ranked other (sym (settled_alike marks new_marks limit other raised.level) ∙ settled) in
-          let rank = rank_alike marks new_marks limit other raised.level in
-          omega (arith, before, rank, count);
+      ways = ways_raised net counts prices excess source side marks new_prices new_marks raised;
     }
 
 -- the side that the search has come to stays where it is
@@ -244,8 +245,9 @@ found_raised net counts prices excess source side marks new_prices new_marks rai
       state = prices_moved net counts prices excess source side marks new_prices found raised.are;
       reached = record {
         settled = settled_raised net counts prices excess source side marks new_prices new_marks raised;
-        lacks = found.reached.lacks;
         inside = let inside = found.reached.inside in omega (arith, inside, each);
+        lacks = found.reached.lacks;
+        nearest = λ other near. let far = (at other).beyond in absurd (omega (arith, near, far, d));
         hold = each_by_place (StepsOn Hold) (arcs_of net) counts found.state.ground.counted
             (λ place inside. record {
               along = λ below near. let far = (at (arc_at (arcs_of net) place).tail).beyond in absurd (omega (arith, near, far, d));
@@ -258,7 +260,6 @@ found_raised net counts prices excess source side marks new_prices new_marks rai
         behind = λ other settled.
             let put = (at other).settled (sym (settled_alike marks new_marks limit other raised.level) ∙ settled) in
             omega (arith, put, d);
-        nearest = λ other near. let far = (at other).beyond in absurd (omega (arith, near, far, d));
       };
     }
 
@@ -285,50 +286,49 @@ none_moved net counts prices excess source side marks new_prices new_marks raise
 }
 
 -- what the search has come to
-pub come_raised : (net : Network) (counts : List ℕ) (prices excess : List ℤ) (source side : ℕ) (marks : List (Option Mark)) (frontier : List (ℕ × ℕ))
-    (order : List ℕ) (new_prices : List ℤ) (new_marks : List (Option Mark))
-    → IsRaised net counts prices excess source side marks new_prices new_marks
-    → HasComeTo net counts prices excess source marks frontier order side (distance_at marks side)
-    → HasComeTo net counts new_prices excess source new_marks frontier order side (distance_at new_marks side)
-come_raised net counts prices excess source side marks frontier order new_prices new_marks raised come =
-    let limit = distance_at marks side in
+pub come_raised : (net : Network) (counts : List ℕ) (prices excess : List ℤ) (source side : ℕ) (held : Search)
+    (new_prices : List ℤ) (new_marks : List (Option Mark))
+    → IsRaised net counts prices excess source side held.marks new_prices new_marks
+    → HasEnded (task_of net counts prices excess source) held (Some side)
+    → HasComeTo (task_of net counts new_prices excess source) (record held { marks = new_marks }) side (distance_at new_marks side)
+come_raised net counts prices excess source side held new_prices new_marks raised ended =
+    let limit = distance_at held.marks side in
     let level = raised.level in
     let each = level.each in
-    let at = is_at net counts prices excess source side marks new_prices new_marks raised.found raised.are level in
-    let same = side_same net counts prices excess source side marks new_prices new_marks raised in
+    let at = is_at net counts prices excess source side held.marks new_prices new_marks raised.found raised.are level in
+    let same = side_same net counts prices excess source side held.marks new_prices new_marks raised in
     let d : distance_at new_marks side ≡ limit = ap distance_of same in
     let count = level.count in
     record {
-      done = settled_raised net counts prices excess source side marks new_prices new_marks raised;
+      settled = settled_raised net counts prices excess source side held.marks new_prices new_marks raised;
       next = record {
-        current = record { waits = ap is_open same ∙ come.next.current.waits; at = refl };
-        inside = let inside = come.next.inside in omega (arith, inside, each);
+        current = record { waits = ap is_open same ∙ ended.next.current.waits; at = refl };
+        inside = let inside = ended.next.inside in omega (arith, inside, each);
         others = λ other waits apart.
-            let open_side : is_settled (mark_at marks other) ≡ false =
-            sym (settled_alike marks new_marks limit other level) ∙ not_both (mark_at new_marks other) waits in
+            let open_side : is_settled (mark_at held.marks other) ≡ false =
+            sym (settled_alike held.marks new_marks limit other level) ∙ not_both (mark_at new_marks other) waits in
             let kept = level.others other open_side in
-            let there = come.next.others other (ap is_open (sym kept) ∙ waits) apart in
-            subst (λ (n : ℕ). Contains frontier (n, other)) (sym (ap distance_of kept)) there;
-        within = λ k e inside. let within = come.next.within k e inside in omega (arith, within, each);
-        ahead = λ k e inside. let ahead = come.next.ahead k e inside in omega (arith, ahead, d);
+            let there = ended.next.others other (ap is_open (sym kept) ∙ waits) apart in
+            subst (λ (n : ℕ). Contains held.frontier (n, other)) (sym (ap distance_of kept)) there;
+        within = λ k e inside. let within = ended.next.within k e inside in omega (arith, within, each);
+        ahead = λ k e inside. let ahead = ended.next.ahead k e inside in omega (arith, ahead, d);
         behind = λ other settled.
-            let put = all_level net counts prices excess source side marks new_prices new_marks raised other settled in omega (arith, put);
+            let put = all_level net counts prices excess source side held.marks new_prices new_marks raised other settled in omega (arith, put);
       };
-      ways = ways_raised net counts prices excess source side marks new_prices new_marks raised;
-      settled = record {
+      listed = record {
         in_order = record {
           settled = λ k below.
-              let old = come.settled.in_order.settled k below in
-              (settled_alike marks new_marks limit (get_or order k 0) level ∙ old.0, rank_alike marks new_marks limit (get_or order k 0) level ∙ old.1);
+              let old = ended.listed.in_order.settled k below in
+              (settled_alike held.marks new_marks limit (get_or held.order.items k 0) level ∙ old.0, rank_alike held.marks new_marks limit (get_or held.order.items k 0) level ∙ old.1);
           listed = λ other settled.
-              let old = come.settled.in_order.listed other (sym (settled_alike marks new_marks limit other level) ∙ settled) in
-              let rank = rank_alike marks new_marks limit other level in
-              (omega (arith, rank, old.0), ap (λ (r : ℕ). get_or order r 0) rank ∙ old.1);
+              let old = ended.listed.in_order.listed other (sym (settled_alike held.marks new_marks limit other level) ∙ settled) in
+              let rank = rank_alike held.marks new_marks limit other level in
+              (omega (arith, rank, old.0), ap (λ (r : ℕ). get_or held.order.items r 0) rank ∙ old.1);
         };
-        count = come.settled.count ∙ sym count;
+        count = ended.listed.count ∙ sym count;
         first = λ k below.
-            let one = (at (get_or order 0 0)).settled (come.settled.in_order.settled 0 (omega (arith, below))).0 in
-            let other = (at (get_or order k 0)).settled (come.settled.in_order.settled k below).0 in
+            let one = (at (get_or held.order.items 0 0)).settled (ended.listed.in_order.settled 0 (omega (arith, below))).0 in
+            let other = (at (get_or held.order.items k 0)).settled (ended.listed.in_order.settled k below).0 in
             omega (arith, one, other);
       };
     }

@@ -17,8 +17,11 @@ use Rattle.residual_model.proofs.PushLemmas.{starting_counts_fit}
 use Rattle.residual_model.proofs.StepLemmas.{moved_prices_fit}
 use Rattle.reached_sides.specs.declared.mark.Mark.{Mark}
 use Rattle.path_search.specs.Ground.{IsSmallPrice, AreSmall, arc_at, count_at, price_at, sides_of}
-use Rattle.path_search.specs.Search.{distance_of, distance_at, settled_count, HasReached}
-use Rattle.path_search.specs.Ways.{HasEnded, HasWays}
+use Rattle.path_search.specs.Search.{distance_of, distance_at, settled_count}
+use Rattle.path_search.specs.Ways.{HasWays}
+use Rattle.path_search.specs.Task.{task_of}
+use Rattle.path_search.specs.Found.{HasEnded, HasReached}
+use Rattle.path_search.specs.declared.walk.Search.{Search}
 use Rattle.path_search.proofs.CostLemmas.{few_sides, small_at, way_cost, way_near}
 use Rattle.path_search.proofs.RowLemmas.{each_by_place}
 use Rattle.path_search.proofs.SearchLemmas.{few_settled}
@@ -117,8 +120,17 @@ started net counts prices excess start zeros =
 -- what is known when a search has come to a side
 pub record IsFound (net : Network) (counts : List ℕ) (prices excess : List ℤ) (source side : ℕ) (marks : List (Option Mark)) : Type 0 where
   pub state : IsState net counts prices excess
-  pub reached : HasReached net counts prices excess source marks side
-  pub ways : HasWays net counts prices source marks side
+  pub reached : HasReached (task_of net counts prices excess source) marks side
+  pub ways : HasWays (task_of net counts prices excess source) marks side
+
+pub found_at : (net : Network) (counts : List ℕ) (prices excess : List ℤ) (source side : ℕ) (held : Search)
+    → IsState net counts prices excess → HasEnded (task_of net counts prices excess source) held (Some side)
+    → IsFound net counts prices excess source side held.marks
+found_at net counts prices excess source side held state ended = record {
+  state = state;
+  reached = ended.reached;
+  ways = record { ways = ended.reached.settled.ways; waits = ended.next.current.waits; behind = ended.next.behind };
+}
 
 few_marks : (net : Network) (counts : List ℕ) (prices excess : List ℤ) (source side : ℕ) (marks : List (Option Mark))
     → IsFound net counts prices excess source side marks → settled_count marks < 2 ^ 18
@@ -133,7 +145,7 @@ pub limit_near : (net : Network) (counts : List ℕ) (prices excess : List ℤ) 
     → IsFound net counts prices excess source side marks → distance_at marks side < 2 ^ 62
 limit_near net counts prices excess source side marks found =
     let mark = marked marks side side found.ways.waits (inl refl) in
-    let near = way_near net counts prices source marks found.state.ground found.ways.ways found.reached.settled.each side mark.0 mark.1 in
+    let near = way_near (task_of net counts prices excess source) marks found.state.ground found.ways.ways found.reached.settled.each side mark.0 mark.1 in
     let d = ap distance_of mark.1 in
     omega (arith, near, d)
 
@@ -143,7 +155,7 @@ lacking_far : (net : Network) (counts : List ℕ) (prices excess : List ℤ) (so
 lacking_far net counts prices excess source side marks found other lacks =
     elim (cases_lt (distance_at marks other) (distance_at marks side)) [
       | inl near ↦
-          let enough = found.reached.settled.none_lacks other (found.ways.nearest other near) in
+          let enough = found.reached.settled.none_lacks other (found.reached.nearest other near) in
           absurd (omega (arith, ints, enough, lacks))
       | inr beyond ↦ beyond
     ]
@@ -158,10 +170,10 @@ moved_near net counts prices excess source side marks found other =
       | inl near ↦
           let few = few_marks net counts prices excess source side marks found in
           let end = marked marks side side found.ways.waits (inl refl) in
-          let end_cost = way_cost net counts prices source marks found.state.ground found.ways.ways side end.0 end.1 in
+          let end_cost = way_cost (task_of net counts prices excess source) marks found.state.ground found.ways.ways side end.0 end.1 in
           let end_d = ap distance_of end.1 in
-          let mark = marked marks side other found.ways.waits (inr (found.ways.nearest other near)) in
-          let cost = way_cost net counts prices source marks found.state.ground found.ways.ways other mark.0 mark.1 in
+          let mark = marked marks side other found.ways.waits (inr (found.reached.nearest other near)) in
+          let cost = way_cost (task_of net counts prices excess source) marks found.state.ground found.ways.ways other mark.0 mark.1 in
           let d = ap distance_of mark.1 in
           inr (record {
             side = side;
@@ -461,20 +473,20 @@ all_passed net old_counts old_prices old_excess old_left counts prices excess le
 
 -- what augmentations so far have given, the source has some excess, and the search has come to a side, or closed
 pub record IsTaking (net : Network) (old_counts : List ℕ) (old_prices old_excess : List ℤ) (old_left : ℕ) (counts : List ℕ)
-    (prices excess : List ℤ) (left source : ℕ) (marks : List (Option Mark)) (frontier : List (ℕ × ℕ)) (order : List ℕ) (found : Option ℕ) : Type 0 where
+    (prices excess : List ℤ) (left source : ℕ) (held : Search) (found : Option ℕ) : Type 0 where
   pub given : IsGiven net old_counts old_prices old_excess counts prices excess
   pub spent : AreSpent old_left old_excess left excess
   pub some : 0 < left
   pub gathers : pos 0 <ℤ price_at excess source
-  pub ended : HasEnded net counts prices excess source marks frontier order found
+  pub ended : HasEnded (task_of net counts prices excess source) held found
 
 pub taking_marked : (net : Network) (old_counts : List ℕ) (old_prices old_excess : List ℤ) (old_left : ℕ) (counts : List ℕ)
-    (prices excess : List ℤ) (left source : ℕ) (marks : List (Option Mark)) (frontier : List (ℕ × ℕ)) (order : List ℕ) (found : Option ℕ)
-    → IsTaking net old_counts old_prices old_excess old_left counts prices excess left source marks frontier order found
-    → length marks ≡ length prices
-taking_marked net old_counts old_prices old_excess old_left counts prices excess left source marks frontier order None so_far =
+    (prices excess : List ℤ) (left source : ℕ) (held : Search) (found : Option ℕ)
+    → IsTaking net old_counts old_prices old_excess old_left counts prices excess left source held found
+    → length held.marks ≡ length prices
+taking_marked net old_counts old_prices old_excess old_left counts prices excess left source held None so_far =
     so_far.ended.reached.settled.each
-taking_marked net old_counts old_prices old_excess old_left counts prices excess left source marks frontier order (Some side) so_far =
+taking_marked net old_counts old_prices old_excess old_left counts prices excess left source held (Some side) so_far =
     so_far.ended.reached.settled.each
 
 -- what was taken, with one augmentation more
@@ -484,12 +496,12 @@ pub record AreTaken (net : Network) (old_counts : List ℕ) (old_prices old_exce
   pub spent : AreSpent old_left old_excess left excess
 
 pub taken_more : (net : Network) (old_counts : List ℕ) (old_prices old_excess : List ℤ) (old_left : ℕ) (counts : List ℕ)
-    (prices excess : List ℤ) (left source : ℕ) (marks : List (Option Mark)) (frontier : List (ℕ × ℕ)) (order : List ℕ) (found : Option ℕ)
+    (prices excess : List ℤ) (left source : ℕ) (held : Search) (found : Option ℕ)
     (new_counts : List ℕ) (new_prices new_excess : List ℤ) (new_left : ℕ)
-    → IsTaking net old_counts old_prices old_excess old_left counts prices excess left source marks frontier order found
+    → IsTaking net old_counts old_prices old_excess old_left counts prices excess left source held found
     → IsAugmented net counts prices excess new_counts new_prices new_excess → new_left + 1 ≡ left
     → AreTaken net old_counts old_prices old_excess old_left new_counts new_prices new_excess new_left
-taken_more net old_counts old_prices old_excess old_left counts prices excess left source marks frontier order found new_counts new_prices new_excess new_left
+taken_more net old_counts old_prices old_excess old_left counts prices excess left source held found new_counts new_prices new_excess new_left
     so_far now one = record {
       augmented_is = augmented_behind net old_counts counts new_counts old_prices old_excess prices excess new_prices new_excess so_far.given.later now;
       spent = spent_more old_left left new_left old_excess excess new_excess so_far.spent (spent_one left new_left excess new_excess one now.less);
@@ -497,10 +509,10 @@ taken_more net old_counts old_prices old_excess old_left counts prices excess le
 
 -- the search that closed
 pub taking_closed : (net : Network) (old_counts : List ℕ) (old_prices old_excess : List ℤ) (old_left : ℕ) (counts : List ℕ)
-    (prices excess : List ℤ) (left source : ℕ) (marks : List (Option Mark)) (frontier : List (ℕ × ℕ)) (order : List ℕ)
-    → IsTaking net old_counts old_prices old_excess old_left counts prices excess left source marks frontier order None
-    → IsClosedFrom net counts prices excess marks
-taking_closed net old_counts old_prices old_excess old_left counts prices excess left source marks frontier order so_far = record {
+    (prices excess : List ℤ) (left source : ℕ) (held : Search)
+    → IsTaking net old_counts old_prices old_excess old_left counts prices excess left source held None
+    → IsClosedFrom net counts prices excess held.marks
+taking_closed net old_counts old_prices old_excess old_left counts prices excess left source held so_far = record {
   source = source;
   state = so_far.given.state;
   gathers = so_far.gathers;

@@ -8,8 +8,10 @@ use Rattle.flow_model.specs.Sound.{IsNet}
 use Rattle.residual_model.specs.Residual.{starting}
 use Rattle.reached_sides.specs.declared.mark.Mark.{Mark}
 use Rattle.path_search.specs.Ground.{IsGround, arc_at, count_at, price_at, sides_of}
-use Rattle.path_search.specs.Search.{HasClosed, distance_at}
-use Rattle.path_search.specs.Ways.{HasComeTo}
+use Rattle.path_search.specs.Search.{distance_at}
+use Rattle.path_search.specs.Task.{Task, task_of}
+use Rattle.path_search.specs.Found.{HasClosed, HasComeTo}
+use Rattle.path_search.specs.declared.walk.Search.{Search}
 use Rattle.path_search.specs.declared.step.Step.{Step}
 use Rattle.path_search.specs.Path.{StepTakes, pushed}
 use Rattle.flow_balance.specs.Excess.{AreExcess, surplus_of, lack_of, surplus, lack, transferred}
@@ -97,7 +99,7 @@ pub record IsClosedFrom (net : Network) (counts : List ℕ) (prices excess : Lis
   pub source : ℕ
   pub state : IsState net counts prices excess
   pub gathers : pos 0 <ℤ price_at excess source
-  pub closed : HasClosed net counts prices excess source marks
+  pub closed : HasClosed (task_of net counts prices excess source) marks
 
 -- An amount went along the steps, from the excess of a source to a side that lacked it. It is told whether the steps
 -- take more.
@@ -113,8 +115,7 @@ pub record HasMoved (arcs : List Arc) (counts : List ℕ) (excess : List ℤ) (s
   pub excess_is : new_excess ≡ transferred excess source side amount
 
 -- A search has come to a side, and can go on from there: the side lacks nothing, and the source has excess.
-pub record CanGoOn (net : Network) (counts : List ℕ) (prices excess : List ℤ) (source : ℕ) (marks : List (Option Mark))
-    (frontier : List (ℕ × ℕ)) (order : List ℕ) (side : ℕ) : Type 0 where
-  pub come : HasComeTo net counts prices excess source marks frontier order side (distance_at marks side)
-  pub enough : pos 0 ≤ℤ price_at excess side
-  pub gathers : pos 0 <ℤ price_at excess source
+pub record CanGoOn (task : Task) (held : Search) (side : ℕ) : Type 0 where
+  pub come : HasComeTo task held side (distance_at held.marks side)
+  pub enough : pos 0 ≤ℤ price_at task.excess side
+  pub gathers : pos 0 <ℤ price_at task.excess task.source

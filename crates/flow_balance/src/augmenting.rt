@@ -1,11 +1,11 @@
 // One augmentation: a search, the prices that it moves, and a push along the way that it finds.
-ghost use Rattle.std.specs.Prelude.{◌≡◌, ◌+◌, ◌^◌, ◌<◌, ◌≤◌, ℕ, length, min, true, false, pos, ◌<ℤ◌, ◌≤ℤ◌};
+ghost use Rattle.std.specs.Prelude.{◌≡◌, ◌+◌, ◌^◌, ◌<◌, ◌≤◌, ℕ, length, min, true, false, Some, pos, ◌<ℤ◌, ◌≤ℤ◌};
 ghost use Rattle.std.specs.Prelude.{IfOk, OnOk};
 ghost use Rattle.std.specs.List.{All};
 ghost use Rattle.flow_model.specs.Network.{arcs_of};
 ghost use Rattle.path_search.specs.Ground.{count_at, price_at};
-ghost use Rattle.path_search.specs.Search.{HasReached, distance_at};
-ghost use Rattle.path_search.specs.Ways.{HasComeTo, HasWays};
+ghost use Rattle.path_search.specs.Task.{task_of};
+ghost use Rattle.path_search.specs.Found.{HasEnded};
 ghost use Rattle.path_search.specs.Path.{AreApart, IsOpenStep};
 ghost use Rattle.flow_balance.specs.Excess.{lack_of, surplus_of};
 ghost use Rattle.flow_balance.specs.State.{AreSpent, CanGoOn, HasMoved, IsAugmented};
@@ -102,12 +102,8 @@ fn augment_to(
     work: &mut Workspace,
 ) -> Result<bool, NoMemory>
     requires state { IsState net.now counts.old prices.old excess.old }
-    requires reached { HasReached net.now counts.old prices.old excess.old source
-        work.old.search.marks side }
-    requires ways { HasWays net.now counts.old prices.old source work.old.search.marks side }
-    requires come { HasComeTo net.now counts.old prices.old excess.old source
-        work.old.search.marks work.old.search.frontier work.old.search.order.items side
-        (distance_at work.old.search.marks side) }
+    requires ended { HasEnded (task_of net.now counts.old prices.old excess.old source)
+        work.old.search (Some side) }
     requires source { source < length excess.old }
     requires gathers { pos 0 <ℤ price_at excess.old source }
     requires some { 0 < work.old.left }
@@ -119,8 +115,8 @@ fn augment_to(
         counts.new prices.new excess.new) }
     ensures some { IfOk result (λ goes_on. goes_on ≡ true → 0 < work.new.left) }
     ensures goes_on { IfOk result (λ goes_on. goes_on ≡ true
-        → CanGoOn net.now counts.new prices.new excess.new source work.new.search.marks
-        work.new.search.frontier work.new.search.order.items side) }
+        → CanGoOn (task_of net.now counts.new prices.new excess.new source)
+        work.new.search side) }
 {
     let limit = work.search.distance_to(side);
     level(prices, &mut work.search.marks, &work.search.order, limit);

@@ -15,8 +15,9 @@ use Rattle.reached_sides.specs.declared.mark.Mark.{Mark}
 use Rattle.reached_sides.specs.declared.mark.Way.{Way}
 use Rattle.reached_sides.specs.declared.mark.Way.TheVariants.{Along, Against}
 use Rattle.path_search.specs.Ground.{AreSmall, IsSmallCost, IsSmallPrice, IsGround, arc_at, count_at, price_at, sides_of}
+use Rattle.path_search.specs.Task.{Task}
 use Rattle.path_search.specs.Search.{mark_at, distance_of, distance_at, is_settled, settled_count}
-use Rattle.path_search.specs.Ways.{start_of, IsOpen, cost_of_step, rank_of, AreWays}
+use Rattle.path_search.specs.Ways.{start_of, IsOpen, cost_of_step, rank_of, height_at, AreWays}
 use Rattle.path_search.proofs.RowLemmas.{placed}
 use Rattle.path_search.proofs.SearchLemmas.{few_settled}
 
@@ -65,7 +66,7 @@ step_is_small Against arc n cheap leaves = less_is_small arc n (omega (arith, le
 
 -- ---- a whole way
 
--- distance and price of a side are together within this much of a level: what a way there costs
+-- the height of a side is within this much of a level: what a way there costs
 pub record IsWayCost (level : ℤ) (prices : List ℤ) (side distance most : ℕ) : Type 0 where
   pub above : (pos distance +ℤ price_at prices side) ≤ℤ (level +ℤ pos most)
   pub below : level ≤ℤ (pos distance +ℤ price_at prices side +ℤ pos most)
@@ -75,29 +76,28 @@ settled_mark None settled = absurd (cc)
 settled_mark (Some mark) settled = (mark, refl)
 
 -- a settled side is at most as many steps from the source as sides were settled before it
-settled_cost : (net : Network) (counts : List ℕ) (prices : List ℤ) (source : ℕ) (marks : List (Option Mark)) → IsGround net counts prices
-    → (ways : AreWays net counts prices source marks) → (n side : ℕ) → is_settled (mark_at marks side) ≡ true → rank_of (mark_at marks side) < n
-    → IsWayCost ways.level prices side (distance_at marks side) (40 * rank_of (mark_at marks side))
-settled_cost net counts prices source marks ground ways zero side settled below = absurd (omega (arith, below))
-settled_cost net counts prices source marks ground ways (suc n) side settled below =
-    elim (cases_eq side source) [
+settled_cost : (task : Task) (marks : List (Option Mark)) → IsGround task.net task.counts task.prices
+    → AreWays task marks → (n side : ℕ) → is_settled (mark_at marks side) ≡ true → rank_of (mark_at marks side) < n
+    → IsWayCost (height_at task.prices marks task.source) task.prices side (distance_at marks side) (40 * rank_of (mark_at marks side))
+settled_cost task marks ground ways zero side settled below = absurd (omega (arith, below))
+settled_cost task marks ground ways (suc n) side settled below =
+    elim (cases_eq side task.source) [
       | inl e ↦
-          let starts = ways.starts in
           let d = ap (distance_at marks) e in
-          let price = ap (price_at prices) e in
-          record { above = omega (arith, ints, starts, d, price); below = omega (arith, ints, starts, d, price) }
+          let price = ap (price_at task.prices) e in
+          record { above = omega (arith, ints, d, price); below = omega (arith, ints, d, price) }
       | inr apart ↦
           let found = settled_mark (mark_at marks side) settled in
           let mark = found.0 in
           let step = ways.steps side mark found.1 apart in
-          let arc = arc_at (arcs_of net) mark.arc in
+          let arc = arc_at (arcs_of task.net) mark.arc in
           let start = start_of mark.way arc in
           let before = step.from_earlier (sym (ap is_settled found.1) ∙ settled) in
           let rank = ap rank_of found.1 in
           let d = ap distance_of found.1 in
-          let cost = settled_cost net counts prices source marks ground ways n start step.from_settled (omega (arith, before, rank, below)) in
-          let cheap = (placed net counts prices ground.of_a_function ground mark.arc step.inside).cheap in
-          let small = step_is_small mark.way arc (count_at counts mark.arc) cheap step.leaves in
+          let cost = settled_cost task marks ground ways n start step.from_settled (omega (arith, before, rank, below)) in
+          let cheap = (placed task.net task.counts task.prices ground.of_a_function ground mark.arc step.inside).cheap in
+          let small = step_is_small mark.way arc (count_at task.counts mark.arc) cheap step.leaves in
           let further = step.further in
           record {
             above = omega (arith, ints, cost.above, further, small.least, small.most, before, rank, d);
@@ -106,25 +106,24 @@ settled_cost net counts prices source marks ground ways (suc n) side settled bel
     ]
 
 -- and each marked one at most as many as sides are settled
-pub way_cost : (net : Network) (counts : List ℕ) (prices : List ℤ) (source : ℕ) (marks : List (Option Mark)) → IsGround net counts prices
-    → (ways : AreWays net counts prices source marks) → (side : ℕ) (mark : Mark) → mark_at marks side ≡ Some mark
-    → IsWayCost ways.level prices side mark.distance (40 * settled_count marks)
-way_cost net counts prices source marks ground ways side mark at =
+pub way_cost : (task : Task) (marks : List (Option Mark)) → IsGround task.net task.counts task.prices
+    → AreWays task marks → (side : ℕ) (mark : Mark) → mark_at marks side ≡ Some mark
+    → IsWayCost (height_at task.prices marks task.source) task.prices side mark.distance (40 * settled_count marks)
+way_cost task marks ground ways side mark at =
     let d = ap distance_of at in
-    elim (cases_eq side source) [
+    elim (cases_eq side task.source) [
       | inl e ↦
-          let starts = ways.starts in
           let same = ap (distance_at marks) e in
-          let price = ap (price_at prices) e in
-          record { above = omega (arith, ints, starts, d, same, price); below = omega (arith, ints, starts, d, same, price) }
+          let price = ap (price_at task.prices) e in
+          record { above = omega (arith, ints, d, same, price); below = omega (arith, ints, d, same, price) }
       | inr apart ↦
           let step = ways.steps side mark at apart in
-          let arc = arc_at (arcs_of net) mark.arc in
+          let arc = arc_at (arcs_of task.net) mark.arc in
           let start = start_of mark.way arc in
           let rank = ways.ranked start step.from_settled in
-          let cost = settled_cost net counts prices source marks ground ways (settled_count marks) start step.from_settled rank in
-          let cheap = (placed net counts prices ground.of_a_function ground mark.arc step.inside).cheap in
-          let small = step_is_small mark.way arc (count_at counts mark.arc) cheap step.leaves in
+          let cost = settled_cost task marks ground ways (settled_count marks) start step.from_settled rank in
+          let cheap = (placed task.net task.counts task.prices ground.of_a_function ground mark.arc step.inside).cheap in
+          let small = step_is_small mark.way arc (count_at task.counts mark.arc) cheap step.leaves in
           let further = step.further in
           record {
             above = omega (arith, ints, cost.above, further, small.least, small.most, rank);
@@ -132,14 +131,14 @@ way_cost net counts prices source marks ground ways side mark at =
           }
     ]
 
-pub way_near : (net : Network) (counts : List ℕ) (prices : List ℤ) (source : ℕ) (marks : List (Option Mark)) → IsGround net counts prices
-    → AreWays net counts prices source marks → length marks ≡ length prices → (side : ℕ) (mark : Mark) → mark_at marks side ≡ Some mark
+pub way_near : (task : Task) (marks : List (Option Mark)) → IsGround task.net task.counts task.prices
+    → AreWays task marks → length marks ≡ length task.prices → (side : ℕ) (mark : Mark) → mark_at marks side ≡ Some mark
     → mark.distance < 2 ^ 33
-way_near net counts prices source marks ground ways each side mark at =
-    let cost = way_cost net counts prices source marks ground ways side mark at in
-    let few = few_sides net ground.of_a_function in
+way_near task marks ground ways each side mark at =
+    let cost = way_cost task marks ground ways side mark at in
+    let few = few_sides task.net ground.of_a_function in
     let priced = ground.priced in
     let count = few_settled marks in
-    let here = small_at prices ground.small side in
-    let level = ways.small in
-    omega (arith, ints, cost.above, few, priced, count, each, here.least, level.most)
+    let here = small_at task.prices ground.small side in
+    let height = ways.small in
+    omega (arith, ints, cost.above, few, priced, count, each, here.least, height.most)

@@ -1,13 +1,15 @@
 -- The sides in the order in which they are settled.
 use Rattle.std.proofs.Common.{◌≡◌, ◌≢◌, ℕ, ◌*◌, ◌<◌, ◌≤◌, true, List, [], ◌∷◌, ◌++◌, length, get_or, replicate, Option, None, Some, inl, inr, arith, ap, sym, ◌∙◌, subst}
-use Rattle.std.specs.Prelude.{slice_set, ℤ}
+use Rattle.std.specs.Prelude.{slice_set}
 use Rattle.std.proofs.lemmas.Bool.{cases_eq, cases_lt}
 use Rattle.std.proofs.lemmas.List.{get_or_push, get_or_append_left, length_push}
-use Rattle.flow_model.specs.Network.{Network}
 use Rattle.reached_sides.specs.declared.mark.Mark.{Mark}
 use Rattle.path_search.specs.Ground.{IsGround}
 use Rattle.path_search.specs.Search.{mark_at, distance_of, distance_at, is_settled, is_open, settled_as, settled_count, ComeNearer}
-use Rattle.path_search.specs.Ways.{rank_of, AreSettled, HasComeTo}
+use Rattle.path_search.specs.Ways.{rank_of, AreSettled}
+use Rattle.path_search.specs.Task.{Task}
+use Rattle.path_search.specs.Found.{HasComeTo}
+use Rattle.path_search.specs.declared.walk.Search.{Search}
 use Rattle.path_search.proofs.SearchLemmas.{IsSet, set_is}
 use Rattle.path_search.proofs.WalkLemmas.{first, begins, begun, open_mark, not_both, never, IsSettledNow}
 use Rattle.path_search.proofs.WayLemmas.{ways_begin}
@@ -111,17 +113,16 @@ order_more marks now_marks new_marks order side rank within waits rank_is is now
     }
 
 -- what a search knows at its source
-pub come_to_source : (net : Network) (counts : List ℕ) (prices excess : List ℤ) (source n : ℕ) (marks : List (Option Mark)) (frontier : List (ℕ × ℕ))
-    (order : List ℕ) → IsGround net counts prices → source ≤ 2 * length net.blocks → n ≡ length prices
-    → marks ≡ slice_set (replicate n None) source (Some first) → frontier ≡ [] → order ≡ []
-    → HasComeTo net counts prices excess source marks frontier order source 0
-come_to_source net counts prices excess source n marks frontier order ground inside marked is no_frontier no_order =
+pub come_to_source : (task : Task) (n : ℕ) (held : Search) → IsGround task.net task.counts task.prices → task.source ≤ 2 * length task.net.blocks
+    → n ≡ length task.prices → held.marks ≡ slice_set (replicate n None) task.source (Some first) → held.frontier ≡ []
+    → held.order.items ≡ [] → HasComeTo task held task.source 0
+come_to_source task n held ground inside marked is no_frontier no_order =
     let priced = ground.priced in
-    let within : source < length prices = omega (arith, inside, priced) in
-    let now = begins net counts prices excess source n marks ground within marked is in
+    let within : task.source < length task.prices = omega (arith, inside, priced) in
+    let ways = ways_begin task n held.marks (omega (arith, within, marked)) ground.small within is in
+    let now = begins task n held.marks ground within marked is ways in
     record {
-      done = now.done;
+      settled = now.settled;
+      listed = order_begins task.source n held.marks held.order.items (omega (arith, within, marked)) is no_order;
       next = rw no_frontier now.next;
-      ways = ways_begin net counts prices source n marks (omega (arith, within, marked)) ground.small within is;
-      settled = order_begins source n marks order (omega (arith, within, marked)) is no_order;
     }

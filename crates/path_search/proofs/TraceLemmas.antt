@@ -13,6 +13,7 @@ use Rattle.reached_sides.specs.declared.mark.Mark.{Mark}
 use Rattle.reached_sides.specs.declared.mark.Way.{Way}
 use Rattle.reached_sides.specs.declared.mark.Way.TheVariants.{Along, Against}
 use Rattle.path_search.specs.Ground.{arc_at, count_at, price_at}
+use Rattle.path_search.specs.Task.{Task, task_of}
 use Rattle.path_search.specs.Search.{mark_at, distance_of, distance_at, is_open, is_settled, settled_count}
 use Rattle.path_search.specs.Ways.{start_of, end_of, IsOpen, cost_of_step, rank_of, HasWays}
 use Rattle.path_search.specs.declared.step.Step.{Step}
@@ -113,12 +114,12 @@ record IsNextStep (net : Network) (marks : List (Option Mark)) (current : ℕ) (
   pub settled : is_settled (mark_at marks (step_start (arcs_of net) step)) ≡ true
   pub lower : level_at marks (step_start (arcs_of net) step) < level_at marks current
 
-next_step : (net : Network) (counts : List ℕ) (prices : List ℤ) (source side current : ℕ) (marks : List (Option Mark)) (mark : Mark)
-    → HasWays net counts prices source marks side → mark_at marks current ≡ Some mark → current ≢ source
-    → IsNextStep net marks current (record { arc = mark.arc; way = mark.way })
-next_step net counts prices source side current marks mark has at apart =
+next_step : (task : Task) (side current : ℕ) (marks : List (Option Mark)) (mark : Mark)
+    → HasWays task marks side → mark_at marks current ≡ Some mark → current ≢ task.source
+    → IsNextStep task.net marks current (record { arc = mark.arc; way = mark.way })
+next_step task side current marks mark has at apart =
     let step = has.ways.steps current mark at apart in
-    let start = start_of mark.way (arc_at (arcs_of net) mark.arc) in
+    let start = start_of mark.way (arc_at (arcs_of task.net) mark.arc) in
     let level : level_at marks start ≡ rank_of (mark_at marks start) = rw step.from_settled refl in
     let below = has.ways.ranked start step.from_settled in
     let here : level_at marks current ≡ level_of (settled_count marks) (Some mark) = ap (level_of (settled_count marks)) at in
@@ -130,19 +131,19 @@ next_step net counts prices source side current marks mark has at apart =
       lower = omega (arith, level, here, lower);
     }
 
-pub traced_more : (net : Network) (counts : List ℕ) (prices : List ℤ) (source side current : ℕ) (marks : List (Option Mark)) (steps : List Step)
-    (mark : Mark) (step : Step) → HasWays net counts prices source marks side → mark_at marks current ≡ Some mark → current ≢ source
+pub traced_more : (task : Task) (side current : ℕ) (marks : List (Option Mark)) (steps : List Step)
+    (mark : Mark) (step : Step) → HasWays task marks side → mark_at marks current ≡ Some mark → current ≢ task.source
     → step ≡ record { arc = mark.arc; way = mark.way }
-    → IsTracing (arcs_of net) marks source side current steps
-    → IsTracing (arcs_of net) marks source side (step_start (arcs_of net) step) (steps ++ step ∷ [])
-traced_more net counts prices source side current marks steps mark step has at apart told so_far =
-    let arcs = arcs_of net in
-    let next = subst (λ (s : Step). IsNextStep net marks current s) (sym told) (next_step net counts prices source side current marks mark has at apart) in
+    → IsTracing (arcs_of task.net) marks task.source side current steps
+    → IsTracing (arcs_of task.net) marks task.source side (step_start (arcs_of task.net) step) (steps ++ step ∷ [])
+traced_more task side current marks steps mark step has at apart told so_far =
+    let arcs = arcs_of task.net in
+    let next = subst (λ (s : Step). IsNextStep task.net marks current s) (sym told) (next_step task side current marks mark has at apart) in
     let start = step_start arcs step in
     let low = next.lower in
     let ends : mark_at marks (step_end arcs step) ≡ mark_at marks current = ap (mark_at marks) next.leads in
     let top : level_at marks (step_end arcs step) ≡ level_at marks current = ap (level_at marks) next.leads in
-    let new_told : IsTold arcs marks source side step = record {
+    let new_told : IsTold arcs marks task.source side step = record {
       mark = mark;
       at = ends ∙ at;
       same_arc = ap (λ (s : Step). s.arc) told;
@@ -157,7 +158,7 @@ traced_more net counts prices source side current marks steps mark step has at a
       leads = lead_more arcs current side steps step so_far.leads next.leads;
       apart = apart_more steps step so_far.apart
           (All-weaker (IsLater arcs marks current) (λ (other : Step). step.arc ≢ other.arc) (other_arc arcs marks current step low) steps so_far.later);
-      told = All-push (IsTold arcs marks source side) steps step so_far.told new_told;
+      told = All-push (IsTold arcs marks task.source side) steps step so_far.told new_told;
       later = All-push (IsLater arcs marks start) steps step
           (All-weaker (IsLater arcs marks current) (IsLater arcs marks start)
           (λ other later. (omega (arith, low, later.0), omega (arith, low, later.1))) steps so_far.later)
@@ -165,32 +166,32 @@ traced_more net counts prices source side current marks steps mark step has at a
       known = inr next.settled;
     }
 
-pub step_inside : (net : Network) (counts : List ℕ) (prices : List ℤ) (source side current : ℕ) (marks : List (Option Mark)) (mark : Mark) (step : Step)
-    → HasWays net counts prices source marks side → mark_at marks current ≡ Some mark → current ≢ source
+pub step_inside : (task : Task) (side current : ℕ) (marks : List (Option Mark)) (mark : Mark) (step : Step)
+    → HasWays task marks side → mark_at marks current ≡ Some mark → current ≢ task.source
     → step ≡ record { arc = mark.arc; way = mark.way }
-    → (step.arc < length (arcs_of net)) × (level_at marks (step_start (arcs_of net) step) < level_at marks current)
-step_inside net counts prices source side current marks mark step has at apart told =
-    let next = subst (λ (s : Step). IsNextStep net marks current s) (sym told) (next_step net counts prices source side current marks mark has at apart) in
+    → (step.arc < length (arcs_of task.net)) × (level_at marks (step_start (arcs_of task.net) step) < level_at marks current)
+step_inside task side current marks mark step has at apart told =
+    let next = subst (λ (s : Step). IsNextStep task.net marks current s) (sym told) (next_step task side current marks mark has at apart) in
     (next.inside, next.lower)
 
 -- ---- the end
 
 -- a step that a mark tells is open, and tight by the prices that the distances move
-open_and_tight : (net : Network) (counts : List ℕ) (prices : List ℤ) (source side : ℕ) (marks : List (Option Mark)) (step : Step)
-    → HasWays net counts prices source marks side → IsTold (arcs_of net) marks source side step
-    → IsOpenStep (arcs_of net) counts step
-    × IsTight (arcs_of net) counts (moved (price_at prices) (distance_at marks) (distance_at marks side)) step
-open_and_tight net counts prices source side marks step has told =
-    let arcs = arcs_of net in
+open_and_tight : (task : Task) (side : ℕ) (marks : List (Option Mark)) (step : Step)
+    → HasWays task marks side → IsTold (arcs_of task.net) marks task.source side step
+    → IsOpenStep (arcs_of task.net) task.counts step
+    × IsTight (arcs_of task.net) task.counts (moved (price_at task.prices) (distance_at marks) (distance_at marks side)) step
+open_and_tight task side marks step has told =
+    let arcs = arcs_of task.net in
     let to = step_end arcs step in
     let mark = told.mark in
     let st = has.ways.steps to mark told.at told.apart in
     let Is : ℕ → Way → Type 0 = λ p w.
     (p < length arcs)
-    × IsOpen w (arc_at arcs p) (count_at counts p)
+    × IsOpen w (arc_at arcs p) (count_at task.counts p)
     × (is_settled (mark_at marks (start_of w (arc_at arcs p))) ≡ true)
     × (pos mark.distance ≡ pos (distance_at marks (start_of w (arc_at arcs p)))
-    +ℤ reduced (price_at prices) (start_of w (arc_at arcs p)) to (cost_of_step w (arc_at arcs p) (count_at counts p))) in
+    +ℤ reduced (price_at task.prices) (start_of w (arc_at arcs p)) to (cost_of_step w (arc_at arcs p) (count_at task.counts p))) in
     let there : Is mark.arc mark.way = (st.inside, st.leaves, st.from_settled, st.further) in
     let here : Is step.arc step.way = subst (λ (w : Way). Is step.arc w) (sym told.same_way) (subst (λ (p : ℕ). Is p mark.way) (sym told.same_arc) there) in
     let d_end : distance_at marks to ≡ mark.distance = ap distance_of told.at in
@@ -208,15 +209,16 @@ pub traced_all : (net : Network) (source side current : ℕ) (marks : List (Opti
     → IsTracing (arcs_of net) marks source side current steps → IsTraced net source marks side steps
 traced_all net source side current marks steps ends so_far = record {
   told = so_far.told;
-  path = λ counts prices has.
+  path = λ counts prices excess has.
+      let task = task_of net counts prices excess source in
       let arcs = arcs_of net in
       let price = moved (price_at prices) (distance_at marks) (distance_at marks side) in
       record {
         leads = subst (λ (s : ℕ). LeadBack arcs s side steps) ends so_far.leads;
         apart = so_far.apart;
         leave = All-weaker (IsTold arcs marks source side) (IsOpenStep arcs counts)
-            (λ step told. (open_and_tight net counts prices source side marks step has told).0) steps so_far.told;
+            (λ step told. (open_and_tight task side marks step has told).0) steps so_far.told;
         tight = All-weaker (IsTold arcs marks source side) (IsTight arcs counts price)
-            (λ step told. (open_and_tight net counts prices source side marks step has told).1) steps so_far.told;
+            (λ step told. (open_and_tight task side marks step has told).1) steps so_far.told;
       };
 }

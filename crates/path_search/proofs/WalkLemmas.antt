@@ -8,12 +8,15 @@ use Rattle.std.proofs.lemmas.Int.{ints}
 use Rattle.std.proofs.lemmas.List.{get_or-replicate, get_or_past, length-replicate, length-set}
 use Rattle.std.proofs.lemmas.List.Elements.{All-nil}
 use Rattle.std.proofs.lemmas.List.Folds.{sum_by-replicate}
-use Rattle.flow_model.specs.Network.{Network, arcs_of}
+use Rattle.flow_model.specs.Network.{arcs_of}
 use Rattle.residual_model.specs.Residual.{StepsOn, reduced}
 use Rattle.reached_sides.specs.declared.mark.Mark.{Mark}
 use Rattle.reached_sides.specs.declared.mark.Way.TheVariants.{Along}
 use Rattle.path_search.specs.Ground.{AreSmall, arc_at, count_at, price_at, IsGround}
-use Rattle.path_search.specs.Search.{mark_at, distance_of, distance_at, is_settled, is_open, settled_one, settled_count, settled_as, ComeNearer, IsLooking, LedOut, LedBack, IsNext, HasSettled, IsWalking}
+use Rattle.path_search.specs.Search.{mark_at, distance_of, distance_at, is_settled, is_open, settled_one, settled_count, settled_as, ComeNearer, IsLooking, LedOut, LedBack, IsNext, IsWaiting}
+use Rattle.path_search.specs.Task.{Task}
+use Rattle.path_search.specs.Found.{HasSettled}
+use Rattle.path_search.specs.Ways.{AreWays}
 use Rattle.path_search.proofs.RowLemmas.{each_at, each_by_place}
 use Rattle.path_search.proofs.SearchLemmas.{IsSet, set_is}
 
@@ -60,33 +63,34 @@ pub never : (b : Bool) → b ≡ false → b ≡ true → ⊥
 never b unset set = let clash : true ≡ false = sym set ∙ unset in absurd (cc)
 
 -- a search that has come to its source, and knows of no other side
-pub record HasBegun (net : Network) (counts : List ℕ) (prices excess : List ℤ) (source : ℕ) (marks : List (Option Mark))
+pub record HasBegun (task : Task) (marks : List (Option Mark))
     : Type 0 where
-  pub done : HasSettled net counts prices excess source marks
-  pub next : IsNext marks [] source 0
+  pub settled : HasSettled task marks
+  pub next : IsNext marks [] task.source 0
 
-pub begins : (net : Network) (counts : List ℕ) (prices excess : List ℤ) (source n : ℕ) (marks : List (Option Mark))
-    → IsGround net counts prices → source < length prices → n ≡ length prices
-    → marks ≡ slice_set (replicate n None) source (Some first)
-    → HasBegun net counts prices excess source marks
-begins net counts prices excess source n marks ground within same is =
-    let begun_now = subst (λ (after : List (Option Mark)). IsBegun source after) (sym is) (begun n source (omega (arith, same, within))) in
-    let long : length marks ≡ length prices =
-    ap length is ∙ length-set (replicate n None) source (Some first) ∙ length-replicate {A = Option Mark} n None ∙ same in
+pub begins : (task : Task) (n : ℕ) (marks : List (Option Mark))
+    → IsGround task.net task.counts task.prices → task.source < length task.prices → n ≡ length task.prices
+    → marks ≡ slice_set (replicate n None) task.source (Some first) → AreWays task marks
+    → HasBegun task marks
+begins task n marks ground within same is ways =
+    let begun_now = subst (λ (after : List (Option Mark)). IsBegun task.source after) (sym is) (begun n task.source (omega (arith, same, within))) in
+    let long : length marks ≡ length task.prices =
+    ap length is ∙ length-set (replicate n None) task.source (Some first) ∙ length-replicate {A = Option Mark} n None ∙ same in
     let Led : ℕ → ℕ → ℤ → Type 0 = λ from to cost. is_settled (mark_at marks from) ≡ true
-    → pos (distance_at marks to) ≤ℤ (pos (distance_at marks from) +ℤ reduced (price_at prices) from to cost) in
+    → pos (distance_at marks to) ≤ℤ (pos (distance_at marks from) +ℤ reduced (price_at task.prices) from to cost) in
     let never_settled : (side : ℕ) → is_settled (mark_at marks side) ≡ true → ⊥ =
     λ side settled. never _ (begun_now.none_settled side) settled in
     record {
-      done = record {
+      settled = record {
         each = long;
         begins = let d = ap distance_of begun_now.here in omega (arith, d);
-        led = each_by_place (StepsOn Led) (arcs_of net) counts ground.counted
+        led = each_by_place (StepsOn Led) (arcs_of task.net) task.counts ground.counted
             (λ place inside. record {
               along = λ below settled. absurd (never_settled _ settled);
               against = λ above settled. absurd (never_settled _ settled);
             });
         none_lacks = λ side settled. absurd (never_settled side settled);
+        ways = ways;
       };
       next = record {
         current = record { waits = ap is_open begun_now.here; at = ap distance_of begun_now.here };
@@ -145,17 +149,17 @@ settled_now marks new_marks side rank within waits is =
     }
 
 -- what is known of the search when a side was settled
-pub record IsStepping (net : Network) (counts : List ℕ) (prices excess : List ℤ) (source : ℕ) (marks new_marks : List (Option Mark))
+pub record IsStepping (task : Task) (marks new_marks : List (Option Mark))
     (frontier : List (ℕ × ℕ)) (side distance : ℕ) : Type 0 where
-  pub settled : HasSettled net counts prices excess source marks
+  pub settled : HasSettled task marks
   pub next : IsNext marks frontier side distance
   pub now : IsSettledNow marks new_marks side
 
-pub looks_from : (net : Network) (counts : List ℕ) (prices excess : List ℤ) (source : ℕ) (marks new_marks : List (Option Mark))
-    (frontier : List (ℕ × ℕ)) (side distance : ℕ) → AreSmall prices → distance < 2 ^ 33
-    → IsStepping net counts prices excess source marks new_marks frontier side distance
-    → IsLooking prices new_marks frontier distance
-looks_from net counts prices excess source marks new_marks frontier side distance small room stepping =
+pub looks_from : (task : Task) (marks new_marks : List (Option Mark))
+    (frontier : List (ℕ × ℕ)) (side distance : ℕ) → AreSmall task.prices → distance < 2 ^ 33
+    → IsStepping task marks new_marks frontier side distance
+    → IsLooking task.prices new_marks frontier distance
+looks_from task marks new_marks frontier side distance small room stepping =
     let next = stepping.next in
     let now = stepping.now in
     record {
@@ -186,18 +190,17 @@ looks_from net counts prices excess source marks new_marks frontier side distanc
       room = room;
     }
 
-pub walked : (net : Network) (counts : List ℕ) (prices excess : List ℤ) (source : ℕ) (marks now_marks new_marks : List (Option Mark))
-    (frontier new_frontier : List (ℕ × ℕ)) (rank side distance : ℕ) → IsGround net counts prices
-    → IsStepping net counts prices excess source marks now_marks frontier side distance → rank ≡ settled_count marks
-    → pos 0 ≤ℤ price_at excess side
-    → IsLooking prices new_marks new_frontier distance → ComeNearer now_marks new_marks
-    → LedOut net counts prices new_marks distance side → LedBack net counts prices new_marks distance side
-    → IsWalking net counts prices excess source new_marks new_frontier (rank + 1)
-walked net counts prices excess source marks now_marks new_marks frontier new_frontier rank side distance ground stepping rank_is enough looking nearer out back =
+pub walked : (task : Task) (marks now_marks new_marks : List (Option Mark))
+    (frontier new_frontier : List (ℕ × ℕ)) (side distance : ℕ) → IsGround task.net task.counts task.prices
+    → IsStepping task marks now_marks frontier side distance → pos 0 ≤ℤ price_at task.excess side
+    → IsLooking task.prices new_marks new_frontier distance → ComeNearer now_marks new_marks
+    → LedOut task.net task.counts task.prices new_marks distance side → LedBack task.net task.counts task.prices new_marks distance side
+    → AreWays task new_marks → HasSettled task new_marks
+walked task marks now_marks new_marks frontier new_frontier side distance ground stepping enough looking nearer out back ways =
     let next = stepping.next in
     let now = stepping.now in
     let Led : List (Option Mark) → ℕ → ℕ → ℤ → Type 0 = λ list from to cost. is_settled (mark_at list from) ≡ true
-    → pos (distance_at list to) ≤ℤ (pos (distance_at list from) +ℤ reduced (price_at prices) from to cost) in
+    → pos (distance_at list to) ≤ℤ (pos (distance_at list from) +ℤ reduced (price_at task.prices) from to cost) in
     let at : distance_at new_marks side ≡ distance = ap distance_of (nearer.kept side now.here) ∙ now.distances side ∙ next.current.at in
     -- a side that is settled and not this one was so before, at the same distance
     let before : (other : ℕ) → other ≢ side → is_settled (mark_at new_marks other) ≡ true
@@ -207,49 +210,51 @@ walked net counts prices excess source marks now_marks new_marks frontier new_fr
     (ap is_settled (sym (now.others other apart)) ∙ then_done, ap distance_of (nearer.kept other then_done) ∙ now.distances other) in
     let closer : (other : ℕ) → distance_at new_marks other ≤ distance_at marks other =
     λ other. omega (arith, nearer.nearer other, now.distances other) in
-    let old : (place : ℕ) → place < length (arcs_of net) → StepsOn (Led marks) (arc_at (arcs_of net) place) (count_at counts place) =
-    λ place inside. each_at (StepsOn (Led marks)) (arcs_of net) counts stepping.settled.led place inside in
+    let old : (place : ℕ) → place < length (arcs_of task.net) → StepsOn (Led marks) (arc_at (arcs_of task.net) place) (count_at task.counts place) =
+    λ place inside. each_at (StepsOn (Led marks)) (arcs_of task.net) task.counts stepping.settled.led place inside in
     record {
-      settled = record {
-        each = looking.each;
-        begins = omega (arith, closer source, stepping.settled.begins);
-        led = each_by_place (StepsOn (Led new_marks)) (arcs_of net) counts ground.counted
-            (λ place inside. record {
-              along = λ below done.
-                  elim (cases_eq (arc_at (arcs_of net) place).tail side) [
-                    | inl e ↦
-                        let step = out place inside e below in
-                        let from : distance_at new_marks (arc_at (arcs_of net) place).tail ≡ distance = ap (distance_at new_marks) e ∙ at in
-                        omega (arith, ints, step, from)
-                    | inr apart ↦
-                        let was = before (arc_at (arcs_of net) place).tail apart done in
-                        let step = (old place inside).along below was.0 in
-                        let to = closer (arc_at (arcs_of net) place).head in
-                        omega (arith, ints, step, was.1, to)
-                  ];
-              against = λ above done.
-                  elim (cases_eq (arc_at (arcs_of net) place).head side) [
-                    | inl e ↦
-                        let step = back place inside e above in
-                        let from : distance_at new_marks (arc_at (arcs_of net) place).head ≡ distance = ap (distance_at new_marks) e ∙ at in
-                        omega (arith, ints, step, from)
-                    | inr apart ↦
-                        let was = before (arc_at (arcs_of net) place).head apart done in
-                        let step = (old place inside).against above was.0 in
-                        let to = closer (arc_at (arcs_of net) place).tail in
-                        omega (arith, ints, step, was.1, to)
-                  ];
-            });
-        none_lacks = λ other done.
-            elim (cases_eq other side) [
-              | inl e ↦ subst (λ (s : ℕ). pos 0 ≤ℤ price_at excess s) (sym e) enough
-              | inr apart ↦ stepping.settled.none_lacks other (before other apart done).0
-            ];
-      };
-      waiting = record {
-        listed = looking.searching.listed;
-        within = looking.searching.within;
-        ordered = λ other done k d inside. omega (arith, looking.searching.behind other done, looking.searching.ahead k d inside);
-      };
-      rank_is = omega (arith, rank_is, now.count, nearer.count);
+      each = looking.each;
+      begins = omega (arith, closer task.source, stepping.settled.begins);
+      led = each_by_place (StepsOn (Led new_marks)) (arcs_of task.net) task.counts ground.counted
+          (λ place inside. record {
+            along = λ below done.
+                elim (cases_eq (arc_at (arcs_of task.net) place).tail side) [
+                  | inl e ↦
+                      let step = out place inside e below in
+                      let from : distance_at new_marks (arc_at (arcs_of task.net) place).tail ≡ distance = ap (distance_at new_marks) e ∙ at in
+                      omega (arith, ints, step, from)
+                  | inr apart ↦
+                      let was = before (arc_at (arcs_of task.net) place).tail apart done in
+                      let step = (old place inside).along below was.0 in
+                      let to = closer (arc_at (arcs_of task.net) place).head in
+                      omega (arith, ints, step, was.1, to)
+                ];
+            against = λ above done.
+                elim (cases_eq (arc_at (arcs_of task.net) place).head side) [
+                  | inl e ↦
+                      let step = back place inside e above in
+                      let from : distance_at new_marks (arc_at (arcs_of task.net) place).head ≡ distance = ap (distance_at new_marks) e ∙ at in
+                      omega (arith, ints, step, from)
+                  | inr apart ↦
+                      let was = before (arc_at (arcs_of task.net) place).head apart done in
+                      let step = (old place inside).against above was.0 in
+                      let to = closer (arc_at (arcs_of task.net) place).tail in
+                      omega (arith, ints, step, was.1, to)
+                ];
+          });
+      none_lacks = λ other done.
+          elim (cases_eq other side) [
+            | inl e ↦ subst (λ (s : ℕ). pos 0 ≤ℤ price_at task.excess s) (sym e) enough
+            | inr apart ↦ stepping.settled.none_lacks other (before other apart done).0
+          ];
+      ways = ways;
     }
+
+-- when all steps from a side were looked over
+pub waits_on : (prices : List ℤ) (marks : List (Option Mark)) (frontier : List (ℕ × ℕ)) (distance : ℕ)
+    → IsLooking prices marks frontier distance → IsWaiting marks frontier
+waits_on prices marks frontier distance looking = record {
+  listed = looking.searching.listed;
+  within = looking.searching.within;
+  ordered = λ other done k d inside. omega (arith, looking.searching.behind other done, looking.searching.ahead k d inside);
+}

@@ -13,57 +13,55 @@ use Rattle.residual_model.specs.Residual.{reduced}
 use Rattle.reached_sides.specs.declared.mark.Mark.{Mark}
 use Rattle.reached_sides.specs.declared.mark.Way.{Way}
 use Rattle.reached_sides.specs.declared.mark.Way.TheVariants.{Along, Against}
-use Rattle.path_search.specs.Ground.{AreSmall, IsGround, arc_at, count_at, price_at}
+use Rattle.path_search.specs.Ground.{AreSmall, IsGround, IsSmallPrice, arc_at, count_at, price_at}
+use Rattle.path_search.specs.Task.{Task, task_of}
 use Rattle.path_search.specs.Search.{mark_at, distance_of, distance_at, is_settled, is_open, settled_count, settled_as, Offers, ComeNearer, IsLooking}
-use Rattle.path_search.specs.Ways.{start_of, end_of, IsOpen, cost_of_step, rank_of, IsStepTo, AreWays, AreWaysFrom, KeepWays, MarksAtMost}
+use Rattle.path_search.specs.Ways.{start_of, end_of, IsOpen, cost_of_step, rank_of, height_at, IsStepTo, AreWays, AreWaysFrom, KeepWays, MarksAtMost, mark_by}
 use Rattle.path_search.proofs.RowLemmas.{placed, row_only}
 use Rattle.path_search.proofs.SearchLemmas.{IsSet, set_is, not_settled}
 use Rattle.path_search.proofs.WalkLemmas.{IsBegun, first, begun, open_mark, not_both, never, IsSettledNow}
 
 -- ---- the start
 
-pub ways_begin : (net : Network) (counts : List ℕ) (prices : List ℤ) (source n : ℕ) (marks : List (Option Mark)) → source < n
-    → AreSmall prices → source < length prices → marks ≡ slice_set (replicate n None) source (Some first) → AreWays net counts prices source marks
-ways_begin net counts prices source n marks within small priced is =
-    let begun_now = subst (λ (after : List (Option Mark)). IsBegun source after) (sym is) (begun n source within) in
+pub ways_begin : (task : Task) (n : ℕ) (marks : List (Option Mark)) → task.source < n
+    → AreSmall task.prices → task.source < length task.prices → marks ≡ slice_set (replicate n None) task.source (Some first) → AreWays task marks
+ways_begin task n marks within small priced is =
+    let begun_now = subst (λ (after : List (Option Mark)). IsBegun task.source after) (sym is) (begun n task.source within) in
+    let here = small task.source (pos 0) priced in
+    let d = ap distance_of begun_now.here in
     record {
-      level = price_at prices source;
-      small = small source (pos 0) priced;
+      small = record { least = omega (arith, ints, here.least, d); most = omega (arith, ints, here.most, d) };
       steps = λ side mark at apart. let clash : None ≡ Some mark = sym (begun_now.others side apart) ∙ at in absurd (cc);
       ranked = λ side settled. absurd (never _ (begun_now.none_settled side) settled);
-      starts = let d = ap distance_of begun_now.here in omega (arith, ints, d);
       begun = λ side settled. absurd (never _ (begun_now.none_settled side) settled);
     }
 
 -- ---- a mark that is offered
 
-pub taken_by : (way : Way) (prices : List ℤ) (place distance : ℕ) (arc : Arc) (n : ℕ) (mark : Mark) (marks : List (Option Mark)) (frontier : List (ℕ × ℕ))
+pub taken_by : (way : Way) (prices : List ℤ) (place distance : ℕ) (arc : Arc) (n to : ℕ) (marks : List (Option Mark)) (frontier : List (ℕ × ℕ))
     (new_marks : List (Option Mark)) (new_frontier : List (ℕ × ℕ)) → IsLooking prices marks frontier distance → IsOpen way arc n
-    → mark.arc ≡ place → mark.way ≡ way → is_settled (Some mark) ≡ false → distance ≤ mark.distance
-    → pos mark.distance ≡ pos distance +ℤ reduced (price_at prices) (start_of way arc) (end_of way arc) (cost_of_step way arc n)
-    → Offers (end_of way arc) mark marks frontier new_marks new_frontier
+    → distance ≤ to
+    → pos to ≡ pos distance +ℤ reduced (price_at prices) (start_of way arc) (end_of way arc) (cost_of_step way arc n)
+    → Offers (end_of way arc) (mark_by way place to) marks frontier new_marks new_frontier
     → MarksAtMost way prices place distance arc n marks new_marks
-taken_by way prices place distance arc n mark marks frontier new_marks new_frontier looking leaves same_arc same_way is_not ahead further (inl same) = inl same.1
-taken_by way prices place distance arc n mark marks frontier new_marks new_frontier looking leaves same_arc same_way is_not ahead further (inr new) =
+taken_by way prices place distance arc n to marks frontier new_marks new_frontier looking leaves ahead further (inl same) = inl same.1
+taken_by way prices place distance arc n to marks frontier new_marks new_frontier looking leaves ahead further (inr new) =
     inr record {
-      mark = mark;
+      to = to;
       set = new.1;
-      was = not_settled marks frontier distance (end_of way arc) mark.distance looking.searching ahead new.0;
+      was = not_settled marks frontier distance (end_of way arc) to looking.searching ahead new.0;
       leaves = leaves;
-      same_arc = same_arc;
-      same_way = same_way;
-      not_settled = is_not;
       further = further;
     }
 
 -- ---- ways that are kept
 
 -- a step from a settled side stays one where settled sides keep their marks
-step_kept : (net : Network) (counts : List ℕ) (prices : List ℤ) (old new : List (Option Mark)) (side : ℕ) (mark : Mark)
+step_kept : (task : Task) (old new : List (Option Mark)) (side : ℕ) (mark : Mark)
     → ((other : ℕ) → is_settled (mark_at old other) ≡ true → mark_at new other ≡ mark_at old other)
-    → IsStepTo net counts prices old side mark → IsStepTo net counts prices new side mark
-step_kept net counts prices old new side mark kept step =
-    let start = start_of mark.way (arc_at (arcs_of net) mark.arc) in
+    → IsStepTo task old side mark → IsStepTo task new side mark
+step_kept task old new side mark kept step =
+    let start = start_of mark.way (arc_at (arcs_of task.net) mark.arc) in
     let same : mark_at new start ≡ mark_at old start = kept start step.from_settled in
     record {
       inside = step.inside;
@@ -71,87 +69,73 @@ step_kept net counts prices old new side mark kept step =
       leaves = step.leaves;
       from_settled = ap is_settled same ∙ step.from_settled;
       from_earlier = λ settled. let before = step.from_earlier settled in let rank = ap rank_of same in omega (arith, before, rank);
-      further = step.further ∙ ap (λ (d : ℕ). pos d +ℤ reduced (price_at prices) start side
-          (cost_of_step mark.way (arc_at (arcs_of net) mark.arc) (count_at counts mark.arc))) (sym (ap distance_of same));
+      further = step.further ∙ ap (λ (d : ℕ). pos d +ℤ reduced (price_at task.prices) start side
+          (cost_of_step mark.way (arc_at (arcs_of task.net) mark.arc) (count_at task.counts mark.arc))) (sym (ap distance_of same));
     }
+
+-- a height stays small where the distance stays
+small_kept : (prices : List ℤ) (old new : List (Option Mark)) (side : ℕ) → distance_at new side ≡ distance_at old side
+    → IsSmallPrice (height_at prices old side) → IsSmallPrice (height_at prices new side)
+small_kept prices old new side same small = record { least = omega (arith, ints, same, small.least); most = omega (arith, ints, same, small.most) }
 
 same_marks : (one two : Mark) (at : Option Mark) → at ≡ Some one → at ≡ Some two → one ≡ two
 same_marks one two at is also = let both : Some one ≡ Some two = sym is ∙ also in cc
 
 -- what is known of a look over one arc from a side
-pub record IsLook (net : Network) (counts : List ℕ) (prices : List ℤ) (way : Way) (place side : ℕ) (old : List (Option Mark)) : Type 0 where
+pub record IsLook (net : Network) (way : Way) (place side : ℕ) (old : List (Option Mark)) : Type 0 where
   pub inside : place < length (arcs_of net)
   pub starts : start_of way (arc_at (arcs_of net) place) ≡ side
   pub within : end_of way (arc_at (arcs_of net) place) < length old
 
 -- the step that a look found
-found_step : (net : Network) (counts : List ℕ) (prices : List ℤ) (way : Way) (place side distance : ℕ) (old : List (Option Mark))
-    → IsLook net counts prices way place side old → is_settled (mark_at old side) ≡ true → distance_at old side ≡ distance
-    → (mark : Mark) → mark.arc ≡ place → mark.way ≡ way → is_settled (Some mark) ≡ false
-    → IsOpen way (arc_at (arcs_of net) place) (count_at counts place)
-    → pos mark.distance ≡ pos distance +ℤ reduced (price_at prices) (start_of way (arc_at (arcs_of net) place)) (end_of way (arc_at (arcs_of net) place))
-    (cost_of_step way (arc_at (arcs_of net) place) (count_at counts place))
-    → IsStepTo net counts prices old (end_of way (arc_at (arcs_of net) place)) mark
-found_step net counts prices way place side distance old look settled at mark same_arc same_way is_not leaves further =
-    let arc = arc_at (arcs_of net) place in
-    let n = count_at counts place in
-    let Is : ℕ → Way → Type 0 = λ p w.
-    (p < length (arcs_of net))
-    × (end_of w (arc_at (arcs_of net) p) ≡ end_of way arc)
-    × IsOpen w (arc_at (arcs_of net) p) (count_at counts p)
-    × (is_settled (mark_at old (start_of w (arc_at (arcs_of net) p))) ≡ true)
-    × (pos mark.distance ≡ pos (distance_at old (start_of w (arc_at (arcs_of net) p)))
-    +ℤ reduced (price_at prices) (start_of w (arc_at (arcs_of net) p)) (end_of way arc) (cost_of_step w (arc_at (arcs_of net) p) (count_at counts p))) in
+found_step : (task : Task) (way : Way) (place side distance to : ℕ) (old : List (Option Mark))
+    → IsLook task.net way place side old → is_settled (mark_at old side) ≡ true → distance_at old side ≡ distance
+    → IsOpen way (arc_at (arcs_of task.net) place) (count_at task.counts place)
+    → pos to ≡ pos distance +ℤ reduced (price_at task.prices) (start_of way (arc_at (arcs_of task.net) place)) (end_of way (arc_at (arcs_of task.net) place))
+    (cost_of_step way (arc_at (arcs_of task.net) place) (count_at task.counts place))
+    → IsStepTo task old (end_of way (arc_at (arcs_of task.net) place)) (mark_by way place to)
+found_step task way place side distance to old look settled at leaves further =
+    let arc = arc_at (arcs_of task.net) place in
     let from : distance_at old (start_of way arc) ≡ distance = ap (distance_at old) look.starts ∙ at in
-    let here : Is place way = (
-      look.inside,
-      refl,
-      leaves,
-      ap (λ (s : ℕ). is_settled (mark_at old s)) look.starts ∙ settled,
-      further ∙ ap (λ (d : ℕ). pos d +ℤ reduced (price_at prices) (start_of way arc) (end_of way arc) (cost_of_step way arc n)) (sym from),
-    ) in
-    let there : Is mark.arc mark.way = subst (λ (w : Way). Is mark.arc w) (sym same_way) (subst (λ (p : ℕ). Is p way) (sym same_arc) here) in
     record {
-      inside = there.0;
-      leads = there.1;
-      leaves = there.2;
-      from_settled = there.3;
-      from_earlier = λ set. absurd (never _ is_not set);
-      further = there.4;
+      inside = look.inside;
+      leads = refl;
+      leaves = leaves;
+      from_settled = ap (λ (s : ℕ). is_settled (mark_at old s)) look.starts ∙ settled;
+      from_earlier = λ set. absurd (never false refl set);
+      further = further ∙ ap (λ (d : ℕ). pos d +ℤ reduced (price_at task.prices) (start_of way arc) (end_of way arc)
+          (cost_of_step way arc (count_at task.counts place))) (sym from);
     }
 
 pub look_keeps : (net : Network) (counts : List ℕ) (prices : List ℤ) (way : Way) (place side distance : ℕ) (old new : List (Option Mark))
-    → IsLook net counts prices way place side old → ComeNearer old new
+    → IsLook net way place side old → ComeNearer old new
     → MarksAtMost way prices place distance (arc_at (arcs_of net) place) (count_at counts place) old new
     → KeepWays net counts prices side distance old new
-look_keeps net counts prices way place side distance old new look nearer (inl same) source from =
-    subst (λ (marks : List (Option Mark)). AreWaysFrom net counts prices source side distance marks) (sym same) from
-look_keeps net counts prices way place side distance old new look nearer (inr by) source from =
+look_keeps net counts prices way place side distance old new look nearer (inl same) excess source from =
+    subst (λ (marks : List (Option Mark)). AreWaysFrom (task_of net counts prices excess source) side distance marks) (sym same) from
+look_keeps net counts prices way place side distance old new look nearer (inr by) excess source from =
     let arc = arc_at (arcs_of net) place in
     let n = count_at counts place in
     let end = end_of way arc in
-    let set = subst (λ (marks : List (Option Mark)). IsSet end by.mark old marks) (sym by.set) (set_is end by.mark old look.within) in
-    let kept = step_kept net counts prices old new in
-    let step = found_step net counts prices way place side distance old look from.settled from.at by.mark by.same_arc by.same_way by.not_settled by.leaves by.further in
+    let by_step = mark_by way place by.to in
+    let set = subst (λ (marks : List (Option Mark)). IsSet end by_step old marks) (sym by.set) (set_is end by_step old look.within) in
+    let task = task_of net counts prices excess source in
+    let kept = step_kept task old new in
+    let step = found_step task way place side distance by.to old look from.settled from.at by.leaves by.further in
     let count = nearer.count in
     let source_settled = from.ways.begun side from.settled in
     record {
       ways = record {
-        level = from.ways.level;
-        small = from.ways.small;
-        starts =
-            let same = ap distance_of (nearer.kept source source_settled) in
-            let starts = from.ways.starts in
-            omega (arith, ints, starts, same);
+        small = small_kept prices old new source (ap distance_of (nearer.kept source source_settled)) from.ways.small;
         begun = λ other done. nearer.alike source ∙ source_settled;
         steps = λ other mark at apart.
             elim (cases_eq other end) [
               | inl e ↦
                   let here : mark_at new end ≡ Some mark = subst (λ (s : ℕ). mark_at new s ≡ Some mark) e at in
-                  let same = same_marks by.mark mark (mark_at new end) set.here here in
-                  let told : IsStepTo net counts prices new end mark =
-                  subst (λ (m : Mark). IsStepTo net counts prices new end m) same (kept end by.mark nearer.kept step) in
-                  subst (λ (s : ℕ). IsStepTo net counts prices new s mark) (sym e) told
+                  let same = same_marks by_step mark (mark_at new end) set.here here in
+                  let told : IsStepTo task new end mark =
+                  subst (λ (m : Mark). IsStepTo task new end m) same (kept end by_step nearer.kept step) in
+                  subst (λ (s : ℕ). IsStepTo task new s mark) (sym e) told
               | inr other_side ↦ kept other mark nearer.kept (from.ways.steps other mark (sym (set.others other other_side) ∙ at) apart)
             ];
         ranked = λ other done.
@@ -167,7 +151,7 @@ look_keeps net counts prices way place side distance old new look nearer (inr by
 pub look_at : (way : Way) (net : Network) (counts : List ℕ) (prices : List ℤ) (side : ℕ) (row : List ℕ) (j : ℕ) (marks : List (Option Mark))
     (frontier : List (ℕ × ℕ)) (distance : ℕ) → IsNet net → IsGround net counts prices
     → row ≡ places_of side (map (start_of way) (arcs_of net)) → j < length row → IsLooking prices marks frontier distance
-    → IsLook net counts prices way (get_or row j 0) side marks
+    → IsLook net way (get_or row j 0) side marks
 look_at way net counts prices side row j marks frontier distance is ground same below looking =
     let place = get_or row j 0 in
     let has = subst (λ (list : List ℕ). Contains list place) same (Contains-get_or row j 0 below) in
@@ -189,12 +173,12 @@ look_at way net counts prices side row j marks frontier distance is ground same 
 
 pub keep_none : (net : Network) (counts : List ℕ) (prices : List ℤ) (side distance : ℕ) (marks : List (Option Mark))
     → KeepWays net counts prices side distance marks marks
-keep_none net counts prices side distance marks source from = from
+keep_none net counts prices side distance marks excess source from = from
 
 pub keep_on : (net : Network) (counts : List ℕ) (prices : List ℤ) (side distance : ℕ) (start middle last : List (Option Mark))
     → KeepWays net counts prices side distance start middle → KeepWays net counts prices side distance middle last
     → KeepWays net counts prices side distance start last
-keep_on net counts prices side distance start middle last one two source from = two source (one source from)
+keep_on net counts prices side distance start middle last one two excess source from = two excess source (one excess source from)
 
 -- ---- a side that is settled
 
@@ -202,11 +186,11 @@ rank_settled : (marks : List (Option Mark)) (side rank : ℕ) (mark : Mark) → 
     → settled_as rank (mark_at marks side) ≡ Some (record mark { rank = Some rank })
 rank_settled marks side rank mark is = ap (settled_as rank) is
 
-pub ways_from : (net : Network) (counts : List ℕ) (prices : List ℤ) (source : ℕ) (marks new_marks : List (Option Mark)) (side rank distance : ℕ)
+pub ways_from : (task : Task) (marks new_marks : List (Option Mark)) (side rank distance : ℕ)
     → side < length marks → is_open (mark_at marks side) ≡ true → distance_at marks side ≡ distance → rank ≡ settled_count marks
     → new_marks ≡ slice_set marks side (settled_as rank (mark_at marks side)) → IsSettledNow marks new_marks side
-    → AreWays net counts prices source marks → AreWaysFrom net counts prices source side distance new_marks
-ways_from net counts prices source marks new_marks side rank distance within waits at rank_is is now ways =
+    → AreWays task marks → AreWaysFrom task side distance new_marks
+ways_from task marks new_marks side rank distance within waits at rank_is is now ways =
     let found = open_mark (mark_at marks side) waits in
     let mark = found.0 in
     let after : Mark = record mark { rank = Some rank } in
@@ -216,29 +200,27 @@ ways_from net counts prices source marks new_marks side rank distance within wai
     λ other settled e. never _ (not_both (mark_at marks side) waits) (subst (λ (s : ℕ). is_settled (mark_at marks s) ≡ true) e settled) in
     let same : (other : ℕ) → is_settled (mark_at marks other) ≡ true → mark_at new_marks other ≡ mark_at marks other =
     λ other settled. now.others other (apart_from other settled) in
-    let kept = step_kept net counts prices marks new_marks in
+    let kept = step_kept task marks new_marks in
     let count = now.count in
     record {
       ways = record {
-        level = ways.level;
-        small = ways.small;
-        starts = let same = now.distances source in let starts = ways.starts in omega (arith, ints, starts, same);
+        small = small_kept task.prices marks new_marks task.source (now.distances task.source) ways.small;
         begun = λ other done.
-            elim (cases_eq side source) [
+            elim (cases_eq side task.source) [
               | inl e ↦ subst (λ (s : ℕ). is_settled (mark_at new_marks s) ≡ true) e now.here
               | inr apart ↦
                   let first = ways.begun _ (ways.steps side mark found.1 apart).from_settled in
-                  ap is_settled (same source first) ∙ first
+                  ap is_settled (same task.source first) ∙ first
             ];
         steps = λ other known here apart.
             elim (cases_eq other side) [
               | inl e ↦
-                  let not_source : side ≢ source = subst (λ (s : ℕ). s ≢ source) e apart in
+                  let not_source : side ≢ task.source = subst (λ (s : ℕ). s ≢ task.source) e apart in
                   let before = kept side mark same (ways.steps side mark found.1 not_source) in
                   let old_start = ways.steps side mark found.1 not_source in
                   let low = ways.ranked _ old_start.from_settled in
                   let rank_same = ap rank_of (same _ old_start.from_settled) in
-                  let told : IsStepTo net counts prices new_marks side after = record {
+                  let told : IsStepTo task new_marks side after = record {
                     inside = before.inside;
                     leads = before.leads;
                     leaves = before.leaves;
@@ -248,8 +230,8 @@ ways_from net counts prices source marks new_marks side rank distance within wai
                   } in
                   let at_side : mark_at new_marks side ≡ Some known = subst (λ (s : ℕ). mark_at new_marks s ≡ Some known) e here in
                   let is_after = same_marks after known (mark_at new_marks side) set.here at_side in
-                  subst (λ (s : ℕ). IsStepTo net counts prices new_marks s known) (sym e)
-                  (subst (λ (m : Mark). IsStepTo net counts prices new_marks side m) is_after told)
+                  subst (λ (s : ℕ). IsStepTo task new_marks s known) (sym e)
+                  (subst (λ (m : Mark). IsStepTo task new_marks side m) is_after told)
               | inr other_side ↦ kept other known same (ways.steps other known (sym (now.others other other_side) ∙ here) apart)
             ];
         ranked = λ other done.

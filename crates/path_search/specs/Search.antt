@@ -1,13 +1,12 @@
 -- What a search knows of sides: marks, of which some are settled, and a frontier of those that are not.
-use Rattle.std.specs.Prelude.{◌≡◌, ℕ, ◌-◌, ◌^◌, ◌<◌, ◌≤◌, Bool, true, false, not, ◌⊎◌, ◌≢◌, List, ◌∷◌, length, slice_index_or, slice_set, Option, None, Some, ℤ, pos, ◌+ℤ◌, ◌≤ℤ◌, ◌<ℤ◌, if◌then◌else◌}
+use Rattle.std.specs.Prelude.{◌≡◌, ℕ, ◌-◌, ◌^◌, ◌<◌, ◌≤◌, Bool, true, false, not, ◌⊎◌, ◌≢◌, List, ◌∷◌, length, slice_index_or, slice_set, Option, None, Some, ℤ, pos, ◌+ℤ◌, ◌≤ℤ◌, if◌then◌else◌}
 use Rattle.std.specs.List.{All, Contains, sum_by}
 use Rattle.std.specs.List.Sorted.{IsPermutation}
 use Rattle.std.specs.Option.{is_some}
 use Rattle.flow_model.specs.declared.arc.Arc.{Arc}
 use Rattle.flow_model.specs.Prices.{IsBelow}
 use Rattle.reached_sides.specs.declared.mark.Mark.{Mark}
-use Rattle.residual_model.specs.Laws.{HoldBelow, IsClosed}
-use Rattle.residual_model.specs.Residual.{EachStep, cost_of_more, cost_of_less, reduced}
+use Rattle.residual_model.specs.Residual.{cost_of_more, cost_of_less, reduced}
 use Rattle.flow_model.specs.Network.{Network, arcs_of}
 use Rattle.path_search.specs.Ground.{AreSmall, arc_at, count_at, price_at}
 
@@ -131,40 +130,6 @@ abbrev pub settled_as : ℕ → Option Mark → Option Mark
 settled_as rank None = None
 settled_as rank (Some mark) = Some (record mark { rank = Some rank })
 
--- What a search has done: it has reached its source, each step from a settled side leads no further than it costs, and
--- no settled side lacks anything.
-pub record HasSettled (net : Network) (counts : List ℕ) (prices excess : List ℤ) (source : ℕ)
-    (marks : List (Option Mark)) : Type 0 where
-  pub each : length marks ≡ length prices
-  pub begins : distance_at marks source < far
-  pub led : EachStep (λ from to cost. is_settled (mark_at marks from) ≡ true
-      → pos (distance_at marks to) ≤ℤ (pos (distance_at marks from) +ℤ reduced (price_at prices) from to cost))
-      (arcs_of net) counts
-  pub none_lacks : (side : ℕ) → is_settled (mark_at marks side) ≡ true → pos 0 ≤ℤ price_at excess side
-
 -- A side is in the set that a search has reached.
 abbrev pub is_reached : List (Option Mark) → ℕ → Bool
 is_reached marks side = is_some (mark_at marks side)
-
--- A search has reached a side that lacks something, and no nearer one: distances hold below it.
-pub record HasReached (net : Network) (counts : List ℕ) (prices excess : List ℤ) (source : ℕ)
-    (marks : List (Option Mark)) (side : ℕ) : Type 0 where
-  pub settled : HasSettled net counts prices excess source marks
-  pub lacks : price_at excess side <ℤ pos 0
-  pub inside : side < length prices
-  pub hold : HoldBelow (distance_at marks side) (distance_at marks) (price_at prices) (arcs_of net) counts
-
--- A search has reached a set of sides that no step leaves, and none of them lacks anything.
-pub record HasClosed (net : Network) (counts : List ℕ) (prices excess : List ℤ) (source : ℕ)
-    (marks : List (Option Mark)) : Type 0 where
-  pub settled : HasSettled net counts prices excess source marks
-  pub begins : is_reached marks source ≡ true
-  pub closed : IsClosed (is_reached marks) (arcs_of net) counts
-  pub none_lacks : (side : ℕ) → is_reached marks side ≡ true → pos 0 ≤ℤ price_at excess side
-
--- What holds before each side is settled, as the next one behind so many.
-pub record IsWalking (net : Network) (counts : List ℕ) (prices excess : List ℤ) (source : ℕ)
-    (marks : List (Option Mark)) (frontier : List (ℕ × ℕ)) (rank : ℕ) : Type 0 where
-  pub settled : HasSettled net counts prices excess source marks
-  pub waiting : IsWaiting marks frontier
-  pub rank_is : rank ≡ settled_count marks

@@ -7,6 +7,7 @@ use Rattle.residual_model.specs.Residual.{moved}
 use Rattle.reached_sides.specs.declared.mark.Mark.{Mark}
 use Rattle.path_search.specs.Ground.{price_at}
 use Rattle.path_search.specs.Search.{distance_at, is_settled, mark_at}
+use Rattle.path_search.specs.Task.{task_of}
 use Rattle.path_search.specs.Ways.{HasWays}
 use Rattle.path_search.specs.declared.step.Step.{Step}
 use Rattle.path_search.specs.Path.{IsPath, step_end}
@@ -15,7 +16,8 @@ use Rattle.path_search.specs.Path.{IsPath, step_end}
 pub record IsTraceable (net : Network) (source : ℕ) (marks : List (Option Mark)) (side : ℕ) : Type 0 where
   pub counts : List ℕ
   pub prices : List ℤ
-  pub ways : HasWays net counts prices source marks side
+  pub excess : List ℤ
+  pub ways : HasWays (task_of net counts prices excess source) marks side
 
 -- The mark of a step's end, which is the side that the search has come to or a settled one, tells the step.
 pub record IsTold (arcs : List Arc) (marks : List (Option Mark)) (source side : ℕ) (step : Step) : Type 0 where
@@ -30,7 +32,7 @@ pub record IsTold (arcs : List Arc) (marks : List (Option Mark)) (source side : 
 pub record IsTraced (net : Network) (source : ℕ) (marks : List (Option Mark)) (side : ℕ) (steps : List Step)
     : Type 0 where
   pub told : All (IsTold (arcs_of net) marks source side) steps
-  pub path : (counts : List ℕ) (prices : List ℤ) → HasWays net counts prices source marks side
+  pub path : (counts : List ℕ) (prices excess : List ℤ) → HasWays (task_of net counts prices excess source) marks side
       → IsPath (arcs_of net) counts (moved (price_at prices) (distance_at marks) (distance_at marks side)) source side
       steps
 

@@ -1,5 +1,5 @@
 -- The way back from a side that a search has reached: each mark tells the last step of a way from the source.
-use Rattle.std.specs.Prelude.{◌≡◌, ℕ, ◌<◌, ◌≤◌, true, false, ◌⊎◌, ◌≢◌, List, length, slice_index, slice_set, Option, None, Some, ℤ, pos, ◌+ℤ◌, unwrap_or, IfSome, MatchOption}
+use Rattle.std.specs.Prelude.{◌≡◌, ℕ, ◌<◌, ◌≤◌, true, false, ◌⊎◌, ◌≢◌, List, length, slice_index, slice_set, Option, None, Some, ℤ, pos, ◌+ℤ◌, unwrap_or}
 use Rattle.flow_model.specs.declared.arc.Arc.{Arc}
 use Rattle.flow_model.specs.Network.{Network, arcs_of}
 use Rattle.flow_model.specs.Prices.{IsBelow}
@@ -8,7 +8,8 @@ use Rattle.reached_sides.specs.declared.mark.Mark.{Mark}
 use Rattle.reached_sides.specs.declared.mark.Way.{Way}
 use Rattle.reached_sides.specs.declared.mark.Way.TheVariants.{Along, Against}
 use Rattle.path_search.specs.Ground.{IsSmallPrice, arc_at, count_at, price_at}
-use Rattle.path_search.specs.Search.{mark_at, distance_at, is_open, is_settled, settled_count, HasClosed, HasReached, HasSettled, IsNext, IsWalking}
+use Rattle.path_search.specs.Task.{Task, task_of}
+use Rattle.path_search.specs.Search.{mark_at, distance_at, is_open, is_settled, settled_count}
 
 -- Where a step over an arc starts.
 abbrev pub start_of : Way → Arc → ℕ
@@ -36,55 +37,54 @@ rank_of None = 0
 rank_of (Some mark) = unwrap_or mark.rank 0
 
 -- A mark tells an open step to its side from one that was settled before, and so much further away as the step costs.
-pub record IsStepTo (net : Network) (counts : List ℕ) (prices : List ℤ) (marks : List (Option Mark)) (side : ℕ)
-    (mark : Mark) : Type 0 where
-  pub inside : mark.arc < length (arcs_of net)
-  pub leads : end_of mark.way (arc_at (arcs_of net) mark.arc) ≡ side
-  pub leaves : IsOpen mark.way (arc_at (arcs_of net) mark.arc) (count_at counts mark.arc)
-  pub from_settled : is_settled (mark_at marks (start_of mark.way (arc_at (arcs_of net) mark.arc))) ≡ true
+pub record IsStepTo (task : Task) (marks : List (Option Mark)) (side : ℕ) (mark : Mark) : Type 0 where
+  pub inside : mark.arc < length (arcs_of task.net)
+  pub leads : end_of mark.way (arc_at (arcs_of task.net) mark.arc) ≡ side
+  pub leaves : IsOpen mark.way (arc_at (arcs_of task.net) mark.arc) (count_at task.counts mark.arc)
+  pub from_settled : is_settled (mark_at marks (start_of mark.way (arc_at (arcs_of task.net) mark.arc))) ≡ true
   pub from_earlier : is_settled (Some mark) ≡ true
-      → rank_of (mark_at marks (start_of mark.way (arc_at (arcs_of net) mark.arc))) < rank_of (Some mark)
+      → rank_of (mark_at marks (start_of mark.way (arc_at (arcs_of task.net) mark.arc))) < rank_of (Some mark)
   pub further : pos mark.distance
-      ≡ pos (distance_at marks (start_of mark.way (arc_at (arcs_of net) mark.arc)))
-      +ℤ reduced (price_at prices) (start_of mark.way (arc_at (arcs_of net) mark.arc)) side
-      (cost_of_step mark.way (arc_at (arcs_of net) mark.arc) (count_at counts mark.arc))
+      ≡ pos (distance_at marks (start_of mark.way (arc_at (arcs_of task.net) mark.arc)))
+      +ℤ reduced (price_at task.prices) (start_of mark.way (arc_at (arcs_of task.net) mark.arc)) side
+      (cost_of_step mark.way (arc_at (arcs_of task.net) mark.arc) (count_at task.counts mark.arc))
 
--- Marks tell ways back to the source, which is settled before any other side. The level is the sum of its distance and
--- price, which no move of prices changes.
-pub record AreWays (net : Network) (counts : List ℕ) (prices : List ℤ) (source : ℕ) (marks : List (Option Mark))
-    : Type 0 where
-  pub level : ℤ
-  pub small : IsSmallPrice level
-  pub starts : (pos (distance_at marks source) +ℤ price_at prices source) ≡ level
-  pub begun : (side : ℕ) → is_settled (mark_at marks side) ≡ true → is_settled (mark_at marks source) ≡ true
-  pub steps : (side : ℕ) (mark : Mark) → mark_at marks side ≡ Some mark → side ≢ source
-      → IsStepTo net counts prices marks side mark
+-- The distance and the price of a side together, which no move of prices changes.
+abbrev pub height_at : List ℤ → List (Option Mark) → ℕ → ℤ
+height_at prices marks side = pos (distance_at marks side) +ℤ price_at prices side
+
+-- Marks tell ways back to the source, which is settled before any other side and has a small height.
+pub record AreWays (task : Task) (marks : List (Option Mark)) : Type 0 where
+  pub small : IsSmallPrice (height_at task.prices marks task.source)
+  pub begun : (side : ℕ) → is_settled (mark_at marks side) ≡ true → is_settled (mark_at marks task.source) ≡ true
+  pub steps : (side : ℕ) (mark : Mark) → mark_at marks side ≡ Some mark → side ≢ task.source
+      → IsStepTo task marks side mark
   pub ranked : (side : ℕ) → is_settled (mark_at marks side) ≡ true → rank_of (mark_at marks side) < settled_count marks
 
 -- And a side is settled at this distance.
-pub record AreWaysFrom (net : Network) (counts : List ℕ) (prices : List ℤ) (source side distance : ℕ)
-    (marks : List (Option Mark)) : Type 0 where
-  pub ways : AreWays net counts prices source marks
+pub record AreWaysFrom (task : Task) (side distance : ℕ) (marks : List (Option Mark)) : Type 0 where
+  pub ways : AreWays task marks
   pub settled : is_settled (mark_at marks side) ≡ true
   pub at : distance_at marks side ≡ distance
 
--- What looks from a side keeps all ways, whatever the source.
+-- What looks from a side keeps all ways, whatever the excess and the source.
 abbrev pub KeepWays : Network → List ℕ → List ℤ → ℕ → ℕ → List (Option Mark) → List (Option Mark) → Type 0
 KeepWays net counts prices side distance old new =
-    (source : ℕ) → AreWaysFrom net counts prices source side distance old
-    → AreWaysFrom net counts prices source side distance new
+    (excess : List ℤ) (source : ℕ) → AreWaysFrom (task_of net counts prices excess source) side distance old
+    → AreWaysFrom (task_of net counts prices excess source) side distance new
+
+-- The mark of a step to an open side at a distance.
+abbrev pub mark_by : Way → ℕ → ℕ → Mark
+mark_by way place distance = record { distance = distance; arc = place; way = way; rank = None }
 
 -- The end of an open step is marked by it.
 pub record IsMarkedBy (way : Way) (prices : List ℤ) (place distance : ℕ) (arc : Arc) (n : ℕ)
     (old new : List (Option Mark)) : Type 0 where
-  pub mark : Mark
-  pub set : new ≡ slice_set old (end_of way arc) (Some mark)
+  pub to : ℕ
+  pub set : new ≡ slice_set old (end_of way arc) (Some (mark_by way place to))
   pub was : is_settled (mark_at old (end_of way arc)) ≡ false
   pub leaves : IsOpen way arc n
-  pub same_arc : mark.arc ≡ place
-  pub same_way : mark.way ≡ way
-  pub not_settled : is_settled (Some mark) ≡ false
-  pub further : pos mark.distance
+  pub further : pos to
       ≡ pos distance +ℤ reduced (price_at prices) (start_of way arc) (end_of way arc) (cost_of_step way arc n)
 
 -- A look over an arc marks at most the end of its step.
@@ -92,13 +92,11 @@ abbrev pub MarksAtMost : Way → List ℤ → ℕ → ℕ → Arc → ℕ → Li
 MarksAtMost way prices place distance arc n old new =
     (new ≡ old) ⊎ IsMarkedBy way prices place distance arc n old new
 
--- A search has come to a side that it did not settle, behind all that it settled, with the ways to all that it reached.
-pub record HasWays (net : Network) (counts : List ℕ) (prices : List ℤ) (source : ℕ) (marks : List (Option Mark))
-    (side : ℕ) : Type 0 where
-  pub ways : AreWays net counts prices source marks
+-- Marks tell ways to a side that is open, behind all that is settled.
+pub record HasWays (task : Task) (marks : List (Option Mark)) (side : ℕ) : Type 0 where
+  pub ways : AreWays task marks
   pub waits : is_open (mark_at marks side) ≡ true
   pub behind : (other : ℕ) → is_settled (mark_at marks other) ≡ true → distance_at marks other ≤ distance_at marks side
-  pub nearest : (other : ℕ) → distance_at marks other < distance_at marks side → is_settled (mark_at marks other) ≡ true
 
 -- A list has the settled sides, each at the place of its rank.
 pub record AreInOrder (marks : List (Option Mark)) (order : List ℕ) : Type 0 where
@@ -113,29 +111,3 @@ pub record AreSettled (marks : List (Option Mark)) (order : List ℕ) : Type 0 w
   pub count : length order ≡ settled_count marks
   pub first : (k : ℕ) → k < length order
       → distance_at marks (slice_index order 0) ≤ distance_at marks (slice_index order k)
-
--- A search is under way: it may settle the next side.
-pub record IsUnderWay (net : Network) (counts : List ℕ) (prices excess : List ℤ) (source : ℕ)
-    (marks : List (Option Mark)) (frontier : List (ℕ × ℕ)) (order : List ℕ) : Type 0 where
-  pub walking : IsWalking net counts prices excess source marks frontier (length order)
-  pub ways : AreWays net counts prices source marks
-  pub settled : AreSettled marks order
-
--- A search has come to a side at a distance, and has not settled it.
-pub record HasComeTo (net : Network) (counts : List ℕ) (prices excess : List ℤ) (source : ℕ)
-    (marks : List (Option Mark)) (frontier : List (ℕ × ℕ)) (order : List ℕ) (side distance : ℕ) : Type 0 where
-  pub done : HasSettled net counts prices excess source marks
-  pub next : IsNext marks frontier side distance
-  pub ways : AreWays net counts prices source marks
-  pub settled : AreSettled marks order
-
--- How a search ends. It has come to a side that lacks something, with the ways to all that it reached; or no step
--- leaves what it reached, and no side there lacks anything. In both cases the settled sides are listed in their order.
-pub record HasEnded (net : Network) (counts : List ℕ) (prices excess : List ℤ) (source : ℕ) (marks : List (Option Mark))
-    (frontier : List (ℕ × ℕ)) (order : List ℕ) (found : Option ℕ) : Type 0 where
-  pub reached : MatchOption found (HasClosed net counts prices excess source marks)
-      (λ side. HasReached net counts prices excess source marks side)
-  pub ways : IfSome found (λ side. HasWays net counts prices source marks side)
-  pub come : IfSome found
-      (λ side. HasComeTo net counts prices excess source marks frontier order side (distance_at marks side))
-  pub ordered : AreInOrder marks order

@@ -2,8 +2,9 @@
 ghost use Rattle.std.specs.Prelude.{◌≡◌, ◌*◌, ◌<◌, ◌≤◌, ◌<ℤ◌, ◌≤ℤ◌, ◌+◌, pos, ℕ, length, replicate, None};
 ghost use Rattle.std.specs.Prelude.{IfNone, IfOk, IfSome, OnOk};
 ghost use Rattle.path_search.specs.Ground.{IsGround, price_at};
-ghost use Rattle.path_search.specs.Search.{HasClosed, HasReached, distance_at, settled_count};
-ghost use Rattle.path_search.specs.Ways.{HasComeTo, HasEnded, HasWays, IsUnderWay};
+ghost use Rattle.path_search.specs.Search.{distance_at, settled_count};
+ghost use Rattle.path_search.specs.Task.{task_on};
+ghost use Rattle.path_search.specs.Found.{HasClosed, HasComeTo, HasEnded, HasReached, IsUnderWay};
 
 use crate::around::look_around;
 use crate::ground::Ground;
@@ -47,9 +48,7 @@ impl Search {
         requires told { length ground.excess.now ≡ length ground.prices.now }
         requires marked { length self.old.marks ≡ length ground.prices.now }
         requires source { source ≤ 2 * length ground.net.now.blocks }
-        ensures ended { IfOk result (HasEnded ground.entry.net.now ground.entry.counts.now
-            ground.entry.prices.now ground.entry.excess.now source self.new.marks
-            self.new.frontier self.new.order.items) }
+        ensures ended { IfOk result (HasEnded (task_on ground.entry source) self.new) }
         ensures begins { OnOk result (distance_at self.new.marks source ≡ 0) }
     {
         begin(&mut self.marks, &mut self.frontier, source);
@@ -70,13 +69,10 @@ impl Search {
     ) -> Result<Option<u32>, NoMemory>
         requires ground { IsGround ground.net.now ground.counts.now ground.prices.now }
         requires told { length ground.excess.now ≡ length ground.prices.now }
-        requires come { HasComeTo ground.net.now ground.counts.now ground.prices.now
-            ground.excess.now source self.old.marks self.old.frontier self.old.order.items side
+        requires come { HasComeTo (task_on ground source) self.old side
             (distance_at self.old.marks side) }
         requires enough { pos 0 ≤ℤ price_at ground.excess.now side }
-        ensures ended { IfOk result (HasEnded ground.entry.net.now ground.entry.counts.now
-            ground.entry.prices.now ground.entry.excess.now source self.new.marks
-            self.new.frontier self.new.order.items) }
+        ensures ended { IfOk result (HasEnded (task_on ground.entry source) self.new) }
         ensures nearer { OnOk result
             ((other : ℕ) → distance_at self.new.marks other ≤ distance_at self.old.marks other) }
     {
@@ -99,23 +95,15 @@ impl Search {
     /// side is open.
     fn come_to_next(&mut self, ground: Ground<'_>, source: u32) -> Option<(u32, u64)>
         requires ground { IsGround ground.net.now ground.counts.now ground.prices.now }
-        requires under_way { IsUnderWay ground.net.now ground.counts.now ground.prices.now
-            ground.excess.now source self.old.marks self.old.frontier self.old.order.items }
+        requires under_way { IsUnderWay (task_on ground source) self.old }
         ensures marks { self.new.marks ≡ self.old.marks }
         ensures order { self.new.order ≡ self.old.order }
         ensures come { IfSome result (λ next.
-            HasComeTo ground.entry.net.now ground.entry.counts.now ground.entry.prices.now
-            ground.entry.excess.now source self.new.marks self.new.frontier self.new.order.items
-            next.0 next.1) }
+            HasComeTo (task_on ground.entry source) self.new next.0 next.1) }
         ensures reached { IfSome result (λ next. price_at ground.entry.excess.now next.0 <ℤ pos 0
-            → HasReached ground.entry.net.now ground.entry.counts.now ground.entry.prices.now
-            ground.entry.excess.now source self.new.marks next.0) }
-        ensures ways { IfSome result (λ next.
-            HasWays ground.entry.net.now ground.entry.counts.now ground.entry.prices.now source
-            self.new.marks next.0) }
+            → HasReached (task_on ground.entry source) self.new.marks next.0) }
         ensures closed { IfNone result
-            (HasClosed ground.entry.net.now ground.entry.counts.now ground.entry.prices.now
-            ground.entry.excess.now source self.new.marks) }
+            (HasClosed (task_on ground.entry source) self.new.marks) }
     {
         let next = next_open(&self.marks, &mut self.frontier)?;
         Some(next)
@@ -132,13 +120,9 @@ impl Search {
     ) -> Result<Option<u32>, NoMemory>
         requires ground { IsGround ground.net.now ground.counts.now ground.prices.now }
         requires told { length ground.excess.now ≡ length ground.prices.now }
-        requires come { HasComeTo ground.net.now ground.counts.now ground.prices.now
-            ground.excess.now source self.old.marks self.old.frontier self.old.order.items first
-            distance }
+        requires come { HasComeTo (task_on ground source) self.old first distance }
         requires enough { pos 0 ≤ℤ price_at ground.excess.now first }
-        ensures ended { IfOk result (HasEnded ground.entry.net.now ground.entry.counts.now
-            ground.entry.prices.now ground.entry.excess.now source self.new.marks
-            self.new.frontier self.new.order.items) }
+        ensures ended { IfOk result (HasEnded (task_on ground.entry source) self.new) }
         ensures nearer { OnOk result
             ((other : ℕ) → distance_at self.new.marks other ≤ distance_at self.old.marks other) }
     {
@@ -163,13 +147,9 @@ impl Search {
         distance: u64,
     ) -> Result<(), NoMemory>
         requires ground { IsGround ground.net.now ground.counts.now ground.prices.now }
-        requires come { HasComeTo ground.net.now ground.counts.now ground.prices.now
-            ground.excess.now source self.old.marks self.old.frontier self.old.order.items side
-            distance }
+        requires come { HasComeTo (task_on ground source) self.old side distance }
         requires enough { pos 0 ≤ℤ price_at ground.excess.now side }
-        ensures under_way { OnOk result (IsUnderWay ground.entry.net.now ground.entry.counts.now
-            ground.entry.prices.now ground.entry.excess.now source self.new.marks
-            self.new.frontier self.new.order.items) }
+        ensures under_way { OnOk result (IsUnderWay (task_on ground.entry source) self.new) }
         ensures nearer { OnOk result
             ((other : ℕ) → distance_at self.new.marks other ≤ distance_at self.old.marks other) }
         ensures more { OnOk result

@@ -13,7 +13,7 @@ loop-found-init c = record {
 pub loop-found-preserved : goal.loop-found-preserved
 loop-found-preserved c =
     let yes = c.if-not-branch.false in
-    let taken = taken_more _ _ _ _ _ _ _ _ _ _ _ _ _ _ _ _ _ _ c.loop-found.invariant c.in_ok-augment_to.ensures.augmented
+    let taken = taken_more _ _ _ _ _ _ _ _ _ _ _ _ _ _ _ _ c.loop-found.invariant c.in_ok-augment_to.ensures.augmented
     c.in_ok-augment_to.ensures.one in
     record {
       given = taken.augmented_is.given;
@@ -25,6 +25,6 @@ loop-found-preserved c =
 
 pub returns-then-not-branch-clause-augmented : goal.returns-then-not-branch-clause-augmented
 returns-then-not-branch-clause-augmented c = λ found.
-    let taken = taken_more _ _ _ _ _ _ _ _ _ _ _ _ _ _ _ _ _ _ c.loop-found.invariant c.in_ok-augment_to.ensures.augmented
+    let taken = taken_more _ _ _ _ _ _ _ _ _ _ _ _ _ _ _ _ c.loop-found.invariant c.in_ok-augment_to.ensures.augmented
     c.in_ok-augment_to.ensures.one in
     taken.augmented_is

@@ -9,4 +9,5 @@ returns-clause-out c = λ place within ends.
     (c.in_ok-look_out.ensures.out place within ends)
 
 pub returns-clause-ways : goal.returns-clause-ways
-returns-clause-ways c = λ source from. c.in_ok-look_back.ensures.ways source (c.in_ok-look_out.ensures.ways source from)
+returns-clause-ways c = λ excess source from.
+    c.in_ok-look_back.ensures.ways excess source (c.in_ok-look_out.ensures.ways excess source from)

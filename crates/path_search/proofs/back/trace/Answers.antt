@@ -11,7 +11,7 @@ bounds-arcs-step c =
     let has = c.requires.ways in
     let mark = marked c.args.marks.now c.args.side c.loop-current.current has.waits c.loop-current.invariant.known in
     let told = subst (λ (at : Option Mark). TellsStep at c.step_to-step.result) mark.1 c.step_to-step.ensures in
-    rw c.arcs-arcs.ensures.arcs (step_inside _ _ _ _ _ _ _ _ _ has mark.1 c.loop-current-test.true told).0
+    rw c.arcs-arcs.ensures.arcs (step_inside _ _ _ _ _ _ has mark.1 c.loop-current-test.true told).0
 
 pub loop-current-smaller : goal.loop-current-smaller
 loop-current-smaller c =
@@ -21,7 +21,7 @@ loop-current-smaller c =
     let at : c.start_of-current.result ≡ step_start (arcs_of c.args.net.now) c.step_to-step.result =
     rw c.arcs-arcs.ensures.arcs at c.start_of-current.ensures in
     subst (λ (s : ℕ). level_at c.args.marks.now s < level_at c.args.marks.now c.loop-current.current) (sym at)
-    (step_inside _ _ _ _ _ _ _ _ _ has mark.1 c.loop-current-test.true told).1
+    (step_inside _ _ _ _ _ _ has mark.1 c.loop-current-test.true told).1
 
 pub loop-current-preserved : goal.loop-current-preserved
 loop-current-preserved c =
@@ -30,7 +30,7 @@ loop-current-preserved c =
     let told = subst (λ (at : Option Mark). TellsStep at c.step_to-step.result) mark.1 c.step_to-step.ensures in
     let at : c.start_of-current.result ≡ step_start (arcs_of c.args.net.now) c.step_to-step.result =
     rw c.arcs-arcs.ensures.arcs at c.start_of-current.ensures in
-    let more = traced_more _ _ _ _ _ _ _ _ _ _ has mark.1 c.loop-current-test.true told c.loop-current.invariant in
+    let more = traced_more _ _ _ _ _ _ _ has mark.1 c.loop-current-test.true told c.loop-current.invariant in
     rw c.in_ok-push.ensures.items (subst (λ (s : ℕ). IsTracing (arcs_of c.args.net.now) c.args.marks.now c.args.source c.args.side s
     (c.loop-current.path.items ++ c.step_to-step.result ∷ [])) (sym at) more)
 

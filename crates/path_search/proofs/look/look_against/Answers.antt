@@ -27,7 +27,7 @@ pub returns-clause-marked : goal.returns-clause-marked
 returns-clause-marked c =
     let value = c.reduced-more.ensures.value in
     let cost = c.cost_of_less.ensures.value in
-    taken_by _ _ _ _ _ _ _ _ _ _ _ c.requires.looking c.if-count-arc.false refl refl refl (omega arith) (omega (arith, ints, value, cost)) c.in_ok-offer.ensures
+    taken_by _ _ _ _ _ _ _ _ _ _ _ c.requires.looking c.if-count-arc.false (omega arith) (omega (arith, ints, value, cost)) c.in_ok-offer.ensures
 
 pub returns-then-is_within-clause-led : goal.returns-then-is_within-clause-led
 returns-then-is_within-clause-led c = led_back_against _ _ _ _ _ c.requires.fits (c.is_within.ensures c.if-is_within.true)

@@ -13,7 +13,7 @@ pub loop-self-smaller : goal.loop-self-smaller
 loop-self-smaller c =
     let count = few_settled c.pass.new.self.marks in
     let same = ap settled_count c.in-Some.ensures.marks in
-    omega (arith, count, same, c.in_ok-pass.ensures.more, c.in_ok-pass.ensures.under_way.walking.settled.each)
+    omega (arith, count, same, c.in_ok-pass.ensures.more, c.in_ok-pass.ensures.under_way.settled.each)
 
 pub loop-self-preserved : goal.loop-self-preserved
 loop-self-preserved c = record {

@@ -2,12 +2,13 @@ use Rattle.std.proofs.Common.{ℕ, ◌-◌, ◌≤◌, length}
 use Rattle.std.specs.Prelude.{pos, ◌≤ℤ◌}
 use Rattle.path_search.specs.Ground.{price_at}
 use Rattle.path_search.specs.Search.{distance_at, settled_count}
-use Rattle.path_search.specs.Ways.{HasComeTo}
+use Rattle.path_search.specs.Task.{task_on}
+use Rattle.path_search.specs.Found.{HasComeTo}
 use Rattle.path_search.proofs.walk.Search.walk.Given as goal
 
 abbrev pub invariant-loop-self : goal.invariant-loop-self
 invariant-loop-self l = record {
-  come : HasComeTo l.ground.net.now l.ground.counts.now l.ground.prices.now l.ground.excess.now l.source l.self.marks l.self.frontier l.self.order.items l.next.0 l.next.1;
+  come : HasComeTo (task_on l.ground l.source) l.self l.next.0 l.next.1;
   enough : pos 0 ≤ℤ price_at l.ground.excess.now l.next.0;
   nearer : (other : ℕ) → distance_at l.self.marks other ≤ distance_at l.fn.self.marks other;
 }

@@ -51,7 +51,7 @@ impl Tables {
 /// Where the line program of a unit begins, up to the end of the section.
 fn program_of<'a>(units: &Units<'_>, unit: &Unit, lines: Option<Part<'a>>) -> Option<Part<'a>> {
     let root = units.entry(unit.first as usize)?;
-    let at = match attribute(root.found, DW_AT_STMT_LIST)?.value {
+    let at = match attribute(&root.found, DW_AT_STMT_LIST)?.value {
         Value::Offset(at) | Value::Const(at) => at,
         _ => return None,
     };

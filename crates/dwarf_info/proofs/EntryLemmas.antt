@@ -52,24 +52,24 @@ pub record AddsEntry (old new : Entries) (entry : Entry) : Type 0 where
   pub whole : IsWhole new
   pub all : all_of new ≡ all_of old ++ entry ∷ []
 
-pub AddsEntry-row : (old new : Entries) (row : Row) (own mid : List Found) → IsWhole old → length old.rows.items < 16777216 → mid ≡ old.found.items ++ own → new.found.items ≡ mid → new.rows.items ≡ old.rows.items ++ row ∷ []
-    → row.first ≡ length old.found.items → row.count ≡ length mid - row.first
+pub AddsEntry-row : (old new : Entries) (row : Row) (own mid : List Found) → IsWhole old → length old.rows.items < 16777216 → mid ≡ old.found ++ own → new.found ≡ mid → new.rows.items ≡ old.rows.items ++ row ∷ []
+    → row.first ≡ length old.found → row.count ≡ length mid - row.first
     → AddsEntry old new (record { at = row.at; depth = row.depth; tag = row.tag; unit = row.unit; found = own })
 AddsEntry-row old new row own mid whole more mid_is found_is rows first count =
-    let found : new.found.items ≡ old.found.items ++ own = found_is ∙ mid_is in
-    let to : row.first + row.count ≡ length (old.found.items ++ own) = omega (arith, first, count, ap (λ (fs : List Found). length fs) mid_is, length-append old.found.items own) in
-    let here : IsWithin (old.found.items ++ own) row = record { within = omega (arith, to) } in
+    let found : new.found ≡ old.found ++ own = found_is ∙ mid_is in
+    let to : row.first + row.count ≡ length (old.found ++ own) = omega (arith, first, count, ap (λ (fs : List Found). length fs) mid_is, length-append old.found own) in
+    let here : IsWithin (old.found ++ own) row = record { within = omega (arith, to) } in
     record {
       whole = record {
         within = subst (λ (fs : List Found). AreWithin fs new.rows.items) (sym found)
-            (subst (λ (rs : List Row). AreWithin (old.found.items ++ own) rs) (sym rows) (within-more old.found.items own old.rows.items row whole.within here));
+            (subst (λ (rs : List Row). AreWithin (old.found ++ own) rs) (sym rows) (within-more old.found own old.rows.items row whole.within here));
         few = omega (arith, more, ap (λ (rs : List Row). length rs) rows, length-append old.rows.items (row ∷ []));
       };
       all = ap (λ (fs : List Found). entries_of fs new.rows.items) found
-          ∙ ap (λ (rs : List Row). entries_of (old.found.items ++ own) rs) rows
-          ∙ map-append (entry_of_row (old.found.items ++ own)) old.rows.items (row ∷ [])
-          ∙ ap (λ (es : List Entry). es ++ entry_of_row (old.found.items ++ own) row ∷ []) (rows-kept old.found.items own old.rows.items whole.within)
-          ∙ ap (λ (fs : List Found). all_of old ++ record { at = row.at; depth = row.depth; tag = row.tag; unit = row.unit; found = fs } ∷ []) (last_range old.found.items own row.first (row.first + row.count) first to);
+          ∙ ap (λ (rs : List Row). entries_of (old.found ++ own) rs) rows
+          ∙ map-append (entry_of_row (old.found ++ own)) old.rows.items (row ∷ [])
+          ∙ ap (λ (es : List Entry). es ++ entry_of_row (old.found ++ own) row ∷ []) (rows-kept old.found own old.rows.items whole.within)
+          ∙ ap (λ (fs : List Found). all_of old ++ record { at = row.at; depth = row.depth; tag = row.tag; unit = row.unit; found = fs } ∷ []) (last_range old.found own row.first (row.first + row.count) first to);
     }
 
 length-map : {X Y : Type 0} (f : X → Y) (xs : List X) → length (map f xs) ≡ length xs
@@ -78,7 +78,7 @@ length-map f (x ∷ xs) = let ih = length-map f xs in omega arith
 
 -- whether the file has as many entries as there can be
 pub is_full-is : (entries : Entries) → nat_le max_entries (length (all_of entries)) ≡ nat_le 16777216 (length entries.rows.items)
-is_full-is entries = ap (nat_le max_entries) (length-map (entry_of_row entries.found.items) entries.rows.items)
+is_full-is entries = ap (nat_le max_entries) (length-map (entry_of_row entries.found) entries.rows.items)
 
 pub ruleset entry_lemmas = (is_full-is)
 
@@ -102,9 +102,9 @@ entry_of-ok of at kind so_far cur next own shallow room e = rw (shallow, room, e
 -- An entry was read and stands behind the others.
 pub entry-read : (of : InUnit) (at : ℕ) (kind : Abbrev) (old new : Entries) (depth deeper count first own_count : ℕ) (row : Row) (cur next : Cursor) (own mid : List Found) (p q : Place) → IsWhole old
     → fails_at (nat_lt 1024 depth) p ≡ None → fails_at (nat_le 16777216 count) q ≡ None → count ≡ length old.rows.items
-    → values of.wide kind.tag kind.attrs cur ≡ Ok (own, next) → mid ≡ old.found.items ++ own → new.found.items ≡ mid
+    → values of.wide kind.tag kind.attrs cur ≡ Ok (own, next) → mid ≡ old.found ++ own → new.found ≡ mid
     → new.rows.items ≡ old.rows.items ++ row ∷ [] → row ≡ row_made at kind.tag depth of.unit first own_count
-    → first ≡ length old.found.items → own_count ≡ length mid - first → deeper ≡ cond kind.children (depth + 1) depth
+    → first ≡ length old.found → own_count ≡ length mid - first → deeper ≡ cond kind.children (depth + 1) depth
     → IsWhole new × (entry_of of at kind (record { depth = depth; entries = all_of old }) cur ≡ Ok ((record { depth = deeper; entries = all_of new }), next))
 entry-read of at kind old new depth deeper count first own_count row cur next own mid p q whole shallow room counted read mid_is found_is rows row_is first_is own_is deeper_is =
     let few : nat_le max_entries (length (all_of old)) ≡ false = is_full-is old ∙ ap (nat_le 16777216) (sym counted) ∙ passed (nat_le 16777216 count) q room in

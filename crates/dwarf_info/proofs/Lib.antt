@@ -1,5 +1,6 @@
 pub mod ValueLemmas
 pub mod EntryLemmas
+pub mod PackedLemmas
 pub mod PartLemmas
 pub mod TableLemmas
 pub mod TellingLemmas

@@ -1,6 +1,7 @@
 -- The values of an entry, one by one.
-use Rattle.std.proofs.Common.{◌≡◌, ℕ, ℤ, get_or, not, None, ◌+◌, ◌<◌, ◌≤◌, Bool, true, false, cond, List, [], ◌∷◌, ◌++◌, length, take, drop, Ok, Err, refl, sym, ap, subst, ◌∙◌, arith}
-use Rattle.std.proofs.lemmas.List.{length-append, drop-append-le, take-append-le, take_all, drop_all, drop_more, take-append-drop}
+use Rattle.std.proofs.Common.{◌≡◌, ℕ, ℤ, get_or, not, None, Some, ◌+◌, ◌-◌, ◌<◌, ◌≤◌, Bool, true, false, cond, List, [], ◌∷◌, ◌++◌, length, take, drop, Ok, Err, refl, sym, ap, subst, ◌∙◌, arith}
+use Rattle.std.proofs.lemmas.List.{length-append, length-drop, drop-append-le, take-append-le, take_all, drop_all, drop_more, take-append-drop}
+use Rattle.std.specs.Prelude.{◌==◌, ◌||◌, find, is_some, slice_range}
 use Rattle.byte_view.specs.Cursor.{Cursor, Reads}
 use Rattle.refusal.specs.Place.{in_binary, fails_at}
 use Rattle.placed_view.proofs.ReadLemmas.{cursor_is}
@@ -46,6 +47,17 @@ within-added first old new more within is =
     let n : length new ≡ length (cond (has_name (drop first old) more.name) old (old ++ more ∷ [])) = ap (λ (fs : List Found). length fs) is in
     (elim (has_name (drop first old) more.name) as (λ b. length new ≡ length (cond b old (old ++ more ∷ [])) → first ≤ length new)
     [ true ↦ λ e. omega arith | false ↦ λ e. omega (arith, length-append old (more ∷ [])) ]) n
+
+-- whether an attribute of a name is found among others
+found_some : (found : List Found) (name : ℕ) → is_some (find (λ (other : Found). other.name == name) found) ≡ has_name found name
+found_some [] name = refl
+found_some (f ∷ fs) name =
+    elim (f.name == name) as (λ b. is_some (cond b (Some f) (find (λ (other : Found). other.name == name) fs)) ≡ (b || has_name fs name)) [ true ↦ refl | false ↦ found_some fs name ]
+
+pub has_name-from : (found : List Found) (first end name : ℕ) → end ≡ length found → is_some (find (λ (other : Found). other.name == name) (slice_range found first end)) ≡ has_name (drop first found) name
+has_name-from found first end name all =
+    found_some (slice_range found first end) name
+    ∙ ap (λ (fs : List Found). has_name fs name) (take_all (end - first) (drop first found) (omega (arith, all, length-drop first found)))
 
 pub ruleset next_value_lemmas = (own-added, kept-added, within-added)
 

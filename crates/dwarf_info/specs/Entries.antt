@@ -10,11 +10,11 @@ use Rattle.dwarf_info.specs.declared.rows.Entries.{Entries}
 
 -- The entries in memory.
 abbrev pub all_of : Entries → List Entry
-all_of entries = entries_of entries.found.items entries.rows.items
+all_of entries = entries_of entries.found entries.rows.items
 
 -- The attributes of each entry are some of the list, and there are no more entries than a file can have.
 pub record IsWhole (entries : Entries) : Type 0 where
-  pub within : AreWithin entries.found.items entries.rows.items
+  pub within : AreWithin entries.found entries.rows.items
   pub few : length entries.rows.items ≤ 16777216
 
 -- Entries are read up to here, and the next one stands at the depth that is answered.

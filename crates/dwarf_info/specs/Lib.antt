@@ -1,6 +1,7 @@
 pub mod Entries
 pub mod Found
 pub mod Kept
+pub mod Packed
 pub mod Rows
 pub mod Tables
 pub mod Telling

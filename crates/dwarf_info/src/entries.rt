@@ -5,6 +5,7 @@ ghost use Rattle.dwarf_info.specs.Entries.{all_of, IsWhole, ReadsSoFar, ReadsEnt
 ghost use Rattle.dwarf_info.specs.Rows.{row_made};
 
 use crate::kinds::EntryKinds;
+use crate::numbers::{in_16, in_32};
 use crate::rows::{Entries, Row};
 use crate::values::read_values;
 use byte_view::Cur;
@@ -26,32 +27,6 @@ pub(crate) struct InUnit {
     pub shape: UnitShape,
 }
 
-/// The largest number of 32 bits.
-const MAX_32: usize = (1 << 32) - 1;
-
-/// The largest number of 16 bits.
-const MAX_16: usize = (1 << 16) - 1;
-
-/// A number in 32 bits, or `NoMemory` where it has more.
-fn in_32(number: usize) -> Result<u32, NoMemory>
-    ensures { IfOk result (λ same. same ≡ number) }
-{
-    if number > MAX_32 {
-        return Err(NoMemory);
-    }
-    Ok(number as u32)
-}
-
-/// A number in 16 bits, or `NoMemory` where it has more.
-fn in_16(number: usize) -> Result<u16, NoMemory>
-    ensures { IfOk result (λ same. same ≡ number) }
-{
-    if number > MAX_16 {
-        return Err(NoMemory);
-    }
-    Ok(number as u16)
-}
-
 /// The row of an entry with `count` attributes, from `first` on.
 ///
 /// # Errors
@@ -71,11 +46,11 @@ fn row_of(
 {
     Ok(Row {
         tag,
-        at: in_32(at)?,
+        at: in_32(at as u64)?,
         unit,
-        first: in_32(first)?,
+        first: in_32(first as u64)?,
         depth: depth as u16,
-        count: in_16(count)?,
+        count: in_16(count as u64)?,
     })
 }
 

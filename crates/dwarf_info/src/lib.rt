@@ -7,10 +7,13 @@
 //! Source: DWARF 5, sections 7.5.1 to 7.5.5; DWARF 4, section 7.5.
 #![tactic(auto)]
 
+mod attributes;
 mod constants;
 mod entries;
 mod header;
 mod kinds;
+mod numbers;
+mod packed;
 mod rows;
 mod tables;
 mod unit_entries;
@@ -18,6 +21,7 @@ mod units;
 mod values;
 mod wanted;
 
+pub use attributes::Attributes;
 pub use constants::{
     DW_AT_ABSTRACT_ORIGIN, DW_AT_ADDR_BASE, DW_AT_CALL_LINE, DW_AT_DECL_LINE,
     DW_AT_GNU_DISCRIMINATOR, DW_AT_HIGH_PC, DW_AT_LINKAGE_NAME, DW_AT_LOW_PC,

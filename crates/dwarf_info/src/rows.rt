@@ -1,5 +1,6 @@
 ghost use Rattle.std.specs.Prelude.{◌≡◌, ◌==◌, [], drop, position, slice_get, length, take};
 
+use crate::attributes::{AttributeList, Attributes};
 use crate::unit_entries::UnitEntries;
 use dwarf_forms::Value;
 use std::alloc::Global;
@@ -30,7 +31,7 @@ pub struct Entry<'a, 'u> {
     pub depth: u32,
     pub tag: u64,
     pub unit: u32,
-    pub found: &'u [Found<'a>],
+    pub found: Attributes<'a, 'u>,
 }
 
 impl<'a, 'u> Model for Entry<'a, 'u> {
@@ -43,7 +44,7 @@ impl<'a, 'u> Model for Entry<'a, 'u> {
       depth = e.depth;
       tag = e.tag;
       unit = e.unit;
-      found = e.found.now;
+      found = e.found;
     } };
 }
 
@@ -91,7 +92,7 @@ impl Row {
     ghost use Rattle.dwarf_info.specs.Rows.{IsWithin, entry_of_row};
 
     /// The entry of this row, whose attributes stand in a list.
-    pub fn entry<'a, 'u>(&self, found: &'u [Found<'a>]) -> Entry<'a, 'u>
+    pub fn entry<'a, 'u>(&self, found: &'u AttributeList<'a>) -> Entry<'a, 'u>
         requires { IsWithin found.now self.now }
         ensures { result ≡ entry_of_row found.now self.now }
     {
@@ -102,7 +103,7 @@ impl Row {
             depth: self.depth as u32,
             tag: self.tag,
             unit: self.unit,
-            found: &found[first..end],
+            found: found.slice(first, end),
         }
     }
 }
@@ -111,7 +112,7 @@ impl Row {
 #[derive(Debug, Drop)]
 pub(crate) struct Entries<'a> {
     pub rows: Vec<Row>,
-    pub found: Vec<Found<'a>>,
+    pub found: AttributeList<'a>,
 }
 
 /// The units that are read so far, with the entries of all, and where each unit that is passed over
@@ -138,7 +139,7 @@ impl<'a> SoFar<'a> {
             units: Vec::new(alloc),
             entries: Entries {
                 rows: Vec::new(alloc),
-                found: Vec::new(alloc),
+                found: AttributeList::new(alloc),
             },
             skipped: Vec::new(alloc),
         }

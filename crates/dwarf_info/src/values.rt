@@ -1,11 +1,12 @@
 // The values of an entry's attributes.
-ghost use Rattle.std.specs.Prelude.{◌≡◌, ◌≤◌, drop, length, OnOk, vec_len};
+ghost use Rattle.std.specs.Prelude.{◌≡◌, ◌≤◌, drop, length, OnOk};
 ghost use Rattle.refusal.specs.Place.{in_binary};
 ghost use Rattle.placed_view.specs.Reader.{Gives};
 ghost use Rattle.unit_model.specs.Values.{kind_of_value, next_value, value as value_told, values as values_told};
 ghost use Rattle.dwarf_forms.specs.Meaning.{fault_of, meaning_of};
 ghost use Rattle.dwarf_info.specs.Values.{AddsFound, ReadsFound, ReadsValues, has_name as has_name_told};
 
+use crate::attributes::AttributeList;
 use crate::rows::Found;
 use crate::wanted::{accepts, is_unused, wanted};
 use byte_view::Cur;
@@ -37,28 +38,27 @@ fn read_at<'a>(cur: &mut Cur<'a>, attr: &Attr, shape: UnitShape) -> Result<Value
     }
 }
 
-/// Whether an attribute of a name stands among others.
-fn has_name(found: &[Found<'_>], name: u64) -> bool
-    ensures { result ≡ has_name_told found.now name }
+/// Whether an attribute of a name stands among those from `first` on.
+fn has_name(found: &AttributeList<'_>, first: usize, name: u64) -> bool
+    requires { first ≤ length found.now }
+    ensures { result ≡ has_name_told (drop first found.now) name }
 {
-    for other in found {
-        if other.name == name {
-            return true;
-        }
-    }
-    false
+    found.slice(first, found.len()).of_name(name).is_some()
 }
 
 /// Adds an attribute, unless one of its name stands among those from `first` on.
-fn add_found<'a>(found: &mut Vec<Found<'a>>, first: usize, more: Found<'a>) -> Result<(), NoMemory>
-    requires { first ≤ vec_len found.old }
-    ensures { OnOk result (AddsFound first found.old.items found.new.items more.entry) }
+fn add_found<'a>(
+    found: &mut AttributeList<'a>,
+    first: usize,
+    more: Found<'a>,
+) -> Result<(), NoMemory>
+    requires { first ≤ length found.old }
+    ensures { OnOk result (AddsFound first found.old found.new more.entry) }
 {
-    if has_name(&found[first..], more.name) {
+    if has_name(found, first, more.name) {
         return Ok(());
     }
-    found.push(more)?;
-    Ok(())
+    found.push(more)
 }
 
 /// Reads the next value, and adds it to those from `first` on where it is wanted.
@@ -68,12 +68,12 @@ fn read_next<'a>(
     tag: u64,
     attr: &Attr,
     shape: UnitShape,
-    found: &mut Vec<Found<'a>>,
+    found: &mut AttributeList<'a>,
     first: usize,
 ) -> Result<(), Stop>
-    requires { first ≤ vec_len found.old }
-    ensures read { ReadsFound first result found.old.items found.new.items cur.new
-        (next_value shape.wide tag attr.now (drop first found.old.items) cur.old) }
+    requires { first ≤ length found.old }
+    ensures read { ReadsFound first result found.old found.new cur.new
+        (next_value shape.wide tag attr.now (drop first found.old) cur.old) }
     ensures not_longer { OnOk result (length cur.new.left ≤ length cur.old.left) }
 {
     let at = cur.at();
@@ -99,9 +99,9 @@ pub(crate) fn read_values<'a>(
     tag: u64,
     attrs: &[Attr],
     shape: UnitShape,
-    found: &mut Vec<Found<'a>>,
+    found: &mut AttributeList<'a>,
 ) -> Result<(), Stop>
-    ensures read { ReadsValues result found.old.items found.new.items cur.new
+    ensures read { ReadsValues result found.old found.new cur.new
         (values_told shape.wide tag attrs.now cur.old) }
     ensures not_longer { OnOk result (length cur.new.left ≤ length cur.old.left) }
 {

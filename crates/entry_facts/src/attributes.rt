@@ -2,24 +2,15 @@ ghost use Rattle.std.specs.Prelude.{◌≡◌};
 ghost use Rattle.dwarf_strings.specs.Meaning.{bases_of, sections_of};
 ghost use Rattle.tree_model.specs.Bases.{address_at as address_told, attribute as attribute_told};
 
-use dwarf_info::Found;
+use dwarf_info::{Attributes, Found};
 use dwarf_strings::{Bases, Texts, address};
 use refusal::Place;
 
 /// The attribute of a name among those of an entry.
-pub fn attribute<'a>(found: &[Found<'a>], name: u64) -> Option<Found<'a>>
+pub fn attribute<'a>(found: &Attributes<'a, '_>, name: u64) -> Option<Found<'a>>
     ensures { result ≡ attribute_told name found.now }
 {
-    for other in found {
-        if other.name == name {
-            return Some(Found {
-                name,
-                at: other.at,
-                value: other.value,
-            });
-        }
-    }
-    None
+    found.of_name(name)
 }
 
 /// The address that an attribute means, by the sections and bases of its unit.

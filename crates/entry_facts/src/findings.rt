@@ -114,7 +114,7 @@ fn found_in<'a>(entry: &Entry<'a, '_>) -> Findings<'a>
 fn held_in<'a>(entry: &Entry<'a, '_>, name: u64) -> Option<Held<'a>>
     ensures { option_map held_of result ≡ first_on name (entry.now ∷ []) }
 {
-    match attribute(entry.found, name) {
+    match attribute(&entry.found, name) {
         Some(found) => Some(Held {
             unit: entry.unit,
             name: found.name,

@@ -12,7 +12,7 @@ use crate::info::Info;
 use crate::origin::{MAX_STEPS, Origin, numbered, origin_of, said_from};
 use crate::way::{entry_beginning_at, reference_of, target_of};
 use dwarf_info::{
-    DW_AT_DECL_LINE, DW_AT_LINKAGE_NAME, DW_AT_MIPS_LINKAGE_NAME, DW_AT_NAME, Entry, Found,
+    Attributes, DW_AT_DECL_LINE, DW_AT_LINKAGE_NAME, DW_AT_MIPS_LINKAGE_NAME, DW_AT_NAME, Entry,
 };
 use indexmap::IndexMap;
 use key_types::Names;
@@ -149,14 +149,14 @@ fn leads_on(info: &Info<'_, '_>, entry: &Entry<'_, '_>) -> Option<u64>
 fn says_nothing(entry: &Entry<'_, '_>) -> bool
     ensures { IsTrue result → SaysNothing entry.now }
 {
-    lacks(entry.found, DW_AT_LINKAGE_NAME)
-        && lacks(entry.found, DW_AT_MIPS_LINKAGE_NAME)
-        && lacks(entry.found, DW_AT_NAME)
-        && lacks(entry.found, DW_AT_DECL_LINE)
+    lacks(&entry.found, DW_AT_LINKAGE_NAME)
+        && lacks(&entry.found, DW_AT_MIPS_LINKAGE_NAME)
+        && lacks(&entry.found, DW_AT_NAME)
+        && lacks(&entry.found, DW_AT_DECL_LINE)
 }
 
 /// Whether an entry lacks the attribute of a name.
-fn lacks(found: &[Found<'_>], name: u64) -> bool
+fn lacks(found: &Attributes<'_, '_>, name: u64) -> bool
     ensures { IsTrue result → attribute_told name found.now ≡ None }
 {
     attribute(found, name).is_none()

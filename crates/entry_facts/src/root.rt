@@ -39,7 +39,7 @@ pub fn root_attribute<'a>(units: &Units<'a>, unit: u32, name: u64) -> Option<Fou
     ensures { result ≡ root_attribute_told units.now unit name }
 {
     match root(units, unit) {
-        Some(root) => attribute(root.found, name),
+        Some(root) => attribute(&root.found, name),
         None => None,
     }
 }

@@ -24,11 +24,11 @@ pub(crate) fn spelled(
     ensures { GivesUnlessNoMemory (λ ranges. ranges.items) result
         (spelled_ranges (in_unit of.now) entry.now) }
 {
-    if let Some(list) = attribute(entry.found, DW_AT_RANGES) {
+    if let Some(list) = attribute(&entry.found, DW_AT_RANGES) {
         return listed(alloc, of, &list);
     }
-    let low = attribute(entry.found, DW_AT_LOW_PC);
-    let high = attribute(entry.found, DW_AT_HIGH_PC);
+    let low = attribute(&entry.found, DW_AT_LOW_PC);
+    let high = attribute(&entry.found, DW_AT_HIGH_PC);
     let range = between(of, low, high)?;
     Ok(list_of(alloc, range)?)
 }

@@ -37,9 +37,9 @@ pub(crate) fn next_on_way<'a, 'u>(
 pub(crate) fn reference_of<'a>(entry: &Entry<'a, '_>) -> Option<Found<'a>>
     ensures { result ≡ reference_told entry.now }
 {
-    match attribute(entry.found, DW_AT_ABSTRACT_ORIGIN) {
+    match attribute(&entry.found, DW_AT_ABSTRACT_ORIGIN) {
         Some(found) => Some(found),
-        None => attribute(entry.found, DW_AT_SPECIFICATION),
+        None => attribute(&entry.found, DW_AT_SPECIFICATION),
     }
 }
 

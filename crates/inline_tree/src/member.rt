@@ -25,7 +25,7 @@ fn number_of(value: Value<'_>) -> u64
 fn number_in(name: u64, entry: &Entry<'_, '_>) -> u64
     ensures { result ≡ number_in_told name entry.now }
 {
-    match attribute(entry.found, name) {
+    match attribute(&entry.found, name) {
         Some(found) => number_of(found.value),
         None => 0,
     }

@@ -1,6 +1,5 @@
 use byte_view::Part;
-use dwarf_forms::Value;
-use dwarf_info::{Entry, Found};
+use dwarf_info::{Units, read_units};
 use dwarf_ranges::RangeParts;
 use dwarf_strings::{Bases, Texts};
 use elf_sections::{Elf, read};
@@ -22,13 +21,39 @@ const RANGES: &[u8] = b"\0\x10\0\0\0\0\0\0\x10\x10\0\0\0\0\0\0\
     \x20\x10\0\0\0\0\0\0\x30\x10\0\0\0\0\0\0\
     \0\0\0\0\0\0\0\0\0\0\0\0\0\0\0\0";
 
-const LOW: (u64, u64, Value<'static>) = (0x11, 5, Value::Addr(0x1000));
+// What entries have: nothing; DW_AT_low_pc; DW_AT_high_pc, as a size; both, in either order; both
+// as addresses; both with a size of 8 bytes; and DW_AT_low_pc by index with DW_AT_ranges.
+const ABBREVS: &[u8] = b"\x01\x2e\0\0\0\x02\x2e\0\x11\x01\0\0\x03\x2e\0\x12\x0b\0\0\
+    \x04\x2e\0\x11\x01\x12\x0b\0\0\x05\x2e\0\x12\x0b\x11\x01\0\0\
+    \x06\x2e\0\x11\x01\x12\x01\0\0\x07\x2e\0\x11\x01\x12\x07\0\0\
+    \x08\x2e\0\x11\x1b\x55\x17\0\0\0";
 
-const SIZE: (u64, u64, Value<'static>) = (0x12, 6, Value::Const(0x40));
+// A unit with ten entries, each on a line of its own.
+const INFO: &[u8] = b"\x6a\0\0\0\x04\0\0\0\0\0\x08\
+    \x01\
+    \x02\0\x10\0\0\0\0\0\0\
+    \x03\x40\
+    \x04\0\x10\0\0\0\0\0\0\x40\
+    \x05\x40\0\x10\0\0\0\0\0\0\
+    \x06\0\x10\0\0\0\0\0\0\0\x20\0\0\0\0\0\0\
+    \x06\0\x10\0\0\0\0\0\0\x01\x20\0\0\0\0\0\0\
+    \x07\0\x10\0\0\0\0\0\0\xff\xff\xff\xff\xff\xff\xff\xff\
+    \x04\0\0\0\0\0\0\0\0\x40\
+    \x08\0\0\0\0\0";
 
-const LIST: (u64, u64, Value<'static>) = (0x55, 7, Value::Offset(0));
-
-const INDEXED: (u64, u64, Value<'static>) = (0x11, 8, Value::AddrIndex(0));
+// The code that each of these entries has.
+const KEPT: [(usize, &[(u64, u64)]); 10] = [
+    (0, &[]),
+    (1, &[]),
+    (2, &[]),
+    (3, &[(0x1000, 0x1040)]),
+    (4, &[(0x1000, 0x1040)]),
+    (5, &[(0x1000, 0x2000)]),
+    (6, &[]),
+    (7, &[]),
+    (8, &[]),
+    (9, &[(0x1000, 0x1010), (0x1020, 0x1030)]),
+];
 
 fn code(alloc: Global) -> Result<Elf<'static>, Stop> {
     read(alloc, FILE)
@@ -62,50 +87,39 @@ fn of_unit() -> InUnit<'static> {
     }
 }
 
-// The pieces of an entry at place 3 of the file, with these attributes: each a name, the place of
-// its value, and the value.
-fn pieces_by(
+fn read_info(alloc: Global) -> Result<Units<'static>, Stop> {
+    let info = Part {
+        file: INFO,
+        at: 0,
+        len: INFO.len().min(1000),
+    };
+    let abbrevs = Part {
+        file: ABBREVS,
+        at: 0,
+        len: ABBREVS.len().min(1000),
+    };
+    read_units(alloc, Some(info), Some(abbrevs))
+}
+
+// The pieces of the entry of a number.
+fn pieces_of(
     alloc: Global,
     elf: &Elf<'_>,
-    before: u64,
-    attributes: &[(u64, u64, Value<'static>)],
+    units: &Units<'_>,
+    number: usize,
 ) -> Result<Vec<(u64, u64)>, Stop> {
-    let mut found = Vec::new(alloc);
-    for (name, at, value) in attributes {
-        let more = Found {
-            name: *name,
-            at: *at,
-            value: *value,
-        };
-        found.push(more).map_err(|_| Stop::NoMemory)?;
+    match units.entry(number) {
+        Some(entry) => pieces(alloc, elf, &of_unit(), MAX_PIECES - 2, &entry),
+        None => Err(Stop::NoMemory),
     }
-    let entry = Entry {
-        at: 3,
-        depth: 1,
-        tag: 0x2e,
-        unit: 0,
-        found: &found,
-    };
-    pieces(alloc, elf, &of_unit(), before.min(MAX_PIECES), &entry)
 }
 
 #[test]
 fn code_is_kept(rt: HostRuntime) -> Result<(), Fail> {
     let elf = code(rt.alloc())?;
-    let cases: [(&[(u64, u64, Value<'static>)], &[(u64, u64)]); 10] = [
-        (&[], &[]),
-        (&[LOW], &[]),
-        (&[SIZE], &[]),
-        (&[LOW, SIZE], &[(0x1000, 0x1040)]),
-        (&[SIZE, LOW], &[(0x1000, 0x1040)]),
-        (&[LOW, (0x12, 6, Value::Addr(0x2000))], &[(0x1000, 0x2000)]),
-        (&[LOW, (0x12, 6, Value::Addr(0x2001))], &[]),
-        (&[LOW, (0x12, 6, Value::Const(u64::MAX))], &[]),
-        (&[(0x11, 5, Value::Addr(0)), SIZE], &[]),
-        (&[INDEXED, LIST], &[(0x1000, 0x1010), (0x1020, 0x1030)]),
-    ];
-    for (attributes, kept) in cases {
-        match pieces_by(rt.alloc(), &elf, MAX_PIECES - 2, attributes) {
+    let units = read_info(rt.alloc())?;
+    for (number, kept) in KEPT {
+        match pieces_of(rt.alloc(), &elf, &units, number) {
             Ok(found) => assert_eq!(rt; found.as_slice(), kept),
             Err(_) => assert!(rt; false),
         }

@@ -35,11 +35,14 @@ fn of_attributes_without_bytes_the_first_counts(rt: HostRuntime) {
     let Some(entry) = units.entry(0) else {
         panic!(rt; "no entry");
     };
-    assert_eq!(rt; entry.found.len(), 3);
-    for (found, (name, at, value)) in entry.found.iter().zip(FOUND) {
+    for (name, at, value) in FOUND {
+        let Some(found) = entry.found.of_name(name) else {
+            panic!(rt; "not found");
+        };
         assert_eq!(rt; (found.name, found.at), (name, at));
         assert_eq!(rt; found.value, value);
     }
+    assert!(rt; entry.found.of_name(0x3f).is_none());
 }
 
 /// A unit of version 5, a type unit, one of version 2, one of length 0, and one of 64-bit DWARF.

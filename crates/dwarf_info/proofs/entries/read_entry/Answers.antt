@@ -18,19 +18,19 @@ returns-in_err-read_values-clause-read c =
     (entry_of (record { unit = c.args.of.unit; wide = c.args.of.shape.wide }) c.args.at k (record { depth = c.args.depth; entries = all_of c.args.entries.now }) c.args.cur.now)) c.abbrev.view_is
     (entry-stop (record { unit = c.args.of.unit; wide = c.args.of.shape.wide }) c.args.at
     (record { code = c.abbrev.inside.code; tag = c.abbrev.inside.tag; children = c.abbrev.inside.children; attrs = c.abbrev.inside.attrs.now })
-    c.args.entries.now (record { rows = c.args.entries.now.rows; found = c.read_values.new.found }) c.args.entries.now.found.items c.read_values.new.found.items c.args.depth c.len-is_full.result
+    c.args.entries.now (record { rows = c.args.entries.now.rows; found = c.read_values.new.found }) c.args.entries.now.found c.read_values.new.found c.args.depth c.len-is_full.result
     c.args.cur.now c.read_values.new.cur c.read_values.new.cur _ _ c.in_err-read_values.field-0.0 c.from_residual-in_err-read_values.result c.in_ok-refuse_if.ensures.0 c.in_ok-refuse_if-2.ensures.0 count
     c.in_err-read_values.ensures.read c.from_residual-in_err-read_values.ensures.1)
 
 pub returns-clause-read : goal.returns-clause-read
 returns-clause-read c =
     let count : c.len-is_full.result ≡ length c.args.entries.now.rows.items = omega (arith, c.len-is_full.ensures, c.args.entries.now.rows.ok.0) in
-    let first : c.len-first.result ≡ length c.args.entries.now.found.items = omega (arith, c.len-first.ensures, c.args.entries.now.found.ok.0) in
-    let own : c.saturating_sub-count.result ≡ length c.read_values.new.found.items - c.len-first.result = omega (arith, c.saturating_sub-count.ensures, c.len.ensures, c.read_values.new.found.ok.0) in
+    let first : c.len-first.result ≡ length c.args.entries.now.found = c.len-first.ensures in
+    let own : c.saturating_sub-count.result ≡ length c.read_values.new.found - c.len-first.result = omega (arith, c.saturating_sub-count.ensures, c.len.ensures) in
     let read = entry-read (record { unit = c.args.of.unit; wide = c.args.of.shape.wide }) c.args.at
     (record { code = c.abbrev.inside.code; tag = c.abbrev.inside.tag; children = c.abbrev.inside.children; attrs = c.abbrev.inside.attrs.now })
     c.args.entries.now (record { rows = c.push.new.rows; found = c.read_values.new.found }) c.args.depth c.depth_behind.result c.len-is_full.result c.len-first.result c.saturating_sub-count.result _
-    c.args.cur.now c.read_values.new.cur _ c.read_values.new.found.items _ _ c.requires c.in_ok-refuse_if.ensures.0 c.in_ok-refuse_if-2.ensures.0 count
+    c.args.cur.now c.read_values.new.cur _ c.read_values.new.found _ _ c.requires c.in_ok-refuse_if.ensures.0 c.in_ok-refuse_if-2.ensures.0 count
     c.in_ok-read_values.ensures.read.2 c.in_ok-read_values.ensures.read.1 refl c.in_ok-push.ensures c.in_ok-row.ensures first own c.depth_behind.ensures in (
       read.0,
       subst (λ (k : Abbrev). entry_of (record { unit = c.args.of.unit; wide = c.args.of.shape.wide }) c.args.at k (record { depth = c.args.depth; entries = all_of c.args.entries.now }) c.args.cur.now

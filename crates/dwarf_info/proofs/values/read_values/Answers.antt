@@ -1,6 +1,5 @@
-use Rattle.std.proofs.Common.{arith}
 use Rattle.dwarf_info.proofs.ValueLemmas.{ValuesSoFar-none}
 use Rattle.dwarf_info.proofs.values.read_values.Goals as goal
 
 pub loop-attr-init : goal.loop-attr-init
-loop-attr-init c = ValuesSoFar-none _ _ _ _ _ _ (omega (arith, c.len-first.ensures, c.args.found.now.ok.0))
+loop-attr-init c = ValuesSoFar-none _ _ _ _ _ _ c.len-first.ensures

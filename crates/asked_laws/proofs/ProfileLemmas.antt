@@ -24,7 +24,7 @@ use Rattle.asked_laws.proofs.ListLemmas.{all_of, among_found, found_alike, large
 
 -- ---- the count of a way in a profile
 
-count_is : (addresses : List ℕ) (program : Program) (sampled : Sampled) (way : Way)
+pub count_is : (addresses : List ℕ) (program : Program) (sampled : Sampled) (way : Way)
     → count_of (profile_among addresses program sampled) way ≡ count_among addresses program sampled way
 count_is addresses program sampled way =
     own_count cmp t (count_among addresses program sampled) way (ways_among addresses program) in_order.ascending

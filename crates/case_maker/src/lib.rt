@@ -17,3 +17,4 @@ mod line;
 mod samples;
 
 pub use case::{CasePart, CaseStop, make};
+pub use function::MAX_FUNCTIONS;

@@ -23,6 +23,7 @@ use Rattle.output_model.specs.Cold.{cold_lines, cold_output}
 use Rattle.output_model.specs.Program.{program_of}
 use Rattle.output_model.specs.Program as program_told
 use Rattle.output_model.specs.Sampled.{all_addresses}
+use Rattle.profile_laws.proofs.OnceLemmas.{way_told}
 use Rattle.profile_lists.specs.Laws.{place_by}
 use Rattle.profile_maker.specs.Asked.{lack_of}
 use Rattle.profile_maker.proofs.ShownLemmas.{programs_shown}
@@ -32,7 +33,7 @@ use Rattle.profile_model.proofs.OrderLemmas.{ways_tell_apart}
 use Rattle.profile_model.specs.Laws.{has}
 use Rattle.profile_model.specs.Orders.{way_cmp}
 use Rattle.profile_model.specs.Profile.{Profile, total_of_function}
-use Rattle.profile_model.specs.Spelled.{What as ToldWhat, count, head, profile_by, spelled, target}
+use Rattle.profile_model.specs.Spelled.{profile_by, spelled}
 use Rattle.profile_model.specs.Text.{text_of_lines}
 use Rattle.profile_model.specs.Ways.{Way}
 use Rattle.profile_text.specs.Draft.{Kept}
@@ -149,14 +150,8 @@ same_in_range f g from (suc n) same =
 
 module _ (names : List (List ℕ)) (keys : List Key) (text : List ℕ) (items : List Item) (more : List (List ℕ)) (more_keys : List Key)
     (before : AreNumbered names keys) (tells : TellText names keys text items more more_keys) where
-  way_in : ToldWhat → Way
-  way_in (head name) = []
-  way_in (count way) = way
-  way_in (target way name) = way
-
   way_stays : (n : ℕ) → n < length keys → way_at more more_keys n ≡ way_at names keys n
-  unfolding way_in
-  way_stays n given = ap way_in (what_same names more keys more_keys before tells.names_kept tells.keys_kept (Count (record { 0 = n })) given)
+  way_stays n given = ap way_told (what_same names more keys more_keys before tells.names_kept tells.keys_kept (Count (record { 0 = n })) given)
 
   ways_stay : first_ways more more_keys (length keys) ≡ first_ways names keys (length keys)
   ways_stay = same_in_range (way_at more more_keys) (way_at names keys) 0 (length keys) (λ k low high. way_stays k (omega (arith, high)))

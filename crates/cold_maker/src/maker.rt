@@ -1,28 +1,22 @@
 // A profile text with the lines that never ran.
 ghost use Rattle.std.specs.Prelude.{◌≡◌, ◌≤◌, ◌^◌, ℕ, All, Bool, IfOk, List, [], length};
-ghost use Rattle.std.specs.List.{AllByRecursion};
 ghost use Rattle.refusal.specs.Place.{JudgesUnlessNoMemory};
 ghost use Rattle.binary_places.specs.Binary.{IsBinary, IsPlaced};
 ghost use Rattle.cold_maker.specs.Besides.{first_ways};
 ghost use Rattle.cold_model.specs.Cold.{cold_lines_of};
 ghost use Rattle.output_model.specs.Cold.{cold_output};
-ghost use Rattle.profile_laws.specs.Once.{StandOnce};
 ghost use Rattle.profile_model.specs.Judging.{first_bad_of_profile};
 ghost use Rattle.profile_model.specs.Spelled.{spelled};
 ghost use Rattle.profile_model.specs.Text.{text_of_lines};
-ghost use Rattle.profile_text.specs.Draft.{IsGivenItem};
-ghost use Rattle.profile_text.specs.Numbers.{counted};
+ghost use Rattle.profile_text.specs.Numbers.{AreNumbersOf, counted};
 ghost use Rattle.profile_tree.specs.Known.{HasNames};
 
 use crate::tree::tree_of;
 use binary_places::{Asked, Binary, Placed, places};
 use key_types::{Keys, Names};
-use profile_text::{Profile, read, write};
+use profile_text::{Profile, read_behind, write};
 use refusal::{NoMemory, Stop};
 use std::alloc::Global;
-
-/// So many names or keys are taken for want of memory: 32 bits number those of the text as well.
-const MOST: u32 = 1 << 31;
 
 /// The profile of a profile text, which is the command's file `file`, with a line of count 0 for
 /// each place of the binary that has none and whose function stands in the profile. Comments are
@@ -77,12 +71,9 @@ fn cold_behind<'a>(
         (spelled text.now))) }
 {
     let known = keys.len();
-    if known >= MOST || names.len() >= MOST {
-        return Err(Stop::NoMemory);
-    }
     names.each_once();
     keys.each_once();
-    let part = read(alloc, text, file, names, keys)?;
+    let part = read_behind(alloc, text, file, names, keys)?;
     let out = text_of(alloc, &part, known, keys, names)?;
     Ok(out)
 }
@@ -97,10 +88,7 @@ fn text_of(
     names: &Names,
 ) -> Result<Vec<u8>, NoMemory>
     requires known { known ≤ length keys.now }
-    requires once { StandOnce (λ item. item.what) part.now.items }
-    requires given { AllByRecursion (IsGivenItem (length names.now) (length keys.now))
-        part.now.items }
-    requires key_names { All (HasNames (length names.now)) keys.now }
+    requires numbers { AreNumbersOf (length names.now) keys.now part.now.items }
     ensures { IfOk result (λ out. out.items
         ≡ text_of_lines (cold_lines_of (first_ways names.now keys.now known)
         (counted names.now keys.now part.now.items))) }

@@ -1,12 +1,8 @@
 // The tree of a profile text with lines that never ran.
 ghost use Rattle.std.specs.Prelude.{◌≡◌, ◌≤◌, All, IfOk, length, map};
-ghost use Rattle.std.specs.List.{AllByRecursion};
 ghost use Rattle.cold_model.specs.Cold.{cold_lines_of};
 ghost use Rattle.cold_maker.specs.Besides.{first_ways};
-ghost use Rattle.profile_laws.specs.Once.{StandOnce};
-ghost use Rattle.profile_text.specs.Draft.{IsGivenItem};
-ghost use Rattle.profile_text.specs.Numbers.{counted};
-ghost use Rattle.profile_tree.specs.Known.{HasNames};
+ghost use Rattle.profile_text.specs.Numbers.{AreNumbersOf, counted};
 ghost use Rattle.profile_tree.specs.Told.{IsOf, told};
 
 use crate::besides::besides_of;
@@ -33,10 +29,7 @@ pub fn tree_of(
     names: &Names,
 ) -> Result<Tree, NoMemory>
     requires known { known ≤ length keys.now }
-    requires once { StandOnce (λ item. item.what) part.now.items }
-    requires given { AllByRecursion (IsGivenItem (length names.now) (length keys.now))
-        part.now.items }
-    requires key_names { All (HasNames (length names.now)) keys.now }
+    requires numbers { AreNumbersOf (length names.now) keys.now part.now.items }
     ensures lines { IfOk result (λ tree. map (told names.now) tree.lines
         ≡ cold_lines_of (first_ways names.now keys.now known)
         (counted names.now keys.now part.now.items)) }

@@ -7,15 +7,12 @@ ghost use Rattle.command_words.specs.Words.{few, meaning_of, texts_of, told_weig
 
 use crate::options::{Has, Options, options_of};
 use arrayvec::ArrayVec;
-use case_maker::CasePart;
+use case_maker::{CasePart, MAX_FUNCTIONS};
 use std::num::NonZeroU16;
 use text_scan::{decimal, hex};
 
 /// The most digits of an address.
 const MOST_DIGITS: usize = 16;
-
-/// The most functions of a generated case.
-const MOST_FUNCTIONS: u64 = 4096;
 
 /// The greatest weight.
 const MAX_WEIGHT: u64 = 65_535;
@@ -280,7 +277,7 @@ fn functions_of(word: &[u8]) -> Option<u64>
     ensures { result ≡ functions_told word.now }
 {
     match decimal(word) {
-        Ok(functions) if functions <= MOST_FUNCTIONS => Some(functions),
+        Ok(functions) if functions <= MAX_FUNCTIONS => Some(functions),
         Ok(_) => None,
         Err(_) => None,
     }

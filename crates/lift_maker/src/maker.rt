@@ -1,6 +1,6 @@
 // What was built of a binary, with the repaired counts of blocks on its lines.
 ghost use Rattle.std.specs.Prelude.{◌≡◌, ◌≤◌, ◌^◌, ℕ, All, Bool, List, length, map, IfOk};
-ghost use Rattle.std.specs.List.{AllByRecursion, AllZip};
+ghost use Rattle.std.specs.List.{AllZip};
 ghost use Rattle.refusal.specs.Place.{JudgesUnlessNoMemory};
 ghost use Rattle.binary_places.specs.Binary.{IsBinary};
 ghost use Rattle.block_model.specs.Text.{functions_of};
@@ -8,11 +8,9 @@ ghost use Rattle.cfg_text.specs.Fun.{function_of};
 ghost use Rattle.flow_model.specs.Sound.{IsSound};
 ghost use Rattle.key_types.specs.Segments.{AreSegments};
 ghost use Rattle.line_lift.specs.Lift.{HaveKeys, lifted_by, repaired, way_in};
-ghost use Rattle.profile_laws.specs.Once.{StandOnce};
-ghost use Rattle.profile_model.specs.Judging.{first_bad_of_profile};
 ghost use Rattle.profile_model.specs.Text.{profile_text};
-ghost use Rattle.profile_text.specs.Draft.{IsGivenItem, Kept};
-ghost use Rattle.profile_text.specs.Text.{TellText};
+ghost use Rattle.profile_text.specs.Draft.{Kept};
+ghost use Rattle.profile_text.specs.Numbers.{AreNumbersOf};
 ghost use Rattle.profile_tree.specs.Known.{HasNames};
 ghost use Rattle.repair_model.specs.Checking as model;
 ghost use Rattle.repair_model.specs.Laws.{IsToldOf};
@@ -25,14 +23,11 @@ use binary_places::{Asked, Binary, Placed, places};
 use cfg_text::Fun;
 use key_types::{Keys, Names, Seg};
 use profile_maker::ask_blocks;
-use profile_text::{Profile, write};
+use profile_text::{Profile, read_behind, write};
 use refusal::{NoMemory, Stop};
 use repair_check::failed_line;
 use repair_text::Repair;
 use std::alloc::Global;
-
-/// More names, or more keys, than a binary has.
-const MOST_NUMBERED: u32 = 1 << 31;
 
 /// What lifting comes to.
 #[derive(Debug, Drop)]
@@ -93,7 +88,7 @@ fn lift_on<'a>(
         (λ lifted. Kept names.old names.new × Kept keys.old keys.new
         × LiftsBy (way_in names.new keys.new segments.now) blocks text.now lifted) }
 {
-    let part = read_part(alloc, text, file, names, keys)?;
+    let part = read_behind(alloc, text, file, names, keys)?;
     let repairs = repair_text::read(alloc, text, file, funs)?;
     let lifted = lift_read(alloc, &part, segments, funs, &repairs, keys, names)?;
     Ok(lifted)
@@ -112,10 +107,7 @@ fn lift_read(
 ) -> Result<Lifted, NoMemory>
     requires segments { AreSegments segments.now }
     requires known { HaveKeys (length keys.now) segments.now }
-    requires once { StandOnce (λ item. item.what) part.now.items }
-    requires given { AllByRecursion (IsGivenItem (length names.now) (length keys.now))
-        part.now.items }
-    requires key_names { All (HasNames (length names.now)) keys.now }
+    requires numbers { AreNumbersOf (length names.now) keys.now part.now.items }
     requires sound { All (λ fun. IsSound fun.blocks fun.edges) funs.now }
     requires told { AllZip IsToldOf (map function_of funs.now) (map numbered repairs.now) }
     ensures { IfOk result (LiftsTo
@@ -147,25 +139,6 @@ fn placed_for<'a>(
     places(alloc, binary, &asked)
 }
 
-/// The numbers of a text as a profile, whose names and keys are added to those of a binary.
-fn read_part<'a>(
-    alloc: Global,
-    text: &'a [u8],
-    file: u8,
-    names: &mut Names<'a>,
-    keys: &mut Keys,
-) -> Result<Profile, Stop>
-    requires size { length text.now ≤ 2 ^ 28 }
-    requires key_names { All (HasNames (length names.old)) keys.old }
-    ensures { JudgesUnlessNoMemory (first_bad_of_profile file text.now) result (λ profile.
-        TellText names.old keys.old text.now profile.items names.new keys.new) }
-{
-    if names.len() >= MOST_NUMBERED || keys.len() >= MOST_NUMBERED {
-        return Err(Stop::NoMemory);
-    }
-    profile_text::read(alloc, text, file, names, keys)
-}
-
 /// The text of a profile with repaired counts on its lines. Its numbers, and those of the segments,
 /// are of these names and keys.
 fn text_of(
@@ -179,10 +152,7 @@ fn text_of(
 ) -> Result<Vec<u8>, NoMemory>
     requires segments { AreSegments segments.now }
     requires known { HaveKeys (length keys.now) segments.now }
-    requires once { StandOnce (λ item. item.what) part.now.items }
-    requires given { AllByRecursion (IsGivenItem (length names.now) (length keys.now))
-        part.now.items }
-    requires key_names { All (HasNames (length names.now)) keys.now }
+    requires numbers { AreNumbersOf (length names.now) keys.now part.now.items }
     ensures { IfOk result (λ out. out.items ≡ profile_text (lifted_by names.now keys.now
         segments.now (repaired funs.now repairs.now) part.now.items)) }
 {

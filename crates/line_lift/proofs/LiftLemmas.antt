@@ -1,8 +1,7 @@
 -- The lines of what is stated are those of what is lifted.
-use Rattle.std.proofs.Common.{◌≡◌, ℕ, ◌<◌, All, List, [], Option, arith, None, get_or, length, map}
+use Rattle.std.proofs.Common.{◌≡◌, ℕ, ◌<◌, List, [], Option, None, get_or, length, map}
 use Rattle.std.specs.List.{AllByRecursion, filter_map}
 use Rattle.block_model.specs.Function.{Function}
-use Rattle.key_types.specs.Numbers.{IsNumbered}
 use Rattle.key_types.specs.Segments.{key_told}
 use Rattle.key_types.specs.declared.key.Key.{Key}
 use Rattle.key_types.specs.declared.places.Seg.{Seg}
@@ -13,7 +12,6 @@ use Rattle.profile_text.specs.Draft.{IsGivenItem}
 use Rattle.profile_text.specs.Numbers.{call_in, head_in}
 use Rattle.profile_text.specs.declared.item.Item.{Item}
 use Rattle.profile_tree.proofs.SumLemmas.{Given}
-use Rattle.profile_tree.specs.Known.{HasNames}
 use Rattle.profile_tree.specs.Said.{stated}
 use Rattle.repair_model.specs.Repair.{Repair}
 use Rattle.line_lift.specs.Held.{HaveKeys, IsCountOfKey}
@@ -34,12 +32,3 @@ pub lifted_lines :
 lifted_lines names keys segments funs items spans held numbered known given len over of_keys =
     lines_are_by_counts _ _
     (stated_alike names keys numbered (held_by (way_in names keys segments) funs) held (are_held names keys segments funs known numbered spans held len over of_keys) items given)
-
-pub given_alone : (names : List (List ℕ)) (keys : List Key) → IsNumbered names → IsNumbered keys → All (HasNames (length names)) keys → Given names keys [] []
-given_alone names keys names_once keys_once key_names = record {
-  names_apart = names_once;
-  keys_apart = keys_once;
-  key_names = key_names;
-  calls_given = λ k d h. absurd (omega arith);
-  heads_given = λ k d h. absurd (omega arith);
-}

@@ -1,13 +1,19 @@
 -- That the counts that are stated are of given keys, and each once.
 use Rattle.std.proofs.Common.{◌≡◌, ℕ, zero, suc, ◌+◌, ◌<◌, Bool, true, false, cond, All, List, [], ◌∷◌, ◌++◌, length, get_or, is_some, Option, None, Some, append_assoc, append-nil, refl, sym, ap, subst, ◌∙◌, arith, inl, inr}
-use Rattle.std.specs.List.{AllByRecursion, flat_map, range_with_len}
+use Rattle.std.specs.List.{AllByRecursion, filter_map, flat_map, range_with_len}
 use Rattle.std.proofs.lemmas.Bool.{true≢false}
 use Rattle.std.proofs.lemmas.List.Elements.{All-from_recursion}
+use Rattle.key_types.specs.declared.key.Key.{Key}
 use Rattle.profile_laws.specs.Once.{StandOnce}
+use Rattle.profile_lists.specs.declared.pairs.Call.{Call}
+use Rattle.profile_text.proofs.NumberLemmas.{items_summed}
 use Rattle.profile_text.specs.Draft.{IsGivenItem, IsGivenWhat}
+use Rattle.profile_text.specs.Numbers.{AreNumbersOf, call_in, head_in}
 use Rattle.profile_text.specs.declared.item.Item.{Item}
 use Rattle.profile_text.specs.declared.item.What.{What}
 use Rattle.profile_text.specs.declared.item.What.TheVariants as what
+use Rattle.profile_tree.specs.Stated.{AreStated}
+use Rattle.profile_tree.specs.declared.head.Head.{Head}
 use Rattle.profile_tree.specs.declared.key_count.KeyCount.{KeyCount}
 use Rattle.line_lift.specs.Stated.{held_first, held_in, kept_by, kept_in, lifted_counts}
 use Rattle.line_lift.proofs.AmongLemmas.{Among, all_among, among_all, among_either, among_flat_back, among_range}
@@ -76,7 +82,7 @@ kept_once held items once =
         by false = ((λ y h. absurd h), tt)
     one (what.Target key name) times = tt
 
-pub counts_once : (held : List (Option ℕ)) (items : List Item) → StandOnce (λ item. item.what) items → StandOnce (λ count. count.key.0) (lifted_counts held items)
+counts_once : (held : List (Option ℕ)) (items : List Item) → StandOnce (λ item. item.what) items → StandOnce (λ count. count.key.0) (lifted_counts held items)
 counts_once held items once =
     once_to (λ (count : KeyCount). count.key.0) (lifted_counts held items)
     (once_append (λ (count : KeyCount). count.key.0) (held_first held (length held)) (flat_map (kept_in held) items)
@@ -95,7 +101,7 @@ module _ (names keys : ℕ) (items : List Item) (given : AllByRecursion (IsGiven
   given_of : (item : Item) (w : What) → Among item items → item.what ≡ w → IsGivenWhat names keys w
   given_of item w among e = subst (IsGivenWhat names keys) e (among_all (IsGivenItem names keys) item items given among)
 
-  pub counts_given : (held : List (Option ℕ)) → length held ≡ keys → All (λ count. count.key.0 < keys) (lifted_counts held items)
+  counts_given : (held : List (Option ℕ)) → length held ≡ keys → All (λ count. count.key.0 < keys) (lifted_counts held items)
   counts_given held len = All-from_recursion (λ count. count.key.0 < keys) (lifted_counts held items) (all_among (λ count. count.key.0 < keys) (lifted_counts held items)
       (λ count h. elim (among_either count (held_first held (length held)) (flat_map (kept_in held) items) h) as (λ _. count.key.0 < keys) [
         | inl l ↦
@@ -107,6 +113,16 @@ module _ (names keys : ℕ) (items : List Item) (given : AllByRecursion (IsGiven
             let item = among_flat_back (kept_in held) count items r in
             given_of item.0 (what.Count count.key) item.1 (kept_of held item.0.what item.0.times count item.2).is
       ]))
+
+-- ---- so that they are stated, with the calls and heads that were read
+
+pub lifted_stated : (names : ℕ) (keys : List Key) (items : List Item) (held : List (Option ℕ)) (counts : List KeyCount) (calls : List Call) (heads : List Head) → AreNumbersOf names keys items
+    → length held ≡ length keys → counts ≡ lifted_counts held items → calls ≡ filter_map call_in items → heads ≡ filter_map head_in items → AreStated names keys counts calls heads
+lifted_stated names keys items held counts calls heads numbers len counts_are calls_are heads_are = record {
+  summed = items_summed names keys items calls heads numbers calls_are heads_are;
+  counted = subst (All (λ (count : KeyCount). count.key.0 < length keys)) (sym counts_are) (counts_given names (length keys) items numbers.given held len);
+  counts_once = subst (StandOnce (λ (count : KeyCount). count.key.0)) (sym counts_are) (counts_once held items numbers.once);
+}
 
 -- ---- loops
 

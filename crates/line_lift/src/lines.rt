@@ -1,11 +1,8 @@
 // A profile with repaired counts on its lines.
 ghost use Rattle.std.specs.Prelude.{◌≡◌, All, IfOk, length, map};
-ghost use Rattle.std.specs.List.{AllByRecursion};
 ghost use Rattle.key_types.specs.Segments.{AreSegments};
-ghost use Rattle.profile_laws.specs.Once.{StandOnce};
 ghost use Rattle.profile_model.specs.Profile.{lines_of};
-ghost use Rattle.profile_text.specs.Draft.{IsGivenItem};
-ghost use Rattle.profile_tree.specs.Known.{HasNames};
+ghost use Rattle.profile_text.specs.Numbers.{AreNumbersOf};
 ghost use Rattle.profile_tree.specs.Told.{IsOf, told};
 ghost use Rattle.line_lift.specs.Held.{HaveKeys};
 ghost use Rattle.line_lift.specs.Lift.{lifted_by, repaired};
@@ -43,10 +40,7 @@ pub fn lift(
 ) -> Result<Tree, NoMemory>
     requires segments { AreSegments segments.now }
     requires known { HaveKeys (length keys.now) segments.now }
-    requires once { StandOnce (λ item. item.what) part.now.items }
-    requires given { AllByRecursion (IsGivenItem (length names.now) (length keys.now))
-        part.now.items }
-    requires key_names { All (HasNames (length names.now)) keys.now }
+    requires numbers { AreNumbersOf (length names.now) keys.now part.now.items }
     ensures lines { IfOk result (λ tree. map (told names.now) tree.lines
         ≡ lines_of (lifted_by names.now keys.now segments.now
         (repaired funs.now repairs.now) part.now.items)) }

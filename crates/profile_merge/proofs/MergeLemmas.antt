@@ -14,6 +14,7 @@ use Rattle.key_types.specs.declared.ids.NameId.{NameId}
 use Rattle.key_types.specs.declared.key.Key.{Key}
 use Rattle.refusal.specs.Place.{fails_at, first_bad}
 use Rattle.profile_laws.proofs.CountLemmas.{lines_are_by_counts}
+use Rattle.profile_laws.proofs.OnceLemmas.{way_told}
 use Rattle.profile_model.specs.Merge.{nothing, sum_items}
 use Rattle.profile_model.specs.Profile.{Profile, count_of, target_of, head_of}
 use Rattle.profile_model.specs.Spelled.{What as ToldWhat, head, count, target, number_in}
@@ -30,7 +31,7 @@ use Rattle.profile_text.specs.declared.item.Item.{Item}
 use Rattle.profile_text.specs.declared.item.What.{What}
 use Rattle.profile_text.specs.declared.item.What.TheVariants.{Head, Count, Target}
 use Rattle.profile_merge.proofs.CalledLemmas.{targets_same}
-use Rattle.profile_merge.proofs.TellLemmas.{number_in_weighed_both, number_is, told_by_items, way_is, name_is, what_once, what_same}
+use Rattle.profile_merge.proofs.TellLemmas.{name_is, name_told, number_in_weighed_both, number_is, told_by_items, way_is, what_once, what_same}
 use Rattle.profile_merge.specs.Called.{Target as CalledFrom, IsGivenTarget, called_sum, same_target}
 use Rattle.profile_merge.specs.Laws.{AreNumbered, NothingIsSummed, SumsStayWithMore, RaisedSumsCountBoth, FirstOverIsFirstBad, LinesAreOfSums, SumsAreByCounts, place_over}
 use Rattle.profile_merge.specs.Sums.{AreSumsOf, Sums, first_over, is_over, sum_in}
@@ -241,7 +242,7 @@ module _ (names : List (List ℕ)) (keys : List Key) (sums : Sums) (profile : Pr
       found (Head name) given is some = absurd cc
       found (Target key name) given is some = absurd cc
       found (Count key) given is some =
-          let same : way_at names keys key.0 ≡ way = ap way_in is in
+          let same : way_at names keys key.0 ≡ way = ap way_told is in
           let own : slice_index sums.counts key.0 ≡ count_of profile way = sums_are.each (Count key) given ∙ ap (count_of profile) same in
           sum_same place (λ id. cond (id == key.0) (slice_index sums.counts id) 0) (range_with_len 0 (length keys))
           (all_among (λ id. place id ≡ cond (id == key.0) (slice_index sums.counts id) 0) (range_with_len 0 (length keys))
@@ -250,11 +251,6 @@ module _ (names : List (List ℕ)) (keys : List Key) (sums : Sums) (profile : Pr
           ap (λ w. cond (same_way w (way_at names keys id)) (slice_index sums.counts id) 0) (sym same)
           ∙ ap (λ b. cond b (slice_index sums.counts id) 0) (way_is names keys are key.0 id given (omega (arith, inside.1)))))
           ∙ one_of_range (λ id. slice_index sums.counts id) key.0 0 (length keys) (omega arith) (omega (arith, given)) ∙ own
-        where
-          way_in : ToldWhat → Way
-          way_in (head name) = []
-          way_in (count way) = way
-          way_in (target way name) = way
 
       by : (0 < count_of profile way) ⊎ (count_of profile way ≤ 0) → sum_by place (range_with_len 0 (length keys)) ≡ count_of profile way
       by (inl some) = let from = sums_are.only (count way) some in found from.what from.given from.is some
@@ -284,7 +280,7 @@ module _ (names : List (List ℕ)) (keys : List Key) (sums : Sums) (profile : Pr
       found (Count key) given is some = absurd cc
       found (Target key callee) given is some = absurd cc
       found (Head id) given is some =
-          let same : name_at names id.0 ≡ name = ap name_in is in
+          let same : name_at names id.0 ≡ name = ap name_told is in
           let own : slice_index sums.heads id.0 ≡ head_of profile name = sums_are.each (Head id) given ∙ ap (head_of profile) same in
           elim (cases_lt id.0 (length sums.heads)) [
             | inl within ↦
@@ -297,11 +293,6 @@ module _ (names : List (List ℕ)) (keys : List Key) (sums : Sums) (profile : Pr
                 ∙ one_of_range (λ other. slice_index sums.heads other) id.0 0 (length sums.heads) (omega arith) (omega arith) ∙ own
             | inr past ↦ let zero = get_or_past {X = ℕ} sums.heads id.0 0 past in absurd (omega (arith, own, some, zero))
           ]
-        where
-          name_in : ToldWhat → List ℕ
-          name_in (head name) = name
-          name_in (count way) = []
-          name_in (target way name) = name
 
       by : (0 < head_of profile name) ⊎ (head_of profile name ≤ 0) → sum_by place (range_with_len 0 (length sums.heads)) ≡ head_of profile name
       by (inl some) = let from = sums_are.only (head name) some in found from.what from.given from.is some
@@ -341,8 +332,8 @@ module _ (names : List (List ℕ)) (keys : List Key) (sums : Sums) (profile : Pr
       found (Head id) given is = absurd cc
       found (Count key) given is = absurd cc
       found (Target key id) given is =
-          let way_same : way_at names keys key.0 ≡ way = ap way_in is in
-          let name_same : name_at names id.0 ≡ name = ap name_in is in
+          let way_same : way_at names keys key.0 ≡ way = ap way_told is in
+          let name_same : name_at names id.0 ≡ name = ap name_told is in
           sum_same place (λ call. cond (same_target (key, id) call.0) call.1 0) sums.called
           (all_among (λ call. place call ≡ cond (same_target (key, id) call.0) call.1 0) sums.called
           (λ call there.
@@ -354,16 +345,6 @@ module _ (names : List (List ℕ)) (keys : List Key) (sums : Sums) (profile : Pr
         where
           turned : (t u : CalledFrom) → same_target t u ≡ same_target u t
           turned t u = grind (arith, nat_tests)
-
-          way_in : ToldWhat → Way
-          way_in (head name) = []
-          way_in (count way) = way
-          way_in (target way name) = way
-
-          name_in : ToldWhat → List ℕ
-          name_in (head name) = name
-          name_in (count way) = []
-          name_in (target way name) = name
 
       by : (0 < target_of profile way name) ⊎ (target_of profile way name ≤ 0) → sum_by place sums.called ≡ target_of profile way name
       by (inl some) = let from = sums_are.only (target way name) some in found from.what from.given from.is

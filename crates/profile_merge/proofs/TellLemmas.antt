@@ -8,12 +8,13 @@ use Rattle.std.proofs.lemmas.List.Sums.{sum_by-cons}
 use Rattle.std.proofs.lemmas.Option.{slice_get-get_or}
 use Rattle.key_types.specs.declared.key.Key.{Key}
 use Rattle.merge_laws.proofs.SumLemmas.{number_in-both, number_in-weighed}
+use Rattle.profile_laws.proofs.OnceLemmas.{way_told}
 use Rattle.profile_model.specs.Merge.{both, weighed}
 use Rattle.profile_model.specs.Profile.{Profile}
 use Rattle.profile_model.specs.Spelled.{What as ToldWhat, head, count, target, Number, profile_by, number_in}
 use Rattle.profile_model.specs.Ways.{Step, Way, to_function, to_call, same_name, same_way}
 use Rattle.profile_tree.proofs.ListLemmas.{and_first, and_second, nat_same}
-use Rattle.profile_tree.proofs.SumLemmas.{Given, ways_apart, same_name_is, steps_are_named}
+use Rattle.profile_tree.proofs.SumLemmas.{Given, given_alone, ways_apart, same_name_is, steps_are_named}
 use Rattle.profile_tree.proofs.WayLemmas.{IsNamed, names_once, same_ways, way_itself}
 use Rattle.profile_tree.specs.Said.{way_at}
 use Rattle.profile_tree.specs.Steps.{NumberedStep, at_function, at_line, at_call, name_at, named, steps_at, steps_of_given}
@@ -31,10 +32,16 @@ use Rattle.profile_merge.specs.Told.{IsToldBy}
 pub number_in_weighed_both : (weight : ℕ) (p q : Profile) (told : ToldWhat) → number_in (both (weighed weight p) q) told ≡ weight * number_in p told + number_in q told
 number_in_weighed_both weight p q told = number_in-both (weighed weight p) q told ∙ ap (λ n. n + number_in q told) (number_in-weighed weight p told)
 
+-- the name that is told of
+abbrev pub name_told : ToldWhat → List ℕ
+name_told (head name) = name
+name_told (count way) = []
+name_told (target way name) = name
+
 -- ---- names and keys that were given
 module _ (names : List (List ℕ)) (keys : List Key) (are : AreNumbered names keys) where
   known : Given names keys [] []
-  known = record { names_apart = are.names_once; keys_apart = are.keys_once; key_names = are.key_names; calls_given = λ k d h. absurd (omega arith); heads_given = λ k d h. absurd (omega arith) }
+  known = given_alone names keys are.names_once are.keys_once are.key_names
 
   pub way_is : (k j : ℕ) → k < length keys → j < length keys → same_way (way_at names keys k) (way_at names keys j) ≡ (j == k)
   way_is = ways_apart names keys [] [] [] known
@@ -48,38 +55,18 @@ module _ (names : List (List ℕ)) (keys : List Key) (are : AreNumbered names ke
 
   -- different numbers tell different things
   pub what_once : (v w : What) → IsGivenWhat (length names) (length keys) v → IsGivenWhat (length names) (length keys) w → what_told names keys v ≡ what_told names keys w → v ≡ w
-  what_once (Head n) (Head m) g h e = let same = names_once names are.names_once n.0 m.0 g h (ap head_in e) in λ i. Head (record { 0 = same i })
-    where
-      head_in : ToldWhat → List ℕ
-      head_in (head name) = name
-      head_in (count way) = []
-      head_in (target way name) = []
+  what_once (Head n) (Head m) g h e = let same = names_once names are.names_once n.0 m.0 g h (ap name_told e) in λ i. Head (record { 0 = same i })
   what_once (Head n) (Count k) g h e = absurd cc
   what_once (Head n) (Target k m) g h e = absurd cc
   what_once (Count k) (Head n) g h e = absurd cc
-  what_once (Count k) (Count l) g h e = let same = keys_alike k.0 l.0 g h (ap way_in e) in λ i. Count (record { 0 = same i })
-    where
-      way_in : ToldWhat → Way
-      way_in (head name) = []
-      way_in (count way) = way
-      way_in (target way name) = way
+  what_once (Count k) (Count l) g h e = let same = keys_alike k.0 l.0 g h (ap way_told e) in λ i. Count (record { 0 = same i })
   what_once (Count k) (Target l n) g h e = absurd cc
   what_once (Target k n) (Head m) g h e = absurd cc
   what_once (Target k n) (Count l) g h e = absurd cc
   what_once (Target k n) (Target l m) g h e =
-      let same_key = keys_alike k.0 l.0 g.0 h.0 (ap way_in e) in
-      let same_name = names_once names are.names_once n.0 m.0 g.1 h.1 (ap name_in e) in
+      let same_key = keys_alike k.0 l.0 g.0 h.0 (ap way_told e) in
+      let same_name = names_once names are.names_once n.0 m.0 g.1 h.1 (ap name_told e) in
       λ i. Target (record { 0 = same_key i }) (record { 0 = same_name i })
-    where
-      way_in : ToldWhat → Way
-      way_in (head name) = []
-      way_in (count way) = way
-      way_in (target way name) = way
-
-      name_in : ToldWhat → List ℕ
-      name_in (head name) = name
-      name_in (count way) = []
-      name_in (target way name) = name
 
   -- what a profile by items tells of given numbers is what the items tell
   pub number_is : (items : List Item) (what : What) → AllByRecursion (IsGivenItem (length names) (length keys)) items → IsGivenWhat (length names) (length keys) what

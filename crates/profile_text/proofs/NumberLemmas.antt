@@ -17,10 +17,11 @@ use Rattle.profile_text.specs.declared.item.What.TheVariants.{Head, Count, Targe
 use Rattle.profile_tree.proofs.SumLemmas.{all_to_each, given_among}
 use Rattle.profile_tree.specs.Known.{HasNames, IsGiven, called_from}
 use Rattle.profile_tree.specs.Said.{stated, way_at}
+use Rattle.profile_tree.specs.Stated.{AreStated, AreSummed}
 use Rattle.profile_tree.specs.Steps.{name_at}
 use Rattle.profile_tree.specs.declared.head.Head.{Head as Entries}
 use Rattle.profile_tree.specs.declared.key_count.KeyCount.{KeyCount}
-use Rattle.profile_text.specs.Numbers.{HasKey, call_by, call_in, count_by, count_in, counted, head_by, head_in, root_at, root_of, root_of_given}
+use Rattle.profile_text.specs.Numbers.{AreNumbersOf, HasKey, call_by, call_in, count_by, count_in, counted, head_by, head_in, root_at, root_of, root_of_given}
 
 -- ---- what is kept of a list
 
@@ -89,13 +90,13 @@ head_same (Target k n) w s t a b e g same = absurd cc
 head_same (Head n) (Count k) s t a b e g same = absurd cc
 head_same (Head n) (Target k m) s t a b e g same = absurd cc
 
-pub counts_once : (items : List Item) → StandOnce (λ item. item.what) items → StandOnce (λ (count : KeyCount). count.key.0) (filter_map count_in items)
+counts_once : (items : List Item) → StandOnce (λ item. item.what) items → StandOnce (λ (count : KeyCount). count.key.0) (filter_map count_in items)
 counts_once items once = kept_once count_in (λ (item : Item). item.what) (λ (count : KeyCount). count.key.0) (λ x y a b e g same. count_same x.what y.what x.times y.times a b e g same) items once
 
-pub calls_once : (items : List Item) → StandOnce (λ item. item.what) items → StandOnce called_from (filter_map call_in items)
+calls_once : (items : List Item) → StandOnce (λ item. item.what) items → StandOnce called_from (filter_map call_in items)
 calls_once items once = kept_once call_in (λ (item : Item). item.what) called_from (λ x y a b e g same. call_same x.what y.what x.times y.times a b e g same) items once
 
-pub heads_once : (items : List Item) → StandOnce (λ item. item.what) items → StandOnce (λ (head : Entries). head.name.0) (filter_map head_in items)
+heads_once : (items : List Item) → StandOnce (λ item. item.what) items → StandOnce (λ (head : Entries). head.name.0) (filter_map head_in items)
 heads_once items once = kept_once head_in (λ (item : Item). item.what) (λ (head : Entries). head.name.0) (λ x y a b e g same. head_same x.what y.what x.times y.times a b e g same) items once
 
 -- ---- and has numbers that were given
@@ -140,14 +141,36 @@ all_kept {T} f P names keys each items given kept is =
     kept_all f P items (all_weaker (IsGivenItem names keys) (λ item. (a : T) → f item ≡ Some a → P a) (λ item here a e. each item a here e) items given) in
     subst (All P) (sym is) (All-from_recursion P (filter_map f items) all)
 
-pub counts_given : (names keys : ℕ) (items : List Item) (kept : List KeyCount) → AllByRecursion (IsGivenItem names keys) items → kept ≡ filter_map count_in items → All (λ count. count.key.0 < keys) kept
+counts_given : (names keys : ℕ) (items : List Item) (kept : List KeyCount) → AllByRecursion (IsGivenItem names keys) items → kept ≡ filter_map count_in items → All (λ count. count.key.0 < keys) kept
 counts_given names keys items kept given is = all_kept count_in (λ (c : KeyCount). c.key.0 < keys) names keys (λ item a here e. count_given names keys item.what item.times a here e) items given kept is
 
-pub calls_given : (names keys : ℕ) (items : List Item) (kept : List Call) → AllByRecursion (IsGivenItem names keys) items → kept ≡ filter_map call_in items → All (IsGiven keys names) kept
+calls_given : (names keys : ℕ) (items : List Item) (kept : List Call) → AllByRecursion (IsGivenItem names keys) items → kept ≡ filter_map call_in items → All (IsGiven keys names) kept
 calls_given names keys items kept given is = all_kept call_in (IsGiven keys names) names keys (λ item a here e. call_given names keys item.what item.times a here e) items given kept is
 
-pub heads_given : (names keys : ℕ) (items : List Item) (kept : List Entries) → AllByRecursion (IsGivenItem names keys) items → kept ≡ filter_map head_in items → All (λ head. head.name.0 < names) kept
+heads_given : (names keys : ℕ) (items : List Item) (kept : List Entries) → AllByRecursion (IsGivenItem names keys) items → kept ≡ filter_map head_in items → All (λ head. head.name.0 < names) kept
 heads_given names keys items kept given is = all_kept head_in (λ (h : Entries). h.name.0 < names) names keys (λ item a here e. head_given names keys item.what item.times a here e) items given kept is
+
+-- ---- so that they are stated
+
+pub items_summed : (names : ℕ) (keys : List Key) (items : List Item) (calls : List Call) (heads : List Entries) → AreNumbersOf names keys items
+    → calls ≡ filter_map call_in items → heads ≡ filter_map head_in items → AreSummed names keys calls heads
+items_summed names keys items calls heads numbers calls_are heads_are = record {
+  given = record {
+    key_names = numbers.key_names;
+    called = calls_given names (length keys) items calls numbers.given calls_are;
+    entered = heads_given names (length keys) items heads numbers.given heads_are;
+  };
+  calls_once = subst (StandOnce called_from) (sym calls_are) (calls_once items numbers.once);
+  heads_once = subst (StandOnce (λ (head : Entries). head.name.0)) (sym heads_are) (heads_once items numbers.once);
+}
+
+pub items_stated : (names : ℕ) (keys : List Key) (items : List Item) (counts : List KeyCount) (calls : List Call) (heads : List Entries) → AreNumbersOf names keys items
+    → counts ≡ filter_map count_in items → calls ≡ filter_map call_in items → heads ≡ filter_map head_in items → AreStated names keys counts calls heads
+items_stated names keys items counts calls heads numbers counts_are calls_are heads_are = record {
+  summed = items_summed names keys items calls heads numbers calls_are heads_are;
+  counted = counts_given names (length keys) items counts numbers.given counts_are;
+  counts_once = subst (StandOnce (λ (count : KeyCount). count.key.0)) (sym counts_are) (counts_once items numbers.once);
+}
 
 -- ---- the profile that they state is that of the numbers
 

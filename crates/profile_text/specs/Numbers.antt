@@ -1,15 +1,24 @@
 -- The numbers of a profile text, as counts, calls and heads.
-use Rattle.std.specs.Prelude.{ℕ, ◌<◌, ⊤, List, map, slice_get, Option, None, Some}
+use Rattle.std.specs.Prelude.{ℕ, ◌<◌, ⊤, List, length, map, slice_get, Option, None, Some}
+use Rattle.std.specs.List.{All, AllByRecursion}
 use Rattle.key_types.specs.declared.key.Key.{Key}
+use Rattle.profile_laws.specs.Once.{StandOnce}
 use Rattle.profile_lists.specs.declared.pairs.Call.{Call}
 use Rattle.profile_model.specs.Profile.{Profile}
 use Rattle.profile_model.specs.Spelled.{profile_by}
-use Rattle.profile_text.specs.Draft.{number_told}
+use Rattle.profile_text.specs.Draft.{IsGivenItem, number_told}
 use Rattle.profile_text.specs.declared.item.Item.{Item}
 use Rattle.profile_text.specs.declared.item.What.{What}
 use Rattle.profile_text.specs.declared.item.What.TheVariants.{Head, Count, Target}
+use Rattle.profile_tree.specs.Known.{HasNames}
 use Rattle.profile_tree.specs.declared.head.Head.{Head as Entries}
 use Rattle.profile_tree.specs.declared.key_count.KeyCount.{KeyCount}
+
+-- Items are of so many names and of these keys, whose names are among those, and no two tell of the same.
+pub record AreNumbersOf (names : ℕ) (keys : List Key) (items : List Item) : Type 0 where
+  pub key_names : All (HasNames names) keys
+  pub given : AllByRecursion (IsGivenItem names (length keys)) items
+  pub once : StandOnce (λ item. item.what) items
 
 -- A number that is the count of a key.
 abbrev pub count_by : What → ℕ → Option KeyCount

@@ -17,5 +17,5 @@ mod text;
 
 pub use item::{Item, Profile, What};
 pub use numbers::{calls_of, counts_of, heads_of, root_of};
-pub use reading::read;
+pub use reading::{read, read_behind};
 pub use text::write;

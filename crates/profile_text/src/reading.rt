@@ -14,6 +14,10 @@ use refusal::{Kind, Place, Stop};
 use std::alloc::Global;
 use text_scan::{Line, Lines};
 
+/// So many names or keys before a text are taken for want of memory: 32 bits number those of the
+/// text as well.
+const MOST_BEFORE: u32 = 1 << 31;
+
 /// The numbers of a profile text, which is the command's file `file`, in the order of the text.
 /// Lines and files are numbered from 1. How large the text may be is for the caller to judge.
 ///
@@ -51,6 +55,28 @@ pub fn read<'a>(
         take_in(alloc, &mut draft, line, file, names, keys)?;
     }
     Ok(draft.close())
+}
+
+/// The same behind however many names and keys. A binary has fewer than 2^31 of each.
+///
+/// # Errors
+/// The same, and `NoMemory` where there are 2^31 names or keys.
+pub fn read_behind<'a>(
+    alloc: Global,
+    text: &'a [u8],
+    file: u8,
+    names: &mut Names<'a>,
+    keys: &mut Keys,
+) -> Result<Profile, Stop>
+    requires size { length text.now ≤ 2 ^ 28 }
+    requires key_names { All (HasNames (length names.old)) keys.old }
+    ensures { JudgesUnlessNoMemory (first_bad_of_profile file text.now) result (λ profile.
+        TellText names.old keys.old text.now profile.items names.new keys.new) }
+{
+    if names.len() >= MOST_BEFORE || keys.len() >= MOST_BEFORE {
+        return Err(Stop::NoMemory);
+    }
+    read(alloc, text, file, names, keys)
 }
 
 /// Takes in a line, unless it is passed over.

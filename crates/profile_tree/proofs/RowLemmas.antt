@@ -105,7 +105,7 @@ module _ (names : List (List ℕ)) (keys : List Key) (counts : List ℕ) (calls 
   all_sources = sources keys counts calls besides heads
 
   function_named : (head : Head) → Among head heads → head.name.0 < length names
-  function_named head h = all_to_each (λ x. x.name.0 < length names) head heads g.heads_given h
+  function_named head h = all_to_each (λ x. x.name.0 < length names) head heads g.given.entered h
 
   sources_named : AllByRecursion (λ s. AllByRecursion (IsNamed (length names)) s.way) all_sources
   unfolding all_sources
@@ -298,7 +298,7 @@ module _ (names : List (List ℕ)) (keys : List Key) (counts : List ℕ) (calls 
   called_there : (call : Call) → Among call calls → was_made call ≡ true → Among (way_of_source (of_call call)) (map way_of_source (sources keys counts calls besides heads))
   unfolding of_call
   called_there call h was =
-      let known = all_to_each (IsGiven (length keys) (length names)) call calls g.calls_given h in
+      let known = all_to_each (IsGiven (length keys) (length names)) call calls g.given.called h in
       is_there call.key.0 known.0
       (or_right (has_count counts call.key.0) (is_marked calls besides call.key.0)
       (or_left (is_caller calls call.key.0) (is_besides besides call.key.0)

@@ -19,6 +19,7 @@ use Rattle.profile_tree.proofs.ListLemmas.{and_first, and_second, and_both, bool
 use Rattle.profile_tree.proofs.WayLemmas.{IsNamed, key_is_named, names_once, ways_once, keys_once, same_steps, step_itself, same_ways, way_itself}
 use Rattle.profile_tree.specs.Known.{HasNames, IsGiven}
 use Rattle.profile_tree.specs.Said.{said, way_at}
+use Rattle.profile_tree.specs.Stated.{AreGiven}
 use Rattle.profile_tree.specs.Steps.{named, name_at, steps_of_given, steps_at}
 use Rattle.profile_tree.specs.Sums.{calls_of, entries_of, root_total, share}
 use Rattle.profile_tree.specs.declared.head.Head.{Head}
@@ -52,16 +53,21 @@ given_among (x ∷ keys) (suc k) key e = inr (given_among keys k key e)
 pub record Given (names : List (List ℕ)) (keys : List Key) (calls : List Call) (heads : List Head) : Type 0 where
   pub names_apart : IsNumbered names
   pub keys_apart : IsNumbered keys
-  pub key_names : All (HasNames (length names)) keys
-  pub calls_given : All (IsGiven (length keys) (length names)) calls
-  pub heads_given : All (λ head. head.name.0 < length names) heads
+  pub given : AreGiven (length names) keys calls heads
+
+pub given_alone : (names : List (List ℕ)) (keys : List Key) → IsNumbered names → IsNumbered keys → All (HasNames (length names)) keys → Given names keys [] []
+given_alone names keys names_apart keys_apart key_names = record {
+  names_apart = names_apart;
+  keys_apart = keys_apart;
+  given = record { key_names = key_names; called = λ k d h. absurd (omega arith); entered = λ k d h. absurd (omega arith) };
+}
 
 module _ (names : List (List ℕ)) (keys : List Key) (counts : List ℕ) (calls : List Call) (heads : List Head) (g : Given names keys calls heads) where
   pub steps_are_named : (k : ℕ) → AllByRecursion (IsNamed (length names)) (steps_at keys k)
   steps_are_named k =
       elim (slice_get keys k) as (λ o. slice_get keys k ≡ o → AllByRecursion (IsNamed (length names)) (steps_of_given o)) [
         | None ↦ λ _. tt
-        | Some key ↦ λ e. key_is_named (length names) key (all_to_each (HasNames (length names)) key keys g.key_names (given_among keys k key e))
+        | Some key ↦ λ e. key_is_named (length names) key (all_to_each (HasNames (length names)) key keys g.given.key_names (given_among keys k key e))
       ] refl
 
   numbers_alike : (k j : ℕ) → k < length keys → j < length keys → way_at names keys k ≡ way_at names keys j → k ≡ j
@@ -106,7 +112,7 @@ module _ (names : List (List ℕ)) (keys : List Key) (counts : List ℕ) (calls 
       total_is (to_function (name_at names i) ∷ [])
       ∙ ap capped (sum_same (λ id. cond (leads_to (to_function (name_at names i) ∷ []) (way_at names keys id)) (get_or counts id 0) 0) (λ id. share i (get_or counts id 0) (slice_get keys id)) (range_with_len 0 (length keys))
       (all_among (λ id. cond (leads_to (to_function (name_at names i) ∷ []) (way_at names keys id)) (get_or counts id 0) 0 ≡ share i (get_or counts id 0) (slice_get keys id)) (range_with_len 0 (length keys))
-      (λ id there. root_share i (get_or counts id 0) h (slice_get keys id) (λ key e. (all_to_each (HasNames (length names)) key keys g.key_names (given_among keys id key e)).0))))
+      (λ id there. root_share i (get_or counts id 0) h (slice_get keys id) (λ key e. (all_to_each (HasNames (length names)) key keys g.given.key_names (given_among keys id key e)).0))))
 
   pub count_is : (k : ℕ) → k < length keys → count_of (said names keys counts calls heads) (way_at names keys k) ≡ get_or counts k 0
   count_is k h =
@@ -123,7 +129,7 @@ module _ (names : List (List ℕ)) (keys : List Key) (counts : List ℕ) (calls 
       ∙ sum_map (λ x. cond (same_name (name_at names i) x.0) x.1 0) (λ head. (name_at names head.name.0, head.times)) heads
       ∙ sum_same (λ head. cond (same_name (name_at names i) (name_at names head.name.0)) head.times 0) (λ head. cond (head.name.0 == i) head.times 0) heads
       (all_among (λ head. cond (same_name (name_at names i) (name_at names head.name.0)) head.times 0 ≡ cond (head.name.0 == i) head.times 0) heads
-      (λ head there. ap (λ b. cond b head.times 0) (same_name_is i head.name.0 h (all_to_each (λ x. x.name.0 < length names) head heads g.heads_given there))))
+      (λ head there. ap (λ b. cond b head.times 0) (same_name_is i head.name.0 h (all_to_each (λ x. x.name.0 < length names) head heads g.given.entered there))))
 
   pub target_is : (k i : ℕ) → k < length keys → i < length names → target_of (said names keys counts calls heads) (way_at names keys k) (name_at names i) ≡ calls_of calls k i
   target_is k i h f =
@@ -133,7 +139,7 @@ module _ (names : List (List ℕ)) (keys : List Key) (counts : List ℕ) (calls 
       ∙ sum_same (λ call. cond (same_way (way_at names keys k) (way_at names keys call.key.0) && same_name (name_at names i) (name_at names call.callee.0)) call.times 0) (λ call. cond (call.key.0 == k && call.callee.0 == i) call.times 0) calls
       (all_among (λ call. cond (same_way (way_at names keys k) (way_at names keys call.key.0) && same_name (name_at names i) (name_at names call.callee.0)) call.times 0 ≡ cond (call.key.0 == k && call.callee.0 == i) call.times 0) calls
       (λ call there.
-      let known = all_to_each (IsGiven (length keys) (length names)) call calls g.calls_given there in
+      let known = all_to_each (IsGiven (length keys) (length names)) call calls g.given.called there in
       λ m. cond (ways_apart k call.key.0 h known.0 m && same_name_is i call.callee.0 f known.1 m) call.times 0))
 
 -- what a way has where it stands

@@ -72,7 +72,7 @@ module _ (names : List (List ℕ)) (keys : List Key) (calls : List Call) (heads 
       )
 
   pub call_known : (call : Call) → Among call calls → IsGiven (length keys) (length names) call
-  call_known call h = all_to_each (IsGiven (length keys) (length names)) call calls g.calls_given h
+  call_known call h = all_to_each (IsGiven (length keys) (length names)) call calls g.given.called h
 
   pub all_ranks_low : All (λ t. t.rank < length ni) targets
   all_ranks_low = all_places (λ t. t.rank < length ni) targets (all_among (λ t. t.rank < length ni) targets (λ t h.
@@ -137,7 +137,7 @@ module _ (names : List (List ℕ)) (keys : List Key) (counts : List ℕ) (calls 
   goals k = map (goal_target k) (filter (is_from k) (map call_told calls))
 
   sums_are : (k i : ℕ) → k < length keys → i < length names → target_of (said names keys counts calls heads) (way_at names keys k) (name_at names i) ≡ sum_at (map (pair_of nr) (filter was_made calls)) k (get_or nr i 0)
-  sums_are k i h f = target_is names keys counts calls heads g k i h f ∙ sym (sum_by_rank_is names nr ni (record { ranks = r.by_name }) calls (length keys) k i g.calls_given f)
+  sums_are k i h f = target_is names keys counts calls heads g k i h f ∙ sym (sum_by_rank_is names nr ni (record { ranks = r.by_name }) calls (length keys) k i g.given.called f)
 
   there : (k : ℕ) (z : List ℕ × ℕ) → k < length keys → Among z (map tell (filter (λ t. t.key == k) targets)) → Among z (goals k)
   unfolding tell call_told goal_target is_from goals
@@ -168,7 +168,7 @@ module _ (names : List (List ℕ)) (keys : List Key) (counts : List ℕ) (calls 
       let key : c.0.key.0 ≡ k = nat_same c.0.key.0 k (sym (ways_apart names keys counts calls heads g k c.0.key.0 low given.0) ∙ and_first (same_way (way_at names keys k) (way_at names keys c.0.key.0)) (nat_lt 0 c.0.times) from) in
       let made : 0 < c.0.times = more_than_none c.0.times (and_second (same_way (way_at names keys k) (way_at names keys c.0.key.0)) (nat_lt 0 c.0.times) from) in
       let S = sum_at (map (pair_of nr) (filter was_made calls)) k (get_or nr i 0) in
-      let all : S ≡ calls_of calls k i = sum_by_rank_is names nr ni (record { ranks = r.by_name }) calls (length keys) k i g.calls_given given.1 in
+      let all : S ≡ calls_of calls k i = sum_by_rank_is names nr ni (record { ranks = r.by_name }) calls (length keys) k i g.given.called given.1 in
       let test : (c.0.key.0 == k && c.0.callee.0 == i) ≡ true = and_both (c.0.key.0 == k) (i == i) (ap (λ n. n == k) key ∙ nat_refl k) (nat_refl i) in
       let part : cond (c.0.key.0 == k && c.0.callee.0 == i) c.0.times 0 ≤ calls_of calls k i = part_of_sum (λ call. cond (call.key.0 == k && call.callee.0 == i) call.times 0) c.0 calls c.1 in
       let mine : cond (c.0.key.0 == k && c.0.callee.0 == i) c.0.times 0 ≡ c.0.times = ap (λ b. cond b c.0.times 0) test in

@@ -6,9 +6,8 @@ ghost use Rattle.key_types.specs.Segments.{AreSegments};
 ghost use Rattle.key_types.specs.Numbers.{IsNumbered};
 ghost use Rattle.cold_model.specs.Cold.{lines_with};
 ghost use Rattle.profile_model.specs.Profile.{lines_of};
-ghost use Rattle.profile_tree.specs.Known.{HasNames, IsGiven, called_from};
-ghost use Rattle.profile_laws.specs.Once.{StandOnce};
 ghost use Rattle.profile_tree.specs.Said.{AreCountsOfPlaces, said, stated, ways_said};
+ghost use Rattle.profile_tree.specs.Stated.{AreGiven, AreStated, AreSummed};
 ghost use Rattle.profile_tree.specs.Sums.{AreEach, calls_of, count_stated, entries_of};
 ghost use Rattle.profile_tree.specs.Told.{IsOf, told};
 
@@ -50,9 +49,7 @@ pub fn build(
     requires segments { AreSegments segments.now }
     requires fit { AllFit (length keys.now) segments.now }
     requires hits { (a : ℕ) → hits_by hits.now a < 2 ^ 32 }
-    requires key_names { All (HasNames (length names.now)) keys.now }
-    requires calls { All (IsGiven (length keys.now) (length names.now)) calls.now }
-    requires heads { All (λ head. head.name.0 < length names.now) heads.now }
+    requires given { AreGiven (length names.now) keys.now calls.now heads.now }
     requires call_sums { (key callee : ℕ) → calls_of calls.now key callee < 2 ^ 64 }
     requires head_sums { (name : ℕ) → entries_of heads.now name < 2 ^ 64 }
     ensures lines { IfOk result (λ tree. map (told names.now) tree.lines
@@ -89,13 +86,7 @@ pub fn from_counts(
     keys: &Keys,
     names: &Names,
 ) -> Result<Tree, NoMemory>
-    requires key_names { All (HasNames (length names.now)) keys.now }
-    requires counted { All (λ count. count.key.0 < length keys.now) counts.now }
-    requires calls { All (IsGiven (length keys.now) (length names.now)) calls.now }
-    requires heads { All (λ head. head.name.0 < length names.now) heads.now }
-    requires counts_once { StandOnce (λ count. count.key.0) counts.now }
-    requires calls_once { StandOnce called_from calls.now }
-    requires heads_once { StandOnce (λ head. head.name.0) heads.now }
+    requires { AreStated (length names.now) keys.now counts.now calls.now heads.now }
     ensures lines { IfOk result (λ tree. map (told names.now) tree.lines
         ≡ lines_of (stated names.now keys.now counts.now calls.now heads.now)) }
     ensures names { IfOk result (λ tree. All (IsOf names.now) tree.lines) }
@@ -119,14 +110,8 @@ pub fn from_counts_with(
     keys: &Keys,
     names: &Names,
 ) -> Result<Tree, NoMemory>
-    requires key_names { All (HasNames (length names.now)) keys.now }
-    requires counted { All (λ count. count.key.0 < length keys.now) counts.now }
-    requires calls { All (IsGiven (length keys.now) (length names.now)) calls.now }
+    requires stated { AreStated (length names.now) keys.now counts.now calls.now heads.now }
     requires besides { All (λ key. key.0 < length keys.now) besides.now }
-    requires heads { All (λ head. head.name.0 < length names.now) heads.now }
-    requires counts_once { StandOnce (λ count. count.key.0) counts.now }
-    requires calls_once { StandOnce called_from calls.now }
-    requires heads_once { StandOnce (λ head. head.name.0) heads.now }
     ensures lines { IfOk result (λ tree. map (told names.now) tree.lines
         ≡ lines_with (ways_said names.now keys.now besides.now)
         (stated names.now keys.now counts.now calls.now heads.now)) }
@@ -163,11 +148,7 @@ pub fn from_all_counts(
     names: &Names,
 ) -> Result<Tree, NoMemory>
     requires len { length counts.items ≡ length keys.now }
-    requires key_names { All (HasNames (length names.now)) keys.now }
-    requires calls { All (IsGiven (length keys.now) (length names.now)) calls.now }
-    requires heads { All (λ head. head.name.0 < length names.now) heads.now }
-    requires calls_once { StandOnce called_from calls.now }
-    requires heads_once { StandOnce (λ head. head.name.0) heads.now }
+    requires summed { AreSummed (length names.now) keys.now calls.now heads.now }
     ensures lines { IfOk result (λ tree. map (told names.now) tree.lines
         ≡ lines_of (said names.now keys.now counts.items calls.now heads.now)) }
     ensures names { IfOk result (λ tree. All (IsOf names.now) tree.lines) }
@@ -197,10 +178,8 @@ fn lines_of_counts(
     requires len { length counts.now ≡ length keys.now }
     requires keys { IsNumbered keys.now }
     requires names { IsNumbered names.now }
-    requires key_names { All (HasNames (length names.now)) keys.now }
-    requires calls { All (IsGiven (length keys.now) (length names.now)) calls.now }
+    requires given { AreGiven (length names.now) keys.now calls.now heads.now }
     requires besides { All (λ key. key.0 < length keys.now) besides.now }
-    requires heads { All (λ head. head.name.0 < length names.now) heads.now }
     requires call_sums { (key callee : ℕ) → calls_of calls.now key callee < 2 ^ 64 }
     requires head_sums { (name : ℕ) → entries_of heads.now name < 2 ^ 64 }
     ensures lines { IfOk result (λ lines. map (told names.now) lines.items

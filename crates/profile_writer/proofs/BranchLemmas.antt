@@ -23,8 +23,9 @@ use Rattle.profile_model.specs.Ways.{Way, same_name, same_way}
 use Rattle.profile_report.specs.Classed.{all_times, classed_by}
 use Rattle.profile_report.specs.declared.classed.Classed.{Classed}
 use Rattle.profile_tree.proofs.ListLemmas.{all_among, among_map_back, sum_at_most, sum_filter, sum_map}
-use Rattle.profile_tree.specs.Known.{IsGiven}
+use Rattle.profile_tree.specs.Known.{HasNames, IsGiven}
 use Rattle.profile_tree.specs.Said.{said, way_at}
+use Rattle.profile_tree.specs.Stated.{AreGiven}
 use Rattle.profile_tree.specs.Steps.{name_at}
 use Rattle.profile_tree.specs.Sums.{calls_of, entries_of}
 use Rattle.profile_tree.specs.declared.head.Head.{Head}
@@ -231,7 +232,7 @@ module _ (program : Program) (all : List (List ℕ)) (keys : List Key) (segments
       inner : (x y : Head) → Some x ≡ Some y → x ≡ y
       inner x y q = cc
 
-  pub heads_given : All (λ head. head.name.0 < length all) (filter_map head_in classed_rows)
+  heads_given : All (λ head. head.name.0 < length all) (filter_map head_in classed_rows)
   heads_given = kept_all (λ head. head.name.0 < length all) head_in classed_rows (λ b there head e.
       let row = among_map_back (classed_by (branch_class place entered)) b rows there in
       head_given (entered row.0.to) (place row.0.from) (place row.0.to) row.0.times head (entered_given row.0.to) (sym (ap head_in row.2) ∙ e))
@@ -260,13 +261,13 @@ module _ (program : Program) (all : List (List ℕ)) (keys : List Key) (segments
       inner : (x y : Call) → Some x ≡ Some y → x ≡ y
       inner x y q = cc
 
-  pub calls_given : All (IsGiven (length keys) (length all)) (filter_map (call_in place) classed_rows)
+  calls_given : All (IsGiven (length keys) (length all)) (filter_map (call_in place) classed_rows)
   calls_given = kept_all (IsGiven (length keys) (length all)) (call_in place) classed_rows (λ b there call e.
       let row = among_map_back (classed_by (branch_class place entered)) b rows there in
       call_given (place row.0.from) (entered row.0.to) (place row.0.to) row.0.times call (key_given row.0.from) (entered_given row.0.to) (sym (ap (call_in place) row.2) ∙ e))
 
-  pub calls_in_given : (branches : List (Classed Class)) → branches ≡ classed_rows → All (IsGiven (length keys) (length all)) (filter_map (call_in place) branches)
-  calls_in_given branches are = subst (λ (bs : List (Classed Class)). All (IsGiven (length keys) (length all)) (filter_map (call_in place) bs)) (sym are) calls_given
-
-  pub heads_in_given : (branches : List (Classed Class)) → branches ≡ classed_rows → All (λ head. head.name.0 < length all) (filter_map head_in branches)
-  heads_in_given branches are = subst (λ (bs : List (Classed Class)). All (λ head. head.name.0 < length all) (filter_map head_in bs)) (sym are) heads_given
+  pub rows_given : All (HasNames (length all)) keys → (branches : List (Classed Class)) → branches ≡ classed_rows
+      → AreGiven (length all) keys (filter_map (call_in place) branches) (filter_map head_in branches)
+  rows_given key_names branches are =
+      subst (λ (bs : List (Classed Class)). AreGiven (length all) keys (filter_map (call_in place) bs) (filter_map head_in bs)) (sym are)
+      (record { key_names = key_names; called = calls_given; entered = heads_given })

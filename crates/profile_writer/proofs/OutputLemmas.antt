@@ -32,7 +32,7 @@ use Rattle.report_model.specs.Report.{Sampled}
 use Rattle.output_model.specs.Program.{Program}
 use Rattle.output_model.specs.Sampled.{all_addresses, hits_of, profile_of}
 use Rattle.output_model.specs.Summary.{function_total, totals_in}
-use Rattle.profile_writer.proofs.BranchLemmas.{calls_given, heads_alike, heads_given, targets_alike}
+use Rattle.profile_writer.proofs.BranchLemmas.{heads_alike, rows_given, targets_alike}
 use Rattle.profile_writer.proofs.ClassLemmas.{classes_told, report_alike}
 use Rattle.profile_writer.proofs.CountLemmas.{counted_alike, counts_alike, hits_alike, passed_alike}
 use Rattle.profile_writer.specs.Items.{call_in, head_in, ran_in}
@@ -102,9 +102,7 @@ module _ (program : Program) (sampled : Sampled) (all : List (List ℕ)) (keys :
       let given : Given all keys (filter_map (call_in place) branches) (filter_map head_in branches) = record {
         names_apart = names_apart;
         keys_apart = keys_apart;
-        key_names = key_names;
-        calls_given = calls_given program all keys segments place function entered shown branch_rows;
-        heads_given = heads_given program all keys segments place function entered shown branch_rows;
+        given = rows_given program all keys segments place function entered shown branch_rows key_names branches refl;
       } in
       let counts_told : AreCountsOfPlaces segments (hits_at (filter_map ran_in ranges)) counts =
       subst (λ (xs : List (Classed RangeClass)). AreCountsOfPlaces segments (hits_at (filter_map ran_in xs)) counts) rs_are counts_are in

@@ -4,11 +4,10 @@ ghost use Rattle.std.specs.List.{filter_map};
 ghost use Rattle.profile_model.specs.Hits.{AreRanges, hits_at};
 ghost use Rattle.profile_lists.specs.Segments.{AllFit};
 ghost use Rattle.key_types.specs.Segments.{AreSegments};
-ghost use Rattle.key_types.specs.Numbers.{IsNumbered};
 ghost use Rattle.profile_model.specs.Profile.{lines_of};
 ghost use Rattle.profile_report.specs.Classed.{all_times};
-ghost use Rattle.profile_tree.specs.Known.{HasNames, IsGiven};
 ghost use Rattle.profile_tree.specs.Said.{AreCountsOfPlaces, said};
+ghost use Rattle.profile_tree.specs.Stated.{AreGiven};
 ghost use Rattle.profile_tree.specs.Told.{IsOf, told};
 ghost use Rattle.sample_model.specs.Limits.{max_branches};
 ghost use Rattle.profile_writer.specs.Items.{call_in, head_in, ran_in};
@@ -34,12 +33,8 @@ pub(crate) fn tree_of<P: Places>(
 ) -> Result<Tree, NoMemory>
     requires segments { AreSegments segments.now }
     requires fit { AllFit (length keys.now) segments.now }
-    requires keys { IsNumbered keys.now }
-    requires names { IsNumbered names.now }
-    requires key_names { All (HasNames (length names.now)) keys.now }
-    requires calls { All (IsGiven (length keys.now) (length names.now))
-        (filter_map (call_in (P.place_of places.now)) branches.now) }
-    requires heads { All (λ head. head.name.0 < length names.now)
+    requires given { AreGiven (length names.now) keys.now
+        (filter_map (call_in (P.place_of places.now)) branches.now)
         (filter_map head_in branches.now) }
     requires forward { AreRanges (filter_map ran_in ranges.now) }
     requires few_branches { all_times branches.now ≤ max_branches }

@@ -1,19 +1,13 @@
 -- The numbers of a profile of so many branches have 64 bits.
-use Rattle.std.proofs.Common.{◌≡◌, ◌<◌, ◌≤◌, ◌+◌, ◌*◌, ◌/◌, ◌%◌, ◌^◌, ◌==◌, ℕ, suc, ◌&&◌, Bool, true, false, cond, List, [], ◌∷◌, filter, filter_map, length, map, Option, None, Some, option_map, refl, sym, ap, subst, ◌∙◌, inl, inr, arith}
+use Rattle.std.proofs.Common.{◌<◌, ◌≤◌, ◌+◌, ◌*◌, ◌/◌, ◌%◌, ◌^◌, ◌==◌, ℕ, suc, ◌&&◌, Bool, true, false, cond, List, [], ◌∷◌, filter, filter_map, length, map, Option, None, Some, option_map, arith}
 use Rattle.std.specs.Prelude.{if◌then◌else◌, unwrap_or}
 use Rattle.std.specs.List.{cons_option}
-use Rattle.std.specs.List.Sorted.{IsStrictlySortedBy}
-use Rattle.std.specs.declared.cmp.Ordering.{Ordering}
 use Rattle.std.proofs.lemmas.List.Sums.{count_by-le-length}
 use Rattle.std.proofs.Common.{mul-le-mul}
 use Rattle.key_types.specs.Discriminators as packed
 use Rattle.chain_model.specs.Places.{LineAndDisc, row_of, chain_members}
 use Rattle.merge_laws.proofs.SumLemmas.{kept_sum, kept_more}
-use Rattle.profile_laws.proofs.TotalLemmas.{Among, not_among_above}
-use Rattle.profile_model.proofs.OrderedLemmas.{Above}
-use Rattle.profile_model.proofs.StepLemmas.{same_ways}
 use Rattle.profile_model.specs.Counts.{weighed}
-use Rattle.profile_model.specs.Laws.{TellsApart}
 use Rattle.profile_model.specs.Ways.{Way, same_name, same_way}
 use Rattle.report_model.specs.Report.{Sampled}
 use Rattle.binary_model.specs.Addresses.{factor_of_address}
@@ -57,40 +51,6 @@ calls_few program way name ((from, to) ∷ branches) = by (way_at program from) 
         omega (arith, both, one, rest)
 
 -- ---- counts of ways
-
--- a count that stands once for each way
-other_ways : (cmp : Way → Way → Ordering) → TellsApart cmp → (count : Way → ℕ) (way : Way) (ways : List Way) → (Among way ways → ⊥)
-    → kept_sum (λ (c : Way × ℕ). same_way way c.0) (λ c. c.1) (map (λ w. (w, count w)) ways) ≡ 0
-unfolding Among
-other_ways cmp t count way [] lacks = refl
-other_ways cmp t count way (w ∷ ways) lacks =
-    kept_more (λ (c : Way × ℕ). same_way way c.0) (λ c. c.1) (w, count w) (map (λ w. (w, count w)) ways)
-    ∙ (λ i. by (same_way way w) refl i + other_ways cmp t count way ways (λ there. lacks (inr there)) i)
-  where
-    by : (b : Bool) → same_way way w ≡ b → cond (same_way way w) (count w) 0 ≡ 0
-    by true e = absurd (lacks (inl (same_ways way w e)))
-    by false e = ap (λ b. cond b (count w) 0) e
-
-pub own_count : (cmp : Way → Way → Ordering) → TellsApart cmp → (count : Way → ℕ) (way : Way) (ways : List Way) → IsStrictlySortedBy cmp ways
-    → kept_sum (λ (c : Way × ℕ). same_way way c.0) (λ c. c.1) (map (λ w. (w, count w)) ways) ≤ count way
-unfolding IsStrictlySortedBy
-own_count cmp t count way [] up = omega arith
-own_count cmp t count way (w ∷ ways) up = by (same_way way w) refl (own_count cmp t count way ways up.1)
-  where
-    both : kept_sum (λ (c : Way × ℕ). same_way way c.0) (λ c. c.1) (map (λ w. (w, count w)) (w ∷ ways))
-        ≡ cond (same_way way w) (count w) 0 + kept_sum (λ (c : Way × ℕ). same_way way c.0) (λ c. c.1) (map (λ w. (w, count w)) ways)
-    both = kept_more (λ (c : Way × ℕ). same_way way c.0) (λ c. c.1) (w, count w) (map (λ w. (w, count w)) ways)
-
-    by : (b : Bool) → same_way way w ≡ b → kept_sum (λ (c : Way × ℕ). same_way way c.0) (λ c. c.1) (map (λ w. (w, count w)) ways) ≤ count way
-        → kept_sum (λ (c : Way × ℕ). same_way way c.0) (λ c. c.1) (map (λ w. (w, count w)) (w ∷ ways)) ≤ count way
-    by true e rest =
-        let same : way ≡ w = same_ways way w e in
-        let here : cond (same_way way w) (count w) 0 ≡ count way = ap (λ b. cond b (count w) 0) e ∙ ap count (sym same) in
-        let none = other_ways cmp t count way ways (not_among_above cmp t way ways (subst (λ z. Above cmp z ways) (sym same) up.0)) in
-        omega (arith, both, here, none)
-    by false e rest =
-        let here : cond (same_way way w) (count w) 0 ≡ 0 = ap (λ b. cond b (count w) 0) e in
-        omega (arith, both, here, rest)
 
 largest_low : (most : ℕ) (f : ℕ → ℕ) (addresses : List ℕ) → ((a : ℕ) → f a ≤ most) → largest (map f addresses) ≤ most
 largest_low most f [] low = omega arith

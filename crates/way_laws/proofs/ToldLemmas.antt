@@ -6,8 +6,7 @@ use Rattle.std.specs.declared.cmp.Ordering.{Ordering}
 use Rattle.std.specs.declared.cmp.Ordering.TheVariants.{Less, Equal, Greater}
 use Rattle.std.proofs.ByRecursion.{All-append}
 use Rattle.text_model.specs.Lines.{lines_of}
-use Rattle.profile_model.proofs.OrderLemmas.{ways_tell_apart}
-use Rattle.profile_model.proofs.OrderedLemmas.{ordered_is_in_order}
+use Rattle.asked_laws.proofs.ProfileLemmas.{count_is}
 use Rattle.profile_model.specs.Names.{is_name}
 use Rattle.profile_model.specs.Orders.{ordered, placed, way_cmp, with_item}
 use Rattle.profile_model.specs.Profile.{recorded}
@@ -19,7 +18,7 @@ use Rattle.output_model.specs.Output.{loading_of, sampled_by}
 use Rattle.output_model.specs.Program.{program_of, way_at, way_of_place}
 use Rattle.output_model.specs.Sampled.{all_addresses, call_by, call_of, count_among, head_of as entry_of, profile_among, profile_of, ways_among}
 use Rattle.way_laws.specs.Told.{ProfilesCanBeTold}
-use Rattle.way_laws.proofs.CountLemmas.{calls_few, count_low, heads_few, own_count}
+use Rattle.way_laws.proofs.CountLemmas.{calls_few, count_low, heads_few}
 use Rattle.way_laws.proofs.NameLemmas.{IsNameIfAny}
 use Rattle.way_laws.proofs.PlaceLemmas.{IsToldPlace, entries_are_named, places_are_told}
 use Rattle.way_laws.proofs.SampleLemmas.{branches_are_few, branches_by_few, ranges_by_few}
@@ -120,8 +119,7 @@ module _ (file : List ℕ) (base : Bool) where
         (filtered (λ (h : List ℕ × ℕ). is_name h.0 ≡ true) _ _ (heads_are sampled.branches));
     callees = only_names _ (filtered IsCall _ _ (calls_are sampled.branches));
     counts_fit = λ way.
-        let own = own_count (way_cmp (λ _. 0)) (ways_tell_apart (λ _. 0)) (count_among addresses (program_of file base) sampled) way (ways_among addresses (program_of file base))
-        (ordered_is_in_order (way_cmp (λ _. 0)) (ways_tell_apart (λ _. 0)) (filter_map (way_at (program_of file base)) addresses)).ascending in
+        let own = count_is addresses (program_of file base) sampled way in
         let low = count_low addresses file base sampled way few_ranges in
         omega (arith, own, low);
     targets_fit = λ way name. let some = calls_few (program_of file base) way name sampled.branches in omega (arith, some, few);

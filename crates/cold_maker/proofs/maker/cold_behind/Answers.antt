@@ -10,6 +10,10 @@ text_of-requires-clause-known c =
     let grown = kept_grows _ _ c.in_ok-part.ensures.1.keys_kept in
     let counted = c.len-known.ensures in omega (arith, counted, grown)
 
+pub text_of-requires-clause-numbers : goal.text_of-requires-clause-numbers
+text_of-requires-clause-numbers c =
+    let tells = c.in_ok-part.ensures.1 in record { key_names = tells.named; given = tells.told.given; once = tells.once }
+
 pub returns-in_err-out : goal.returns-in_err-out
 returns-in_err-out c =
     lacks _ (first_bad_of_profile c.args.file c.args.text.now) c.from_residual-in_err-out.result c.from_residual-in_err-out.ensures.1

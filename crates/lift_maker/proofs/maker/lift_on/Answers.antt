@@ -27,6 +27,10 @@ pub lift_read-requires-clause-known : goal.lift_read-requires-clause-known
 lift_read-requires-clause-known c =
     more_have_keys _ _ (kept_grows _ _ c.in_ok-part.ensures.1.keys_kept) c.args.segments.now c.requires.known
 
+pub lift_read-requires-clause-numbers : goal.lift_read-requires-clause-numbers
+lift_read-requires-clause-numbers c =
+    let tells = c.in_ok-part.ensures.1 in record { key_names = tells.named; given = tells.told.given; once = tells.once }
+
 pub lift_read-requires-clause-told : goal.lift_read-requires-clause-told
 lift_read-requires-clause-told c =
     told_whole c.args.file (map function_of c.args.funs.now) c.args.text.now (map numbered c.deref.result.now) c.requires.size
@@ -48,8 +52,8 @@ returns c = λ blocks same.
         lifts_same _ _ _ _ c.in_ok-lifted.lifted
             (λ i. failed_line (same i) (are i))
             (ap profile_text
-            (lines_are_lifted c.read_part.new.names c.read_part.new.keys c.args.segments.now c.args.funs.now c.deref.result.now c.in_ok-part.part.items
-            (way_in c.read_part.new.names c.read_part.new.keys c.args.segments.now) blocks c.args.text.now
+            (lines_are_lifted c.read_behind.new.names c.read_behind.new.keys c.args.segments.now c.args.funs.now c.deref.result.now c.in_ok-part.part.items
+            (way_in c.read_behind.new.names c.read_behind.new.keys c.args.segments.now) blocks c.args.text.now
             (λ address. refl) same are (part_is_spelled _ _ _ _ _ _ tells)))
             c.in_ok-lifted.ensures,
       ),

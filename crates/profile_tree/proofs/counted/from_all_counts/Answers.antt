@@ -7,10 +7,10 @@ use Rattle.profile_tree.specs.Told.{told}
 use Rattle.profile_tree.proofs.counted.from_all_counts.Goals as goal
 
 pub lines_of_counts-requires-clause-call_sums : goal.lines_of_counts-requires-clause-call_sums
-lines_of_counts-requires-clause-call_sums c = calls_once_fit c.args.calls.now c.requires.calls_once c.calls_fit.ensures
+lines_of_counts-requires-clause-call_sums c = calls_once_fit c.args.calls.now c.requires.summed.calls_once c.calls_fit.ensures
 
 pub lines_of_counts-requires-clause-head_sums : goal.lines_of_counts-requires-clause-head_sums
-lines_of_counts-requires-clause-head_sums c = heads_once_fit c.args.heads.now c.requires.heads_once c.heads_fit.ensures
+lines_of_counts-requires-clause-head_sums c = heads_once_fit c.args.heads.now c.requires.summed.heads_once c.heads_fit.ensures
 
 pub returns-clause-lines : goal.returns-clause-lines
 returns-clause-lines c =

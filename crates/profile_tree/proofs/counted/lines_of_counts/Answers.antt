@@ -17,12 +17,12 @@ pub targets_of-requires-clause-fit : goal.targets_of-requires-clause-fit
 targets_of-requires-clause-fit c =
     let names = c.args.names.now in
     subst (λ xs. (key rank : ℕ) → sum_at (map (pair_of xs) (filter was_made c.args.calls.now)) key rank < 2 ^ 64) (sym c.as_slice-3.ensures)
-    (rank_sums_fit names c.in_ok-by_name.by_name.ranks c.in_ok-by_name.by_name.ids (record { ranks = c.in_ok-by_name.ensures }) c.args.calls.now (length c.args.keys.now) c.requires.calls c.requires.call_sums)
+    (rank_sums_fit names c.in_ok-by_name.by_name.ranks c.in_ok-by_name.by_name.ids (record { ranks = c.in_ok-by_name.ensures }) c.args.calls.now (length c.args.keys.now) c.requires.given.called c.requires.call_sums)
 
 pub lines_of-requires-clause-targets : goal.lines_of-requires-clause-targets
 lines_of-requires-clause-targets c =
     targets_low c.args.names.now c.args.keys.now c.args.calls.now c.args.heads.now c.in_ok-by_name.by_name.ranks c.as_slice-3.result.now c.in_ok-by_name.by_name.ids c.in_ok-targets.targets
-    (record { names_apart = c.requires.names; keys_apart = c.requires.keys; key_names = c.requires.key_names; calls_given = c.requires.calls; heads_given = c.requires.heads })
+    (record { names_apart = c.requires.names; keys_apart = c.requires.keys; given = c.requires.given })
     c.in_ok-by_name.ensures c.as_slice-3.ensures c.in_ok-targets.ensures
 
 -- the lines that are told, by the parts that they are made of
@@ -42,7 +42,7 @@ module _ (c : After-deref-4) where
   all : TellAll names parts c.deref-4.result.now (lines_with (ways_said names c.args.keys.now c.args.besides.now) (said names c.args.keys.now c.args.counts.now c.args.calls.now c.args.heads.now))
   all =
       all_told_from names c.args.keys.now c.args.calls.now c.args.besides.now c.args.heads.now parts
-      (record { names_apart = c.requires.names; keys_apart = c.requires.keys; key_names = c.requires.key_names; calls_given = c.requires.calls; heads_given = c.requires.heads }) c.requires.besides
+      (record { names_apart = c.requires.names; keys_apart = c.requires.keys; given = c.requires.given }) c.requires.besides
       c.len.ensures c.in_ok-totals.ensures c.deref.ensures.value c.in_ok-by_total.ensures c.in_ok-by_name.ensures c.as_slice.ensures c.as_slice-2.ensures c.in_ok-items.ensures
       c.in_ok-sort_items.ensures.same c.deref-2.ensures.value c.in_ok-rows.ensures c.deref-4.ensures.value c.as_slice-3.ensures c.in_ok-targets.ensures c.len-2.ensures c.in_ok-heads.ensures c.deref-3.ensures.value c.requires.len
 

@@ -9,6 +9,10 @@ sweep-requires-clause-times g c = times_small _ c.args.ranges.now (c.deref.ensur
 pub build-requires-clause-hits : goal.build-requires-clause-hits
 build-requires-clause-hits g c = hits_small _ _ c.args.ranges.now c.in_ok-hits.ensures (c.deref.ensures.value ∙ c.in_ok-ran_of.ensures) c.requires.few_ranges
 
+pub build-requires-clause-given : goal.build-requires-clause-given
+build-requires-clause-given g c =
+    rw (c.deref-2.ensures.value, c.in_ok-calls.ensures, c.deref-3.ensures.value, c.in_ok-heads.ensures) c.requires.given
+
 pub build-requires-clause-call_sums : goal.build-requires-clause-call_sums
 build-requires-clause-call_sums g c = calls_small _ _ c.args.branches.now (c.deref-2.ensures.value ∙ c.in_ok-calls.ensures) c.requires.few_branches
 

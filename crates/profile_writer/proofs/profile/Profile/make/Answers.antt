@@ -1,20 +1,14 @@
 use Rattle.std.proofs.Common.{◌∙◌}
-use Rattle.profile_writer.proofs.BranchLemmas.{calls_in_given, heads_in_given}
+use Rattle.profile_writer.proofs.BranchLemmas.{rows_given}
 use Rattle.profile_writer.proofs.OutputLemmas.{profile_alike}
 use Rattle.profile_writer.proofs.RanLemmas.{ran_in_forward}
 use Rattle.profile_writer.proofs.profile.Profile.make.Goals as goal
 
-pub tree_of-requires-clause-calls : goal.tree_of-requires-clause-calls
-tree_of-requires-clause-calls g c =
+pub tree_of-requires-clause-given : goal.tree_of-requires-clause-given
+tree_of-requires-clause-given g c =
     let map = c.args.places.now in
-    calls_in_given c.requires.shown.0 c.args.names.now c.args.keys.now c.args.segments.now (g.P.Places.place_of map) (g.P.Places.function_of map) (g.P.Places.entry_name_of map) c.requires.shown.1
-    c.args.samples.now.branches.now c.deref.result.now (c.deref.ensures.value ∙ c.in_ok-branches.ensures)
-
-pub tree_of-requires-clause-heads : goal.tree_of-requires-clause-heads
-tree_of-requires-clause-heads g c =
-    let map = c.args.places.now in
-    heads_in_given c.requires.shown.0 c.args.names.now c.args.keys.now c.args.segments.now (g.P.Places.place_of map) (g.P.Places.function_of map) (g.P.Places.entry_name_of map) c.requires.shown.1
-    c.args.samples.now.branches.now c.deref.result.now (c.deref.ensures.value ∙ c.in_ok-branches.ensures)
+    rows_given c.requires.shown.0 c.args.names.now c.args.keys.now c.args.segments.now (g.P.Places.place_of map) (g.P.Places.function_of map) (g.P.Places.entry_name_of map) c.requires.shown.1
+    c.args.samples.now.branches.now c.requires.key_names c.deref.result.now (c.deref.ensures.value ∙ c.in_ok-branches.ensures)
 
 pub tree_of-requires-clause-forward : goal.tree_of-requires-clause-forward
 tree_of-requires-clause-forward g c =

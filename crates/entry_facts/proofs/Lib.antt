@@ -2,4 +2,3 @@ pub mod WayLemmas
 pub mod FoundLemmas
 pub mod StepLemmas
 pub mod MemoLemmas
-pub mod OrderLemmas

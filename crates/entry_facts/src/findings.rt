@@ -1,8 +1,7 @@
 // The attributes on a way that count.
-ghost use Rattle.std.specs.Prelude.{◌≡◌, ◌^◌, ◌∷◌, [], List};
+ghost use Rattle.std.specs.Prelude.{◌≡◌, ◌∷◌, [], List};
 ghost use Rattle.unit_model.specs.Entries.{Entry as entry_told};
 ghost use Rattle.dwarf_forms.specs.Meaning.{meaning_of};
-ghost use Rattle.entry_model.specs.Order.{AreInOrder};
 ghost use Rattle.tree_model.specs.Way.{way_from};
 ghost use Rattle.std.specs.Option.{option_map};
 ghost use Rattle.tree_model.specs.Origin.{first_on, line_on, naming, number_of as number_told};
@@ -66,7 +65,6 @@ pub(crate) fn findings_from<'a>(
     steps: u32,
     entry: &Entry<'a, '_>,
 ) -> Result<Findings<'a>, Place>
-    requires { AreInOrder 0 (2 ^ 64) info.now.units.now.entries }
     ensures { FindsOn result (way_from (info_of info.now) began steps entry.now) }
 {
     let next = match next_on_way(info, entry) {

@@ -1,7 +1,6 @@
 ghost use Rattle.std.specs.Prelude.{◌<◌, ◌-◌, ◌^◌, length, Result};
 ghost use Rattle.std.specs.Option.{option_map};
 ghost use Rattle.dwarf_strings.specs.Meaning.{Gives, sections_of};
-ghost use Rattle.entry_model.specs.Order.{AreInOrder};
 ghost use Rattle.tree_model.specs.Origin.{Origin as told_origin, origin as origin_told, said_on};
 ghost use Rattle.refusal.specs.declared.place.Place.{Place};
 ghost use Rattle.tree_model.specs.Way.{way_from};
@@ -51,7 +50,6 @@ pub fn origin_of<'a>(
     entry: &Entry<'a, '_>,
     names: &mut Names<'a>,
 ) -> Result<Origin, Stop>
-    requires order { AreInOrder 0 (2 ^ 64) info.now.units.now.entries }
     requires room { length names.old < 2 ^ 32 - 1 }
     ensures told { GivesOrigin names.new result (origin_told (sections_of info.now.texts.now)
         (info_of info.now) entry.now) }
@@ -72,7 +70,6 @@ pub(crate) fn said_from<'a>(
     steps: u32,
     entry: &Entry<'a, '_>,
 ) -> Result<Said<'a>, Place>
-    requires { AreInOrder 0 (2 ^ 64) info.now.units.now.entries }
     ensures { Gives said_of result (said_on (sections_of info.now.texts.now) info.now.units.now
         (way_from (info_of info.now) began steps entry.now)) }
 {

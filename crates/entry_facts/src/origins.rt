@@ -1,7 +1,6 @@
 ghost use Rattle.std.specs.Prelude.{◌≡◌, ◌<◌, ◌-◌, ◌^◌, [], length, IfSome, IsTrue, None, Some};
 ghost use Rattle.dwarf_strings.specs.Meaning.{sections_of};
 ghost use Rattle.tree_model.specs.Bases.{attribute as attribute_told};
-ghost use Rattle.entry_model.specs.Order.{AreInOrder};
 ghost use Rattle.tree_model.specs.Way.{entry_beginning_at as beginning_told, way_from};
 ghost use Rattle.tree_model.specs.Origin.{origin as origin_told, said_on};
 ghost use Rattle.entry_facts.specs.Meaning.{Extends, GivesOrigin, info_of};
@@ -75,7 +74,6 @@ impl Origins {
         next: &Entry<'a, '_>,
         names: &mut Names<'a>,
     ) -> Result<Origin, Stop>
-        requires order { AreInOrder 0 (2 ^ 64) info.now.units.now.entries }
         requires room { length names.old < 2 ^ 32 - 1 }
         requires begins { beginning_told info.now.units.now.entries at ≡ Some next.now }
         requires known { Remembers (sections_of info.now.texts.now) (info_of info.now) names.old
@@ -106,7 +104,6 @@ impl Origins {
         entry: &Entry<'a, '_>,
         names: &mut Names<'a>,
     ) -> Result<Origin, Stop>
-        requires order { AreInOrder 0 (2 ^ 64) info.now.units.now.entries }
         requires room { length names.old < 2 ^ 32 - 1 }
         requires known { Remembers (sections_of info.now.texts.now) (info_of info.now) names.old
             self.old }

@@ -1,7 +1,6 @@
 // The way of an entry, step by step.
-ghost use Rattle.std.specs.Prelude.{◌≡◌, ◌^◌};
+ghost use Rattle.std.specs.Prelude.{◌≡◌};
 ghost use Rattle.dwarf_forms.specs.Meaning.{meaning_of};
-ghost use Rattle.entry_model.specs.Order.{AreInOrder};
 ghost use Rattle.tree_model.specs.Way.{entry_beginning_at as entry_told, is_passed_over as passed_over_told, led_to as led_to_told, next_on_way as next_told, reference_of as reference_told, start_of_unit as start_told, target_of as target_told};
 ghost use Rattle.entry_facts.specs.Meaning.{info_of};
 
@@ -21,7 +20,6 @@ pub(crate) fn next_on_way<'a, 'u>(
     info: &Info<'a, 'u>,
     entry: &Entry<'a, '_>,
 ) -> Result<Option<Entry<'a, 'u>>, Place>
-    requires { AreInOrder 0 (2 ^ 64) info.now.units.now.entries }
     ensures { result ≡ next_told (info_of info.now) entry.now }
 {
     match reference_of(entry) {
@@ -73,7 +71,6 @@ fn led_to<'a, 'u>(
     place: u64,
     target: Option<u128>,
 ) -> Result<Option<Entry<'a, 'u>>, Place>
-    requires { AreInOrder 0 (2 ^ 64) units.now.entries }
     ensures { result ≡ led_to_told units.now place target }
 {
     let Some(at) = target else {
@@ -90,9 +87,10 @@ fn led_to<'a, 'u>(
 
 /// The entry that begins at an offset in the file.
 pub(crate) fn entry_beginning_at<'a, 'u>(units: &'u Units<'a>, at: u128) -> Option<Entry<'a, 'u>>
-    requires { AreInOrder 0 (2 ^ 64) units.now.entries }
     ensures { result ≡ entry_told units.now.entries at }
 {
+    // It tells that the entries stand in the order of the file.
+    units.units();
     if at > u128::from(u64::MAX) {
         return None;
     }

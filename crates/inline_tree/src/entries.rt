@@ -1,6 +1,5 @@
 // The entries of a unit, one behind the other.
 ghost use Rattle.std.specs.Prelude.{◌≡◌, ◌+◌, ◌-◌, ◌<◌, ◌≤◌, ◌^◌, length, OnOk};
-ghost use Rattle.entry_model.specs.Order.{AreInOrder};
 ghost use Rattle.entry_facts.specs.Meaning.{Extends};
 ghost use Rattle.tree_model.specs.Pieces.{max_pieces, pieces as pieces_told};
 ghost use Rattle.entry_facts.specs.Told.{GivesUnlessNoMemory, in_unit};
@@ -44,7 +43,6 @@ fn next_function<'a>(
     entry: &Entry<'a, '_>,
     all: &mut Collected<'a>,
 ) -> Result<(), Stop>
-    requires order { AreInOrder 0 (2 ^ 64) source.now.units.now.entries }
     requires room { length all.old.names < 2 ^ 32 - 1 }
     requires few { all.old.members.pieces ≤ max_pieces }
     requires known { Knows (source_of source.now) all.old.names all.old.origins }
@@ -89,7 +87,6 @@ fn next_call<'a>(
     entry: &Entry<'a, '_>,
     all: &mut Collected<'a>,
 ) -> Result<(), Stop>
-    requires order { AreInOrder 0 (2 ^ 64) source.now.units.now.entries }
     requires room { length all.old.names < 2 ^ 32 - 1 }
     requires few { all.old.members.pieces ≤ max_pieces }
     requires known { Knows (source_of source.now) all.old.names all.old.origins }
@@ -128,7 +125,6 @@ pub(crate) fn next_entry<'a>(
     entry: &Entry<'a, '_>,
     all: &mut Collected<'a>,
 ) -> Result<(), Stop>
-    requires order { AreInOrder 0 (2 ^ 64) source.now.units.now.entries }
     requires room { length all.old.names < 2 ^ 32 - 1 }
     requires few { all.old.members.pieces ≤ max_pieces }
     requires known { Knows (source_of source.now) all.old.names all.old.origins }

@@ -1,5 +1,4 @@
 ghost use Rattle.std.specs.Prelude.{◌<◌, ◌-◌, ◌^◌, length};
-ghost use Rattle.entry_model.specs.Order.{AreInOrder};
 ghost use Rattle.tree_model.specs.Origin.{origin as origin_told};
 ghost use Rattle.entry_facts.specs.Meaning.{Extends, GivesOrigin};
 ghost use Rattle.inline_tree.specs.Told.{Knows, source_of};
@@ -32,7 +31,6 @@ impl<'a, 's> Source<'a, 's> {
         names: &mut Names<'a>,
         origins: &mut Origins,
     ) -> Result<Origin, Stop>
-        requires order { AreInOrder 0 (2 ^ 64) self.now.units.now.entries }
         requires room { length names.old < 2 ^ 32 - 1 }
         requires known { Knows (source_of self.now) names.old origins.old }
         ensures told { let source = source_of self.now in

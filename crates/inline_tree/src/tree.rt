@@ -2,7 +2,6 @@
 ghost use Rattle.std.specs.Prelude.{◌≡◌, ◌+◌, ◌-◌, ◌<◌, ◌≤◌, ◌^◌, length, IfOk, OnOk};
 ghost use Rattle.std.specs.Result.{result_err};
 ghost use Rattle.refusal.specs.Place.{JudgesUnlessNoMemory};
-ghost use Rattle.entry_model.specs.Order.{AreInOrder};
 ghost use Rattle.entry_facts.specs.Told.{in_unit};
 ghost use Rattle.member_lists.specs.Frames.{SoFar as so_far_told, all_members};
 ghost use Rattle.tree_model.specs.Members.{Told};
@@ -67,7 +66,6 @@ fn next_entries<'a>(
     unit: &Unit,
     all: &mut Collected<'a>,
 ) -> Result<(), Stop>
-    requires order { AreInOrder 0 (2 ^ 64) source.now.units.now.entries }
     requires room { length all.old.names + unit.now.count < 2 ^ 32 - 1 }
     requires few { all.old.members.pieces ≤ max_pieces }
     requires known { Knows (source_of source.now) all.old.names all.old.origins }
@@ -94,7 +92,6 @@ fn next_unit<'a>(
     unit: &Unit,
     all: &mut Collected<'a>,
 ) -> Result<(), Stop>
-    requires order { AreInOrder 0 (2 ^ 64) source.now.units.now.entries }
     requires room { length all.old.names + unit.now.count < 2 ^ 32 - 1 }
     requires few { all.old.members.pieces ≤ max_pieces }
     requires known { Knows (source_of source.now) all.old.names all.old.origins }

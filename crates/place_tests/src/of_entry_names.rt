@@ -1,6 +1,3 @@
-ghost use Rattle.std.specs.Prelude.{◌^◌, IfSome};
-ghost use Rattle.entry_model.specs.Order.{AreInOrder};
-
 use byte_view::Part;
 use dwarf_info::{Units, read_units};
 use dwarf_strings::Texts;
@@ -40,9 +37,7 @@ const UNITS: &'static [u8] = b"\x01\x11\x01\0\0\
 \x02\0\0\0\x02\0";
 
 // The units of two sections.
-fn read_parts<'a>(alloc: Global, info: Part<'a>, abbrev: Part<'_>) -> Option<Units<'a>>
-    ensures { IfSome result (λ units. AreInOrder 0 (2 ^ 64) units.entries) }
-{
+fn read_parts<'a>(alloc: Global, info: Part<'a>, abbrev: Part<'_>) -> Option<Units<'a>> {
     if info.at > 1000 || info.len > 1000 {
         return None;
     }
@@ -53,9 +48,7 @@ fn read_parts<'a>(alloc: Global, info: Part<'a>, abbrev: Part<'_>) -> Option<Uni
 }
 
 // The units of a file, which stand behind its abbreviations from an offset on.
-fn read(alloc: Global, file: &[u8], at: usize) -> Option<Units<'_>>
-    ensures { IfSome result (λ units. AreInOrder 0 (2 ^ 64) units.entries) }
-{
+fn read(alloc: Global, file: &[u8], at: usize) -> Option<Units<'_>> {
     if at > file.len() {
         return None;
     }
@@ -78,9 +71,7 @@ fn told<'a>(
     units: &Units<'a>,
     start: usize,
     at: u64,
-) -> Option<Result<(Option<&'a [u8]>, u64), Place>>
-    requires { AreInOrder 0 (2 ^ 64) units.now.entries }
-{
+) -> Option<Result<(Option<&'a [u8]>, u64), Place>> {
     let place = units.entry_at(at)?;
     let entry = units.entry(place)?;
     let Ok(mut names) = Names::new(alloc) else {
@@ -102,9 +93,7 @@ fn told<'a>(
 }
 
 // Whether an origin that is kept is the one that is worked out, at the entry at an offset.
-fn kept_is_told(alloc: Global, units: &Units<'_>, start: usize, at: u64) -> Option<bool>
-    requires { AreInOrder 0 (2 ^ 64) units.now.entries }
-{
+fn kept_is_told(alloc: Global, units: &Units<'_>, start: usize, at: u64) -> Option<bool> {
     let place = units.entry_at(at)?;
     let entry = units.entry(place)?;
     let Ok(mut names) = Names::new(alloc) else {

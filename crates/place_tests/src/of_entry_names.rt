@@ -36,6 +36,17 @@ const UNITS: &'static [u8] = b"\x01\x11\x01\0\0\
 \x04_f\0\x07\0\
 \x02\0\0\0\x02\0";
 
+// The units of two sections.
+fn read_parts<'a>(alloc: Global, info: Part<'a>, abbrev: Part<'_>) -> Option<Units<'a>> {
+    if info.len > 1000 {
+        return None;
+    }
+    match read_units(alloc, Some(info), Some(abbrev)) {
+        Ok(units) => Some(units),
+        Err(_) => None,
+    }
+}
+
 // The units of a file, which stand behind its abbreviations from an offset on.
 fn read(alloc: Global, file: &[u8], at: usize) -> Option<Units<'_>> {
     if at > file.len() {
@@ -51,10 +62,7 @@ fn read(alloc: Global, file: &[u8], at: usize) -> Option<Units<'_>> {
         at,
         len: file.len() - at,
     };
-    match read_units(alloc, Some(info), Some(abbrev)) {
-        Ok(units) => Some(units),
-        Err(_) => None,
-    }
+    read_parts(alloc, info, abbrev)
 }
 
 // The name and the line of the entry at an offset of the units.

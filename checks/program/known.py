@@ -1253,6 +1253,12 @@ def makes():
         "64 functions within a bound on augmentations", (DONE, b"# end 40\n" * 64, b""), ["build", "--scaled", "bin", "perf", "cfg"],
         told=lambda out: b"".join(re.findall(rb"# end .*\n", out)), **files,
     )
+    # Whoever reads what it wrote passes its last line over: the answers are those to the text without it.
+    scaled = run(["build", "--scaled", "bin", "perf", "cfg"], files).stdout
+    for words in ["check cfg out", "lift bin cfg out", "merge 1 out", "summary out"]:
+        front, _, _ = scaled.rpartition(b"# augmentations ")
+        whole = run(words.split(), {**files, "out": front})
+        judge("the last line is passed over: " + words, (DONE, whole.stdout, b""), words.split(), out=scaled, **files)
 
 
 def large():

@@ -936,6 +936,13 @@ BOUNDED_CUT = (
 )
 
 
+def shown():
+    """The repair text that docs/FORMATS.md shows."""
+    page = os.path.join(os.path.dirname(os.path.abspath(__file__)), "..", "..", "docs", "FORMATS.md")
+    with open(page, "rb") as text:
+        return re.search(rb"```\n(# function f0000 flow\n.*?)```", text.read(), re.DOTALL)[1]
+
+
 def with_line(text, number, line):
     """A text with another line in the place of this one, or without it."""
     lines = text.splitlines(keepends=True)
@@ -958,6 +965,8 @@ def checks():
 
     passes("counts", BLOCKS, COUNTS)
     passes("a cut", LOOP, CUT)
+    two = b"func f0000\nblock 0 0x401000 0x401008\nblock 1 0x401008 0x401010 exit\nedge 0 1\nend\n"
+    passes("what docs/FORMATS.md shows", two + LOOP, shown(), 2)
     passes("weights of edges", BLOCKS, WEIGHED)
     passes("a cut by bounds", BOUNDED, BOUNDED_CUT)
     passes("no function", b"", b"", 0)

@@ -7,6 +7,9 @@ use std::alloc::Global;
 use text_scan::push_number;
 
 /// What `check` writes where each of so many functions has a repair that keeps what it promises.
+///
+/// # Errors
+/// `NoMemory`.
 pub fn checked_text(alloc: Global, functions: usize) -> Result<Vec<u8>, NoMemory>
     ensures { IfOk result (λ out. out.items ≡ text_told functions) }
 {

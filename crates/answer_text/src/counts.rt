@@ -13,6 +13,9 @@ use text_scan::{push_hex, push_number};
 
 /// What `counts` writes of what was counted of a branch text: the lines of the branches, by source
 /// and then by target, and the line of their number.
+///
+/// # Errors
+/// `NoMemory`.
 pub fn counts_text(alloc: Global, counts: Counts) -> Result<Vec<u8>, NoMemory>
     ensures { IfOk result (λ out. (lines : List (List ℕ)) → Tells None lines counts →
         out.items ≡ model.counts_text (branches_of_lines lines)) }

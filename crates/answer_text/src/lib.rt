@@ -1,5 +1,5 @@
-//! What `counts`, `where` and `check` write: a branch text's counts, a binary's place, and how many
-//! functions were checked.
+//! What `counts`, `where` and `check` write: a branch text's counts, the place of an address, and
+//! how many functions were checked.
 #![tactic(auto)]
 
 mod checked;

@@ -14,6 +14,9 @@ use text_scan::push_number;
 
 /// What `where` writes of a place: a line with the function, each inlined call that stands around
 /// the address, and the line of source; or why there is none.
+///
+/// # Errors
+/// `NoMemory`.
 pub fn place_line(
     alloc: Global,
     names: &Names<'_>,

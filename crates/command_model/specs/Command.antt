@@ -1,9 +1,9 @@
 -- The words of a command.
-use Rattle.std.specs.Prelude.{ℕ, true, false, ◌&&◌, nat_le, List, [], ◌∷◌, drop, length, codes, Option, None, Some, option_and_then, if◌then◌else◌}
+use Rattle.std.specs.Prelude.{ℕ, ◌&&◌, nat_le, List, [], ◌∷◌, drop, length, codes, Option, None, Some, option_and_then, if◌then◌else◌}
 use Rattle.std.specs.Option.{option_map}
 use Rattle.std.specs.Str.{bytes_eq}
 use Rattle.text_model.specs.Numbers.{decimal_of, has_prefix, hex_of}
-use Rattle.command_model.specs.Options.{Options, operands_of, options_in, options_of}
+use Rattle.command_model.specs.Options.{Options, base_has, build_has, operands_of, options_in, options_of, profile_has}
 
 -- A file of a generated case: the binary, the branch text or the block text.
 pub data CaseFile : Type 0 where
@@ -11,7 +11,7 @@ pub data CaseFile : Type 0 where
   perf_file : CaseFile
   cfg_file : CaseFile
 
--- What a user can ask for.
+-- What a user can ask for. Files are told by their names.
 pub data Command : Type 0 where
   -- The branches of a branch text, counted.
   counts : List ℕ → Command
@@ -41,9 +41,13 @@ pub data Command : Type 0 where
 abbrev pub digits_of : List ℕ → List ℕ
 digits_of word = if has_prefix word then drop 2 word else word
 
+-- An address has at most sixteen digits.
+abbrev pub max_digits : ℕ
+max_digits = 16
+
 -- An address is one to sixteen hexadecimal digits.
 unfoldable pub address_of : List ℕ → Option ℕ
-address_of word = if nat_le (length (digits_of word)) 16 then hex_of (digits_of word) else None
+address_of word = if nat_le (length (digits_of word)) max_digits then hex_of (digits_of word) else None
 
 -- `counts PERF`
 abbrev pub counts_of : List (List ℕ) → List (List ℕ) → Option Command
@@ -54,21 +58,21 @@ counts_of _ _ = None
 abbrev pub where_of : List (List ℕ) → List (List ℕ) → Option Command
 where_of words (bin ∷ hex ∷ []) =
     option_and_then (λ options. option_map (where_ options bin) (address_of hex))
-    (options_of (record { map = false; base = true; edges = false; scaled = false }) words)
+    (options_of base_has words)
 where_of words _ = None
 
 -- `profile [--map=NAME] [--base] BIN PERF`
 abbrev pub profile_of : List (List ℕ) → List (List ℕ) → Option Command
 profile_of words (bin ∷ perf ∷ []) =
     option_map (λ options. profile options bin perf)
-    (options_of (record { map = true; base = true; edges = false; scaled = false }) words)
+    (options_of profile_has words)
 profile_of words _ = None
 
 -- `build [--map=NAME] [--base] [--edges] [--scaled] BIN PERF CFG`
 abbrev pub build_of : List (List ℕ) → List (List ℕ) → Option Command
 build_of words (bin ∷ perf ∷ cfg ∷ []) =
     option_map (λ options. build options bin perf cfg)
-    (options_of (record { map = true; base = true; edges = true; scaled = true }) words)
+    (options_of build_has words)
 build_of words _ = None
 
 -- `check CFG OUT`
@@ -135,7 +139,7 @@ summary_of _ _ = None
 abbrev pub lift_of : List (List ℕ) → List (List ℕ) → Option Command
 lift_of words (bin ∷ cfg ∷ out ∷ []) =
     option_map (λ options. lift options bin cfg out)
-    (options_of (record { map = false; base = true; edges = false; scaled = false }) words)
+    (options_of base_has words)
 lift_of words _ = None
 
 -- The command of a name, by the words of its options and those behind them.

@@ -1,5 +1,5 @@
 -- The options of a command.
-use Rattle.std.specs.Prelude.{ℕ, ◌+◌, Bool, ◌&&◌, ◌||◌, nat_lt, nat_eq, List, [], ◌∷◌, take, drop, length, count_by, codes, Option, None, Some, is_some, slice_get, if◌then◌else◌}
+use Rattle.std.specs.Prelude.{ℕ, ◌+◌, Bool, true, false, ◌&&◌, ◌||◌, nat_lt, nat_eq, List, [], ◌∷◌, take, drop, length, count_by, codes, Option, None, Some, is_some, slice_get, if◌then◌else◌}
 use Rattle.std.specs.List.{filter_map, list_all, starts_with}
 use Rattle.std.specs.Str.{bytes_eq}
 
@@ -35,6 +35,18 @@ pub record Has : Type 0 where
   pub base : Bool
   pub edges : Bool
   pub scaled : Bool
+
+-- The options of `where`, of `lift` and of `pgo-cold`.
+abbrev pub base_has : Has
+base_has = record { map = false; base = true; edges = false; scaled = false }
+
+-- The options of `profile`.
+abbrev pub profile_has : Has
+profile_has = record { map = true; base = true; edges = false; scaled = false }
+
+-- The options of `build`.
+abbrev pub build_has : Has
+build_has = record { map = true; base = true; edges = true; scaled = true }
 
 -- The name in an option `--map=NAME`, which is not empty.
 unfoldable pub map_name : List ℕ → Option (List ℕ)

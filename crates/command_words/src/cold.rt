@@ -8,7 +8,8 @@ use crate::command::{BASE_HAS, option_count};
 use crate::options::{Options, options_of};
 
 /// What `pgo-cold` is asked for: the profile in this file, with a line for each place of this
-/// binary in the functions that it has.
+/// binary in the functions that it has. Files are told by their names, as they stand among the
+/// words.
 #[derive(Clone, Copy, Debug)]
 pub struct Cold<'a> {
     pub options: Options<'a>,
@@ -16,7 +17,7 @@ pub struct Cold<'a> {
     pub profile: &'a [u8],
 }
 
-/// What the words ask `pgo-cold` for.
+/// What the words behind the program's name ask `pgo-cold` for, if they ask for something.
 #[tactic(auto, unfolding(command_model::specs::Cold::cold_of))]
 pub fn parse_cold(words: &[Vec<u8>]) -> Option<Cold<'_>>
     ensures { option_map cold_meaning result ≡ cold_of (texts_of words.now) }

@@ -12,13 +12,13 @@ use std::num::NonZeroU16;
 use text_scan::{decimal, hex};
 
 /// The most digits of an address.
-const MOST_DIGITS: usize = 16;
+const MAX_DIGITS: usize = 16;
 
 /// The greatest weight.
 const MAX_WEIGHT: u64 = 65_535;
 
 /// The most files of a merge.
-const MOST_PARTS: usize = 8;
+pub const MAX_PARTS: usize = 8;
 
 /// The options of `where`, of `lift` and of `pgo-cold`.
 pub(crate) const BASE_HAS: Has = Has {
@@ -28,6 +28,7 @@ pub(crate) const BASE_HAS: Has = Has {
     scaled: false,
 };
 
+/// The options of `profile`.
 const PROFILE_HAS: Has = Has {
     map: true,
     base: true,
@@ -35,6 +36,7 @@ const PROFILE_HAS: Has = Has {
     scaled: false,
 };
 
+/// The options of `build`.
 const BUILD_HAS: Has = Has {
     map: true,
     base: true,
@@ -59,7 +61,7 @@ impl Default for Part<'_> {
     }
 }
 
-/// What a user asks for.
+/// What a user asks for. Files are told by their names, as they stand among the words.
 #[derive(Debug, Drop)]
 pub enum Command<'a> {
     /// The branches of this branch text, counted.
@@ -100,7 +102,7 @@ pub enum Command<'a> {
         functions: u64,
     },
     /// The sum of the profiles in these files.
-    Merge(ArrayVec<Part<'a>, MOST_PARTS>),
+    Merge(ArrayVec<Part<'a>, MAX_PARTS>),
     /// How hot the lines of the profile in this file are.
     Summary(&'a [u8]),
     /// The profile in what was built of this binary and this block text, with the repaired counts
@@ -113,7 +115,7 @@ pub enum Command<'a> {
     },
 }
 
-/// The command that the words spell.
+/// The command that the words behind the program's name spell, if they spell one.
 #[tactic(auto, unfolding(command_model::specs::Command::command_of))]
 pub fn parse(words: &[Vec<u8>]) -> Option<Command<'_>>
     ensures { option_map meaning_of result ≡ command_of (texts_of words.now) }
@@ -299,7 +301,7 @@ fn parse_merge<'a>(options: &[Vec<u8>], operands: &'a [Vec<u8>]) -> Option<Comma
 }
 
 /// Files, each behind its weight, if there are not too many.
-fn parts_of(words: &[Vec<u8>]) -> Option<ArrayVec<Part<'_>, MOST_PARTS>>
+fn parts_of(words: &[Vec<u8>]) -> Option<ArrayVec<Part<'_>, MAX_PARTS>>
     ensures { option_map (λ parts. map told_weighed parts.items) result
         ≡ option_and_then few (parts_told (texts_of words.now)) }
 {
@@ -371,7 +373,7 @@ fn address_of(word: &[u8]) -> Option<u64>
     ensures { result ≡ address_told word.now }
 {
     let digits = digits_of(word);
-    if digits.len() > MOST_DIGITS {
+    if digits.len() > MAX_DIGITS {
         return None;
     }
     match hex(digits) {

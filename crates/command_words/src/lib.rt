@@ -9,5 +9,5 @@ mod command;
 mod options;
 
 pub use cold::{Cold, parse_cold};
-pub use command::{Command, Part, parse};
+pub use command::{Command, MAX_PARTS, Part, parse};
 pub use options::Options;

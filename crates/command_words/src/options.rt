@@ -2,8 +2,18 @@
 ghost use Rattle.std.specs.Prelude.{◌≡◌, ◌≤◌, count_by, length};
 ghost use Rattle.std.specs.List.{list_all};
 ghost use Rattle.std.specs.Option.{option_map};
-ghost use Rattle.command_model.specs.Options.{are_of as are_told, first_map, is_base as base_told, is_edges as edges_told, is_map as map_told, is_scaled as scaled_told, is_of as of_told, map_name as name_told, options_of as options_told};
+ghost use Rattle.std.specs.Str.{bytes_eq};
+ghost use Rattle.command_model.specs.Options.{are_of as are_told, first_map, is_map as map_told, is_of as of_told, map_name as name_told, options_of as options_told};
 ghost use Rattle.command_words.specs.Words.{texts_of, told_has, told_options};
+
+/// The option for bases in place of discriminators.
+const BASE: &[u8] = b"--base";
+
+/// The option for weights of edges.
+const EDGES: &[u8] = b"--edges";
+
+/// The option for repairs within a bound on augmentations.
+const SCALED: &[u8] = b"--scaled";
 
 /// What the options of a command say. A command without one of them is carried out as where it is
 /// not given.
@@ -40,9 +50,9 @@ pub(crate) fn options_of(has: Has, words: &[Vec<u8>]) -> Option<Options<'_>>
     }
     Some(Options {
         map: map_asked(words),
-        base: bases(words) > 0,
-        edges: edges(words) > 0,
-        scaled: scaled(words) > 0,
+        base: times_of(BASE, words) > 0,
+        edges: times_of(EDGES, words) > 0,
+        scaled: times_of(SCALED, words) > 0,
     })
 }
 
@@ -52,9 +62,9 @@ fn are_of(has: Has, words: &[Vec<u8>]) -> bool
 {
     all_of(has, words)
         && maps(words) < 2
-        && bases(words) < 2
-        && edges(words) < 2
-        && scaled(words) < 2
+        && times_of(BASE, words) < 2
+        && times_of(EDGES, words) < 2
+        && times_of(SCALED, words) < 2
 }
 
 /// Whether each word is an option that the command has.
@@ -74,9 +84,9 @@ fn is_of(has: Has, word: &[u8]) -> bool
     ensures { result ≡ of_told (told_has has) word.now }
 {
     (has.map && map_name(word).is_some())
-        || (has.base && is_base(word))
-        || (has.edges && is_edges(word))
-        || (has.scaled && is_scaled(word))
+        || (has.base && word == BASE)
+        || (has.edges && word == EDGES)
+        || (has.scaled && word == SCALED)
 }
 
 /// How many of the words are `--map=NAME`.
@@ -92,39 +102,13 @@ fn maps(words: &[Vec<u8>]) -> usize
     count
 }
 
-/// How many of the words are `--base`.
-fn bases(words: &[Vec<u8>]) -> usize
-    ensures { result ≡ count_by base_told (texts_of words.now) }
+/// How many of the words are this option.
+fn times_of(option: &[u8], words: &[Vec<u8>]) -> usize
+    ensures { result ≡ count_by (λ word. bytes_eq word option.now) (texts_of words.now) }
 {
     let mut count = 0;
     for word in words {
-        if is_base(word) {
-            count += 1;
-        }
-    }
-    count
-}
-
-/// How many of the words are `--edges`.
-fn edges(words: &[Vec<u8>]) -> usize
-    ensures { result ≡ count_by edges_told (texts_of words.now) }
-{
-    let mut count = 0;
-    for word in words {
-        if is_edges(word) {
-            count += 1;
-        }
-    }
-    count
-}
-
-/// How many of the words are `--scaled`.
-fn scaled(words: &[Vec<u8>]) -> usize
-    ensures { result ≡ count_by scaled_told (texts_of words.now) }
-{
-    let mut count = 0;
-    for word in words {
-        if is_scaled(word) {
+        if word.as_slice() == option {
             count += 1;
         }
     }
@@ -141,27 +125,6 @@ fn map_asked(words: &[Vec<u8>]) -> Option<&[u8]>
         }
     }
     None
-}
-
-/// Whether a word is `--base`.
-fn is_base(word: &[u8]) -> bool
-    ensures { result ≡ base_told word.now }
-{
-    word == b"--base".as_slice()
-}
-
-/// Whether a word is `--edges`.
-fn is_edges(word: &[u8]) -> bool
-    ensures { result ≡ edges_told word.now }
-{
-    word == b"--edges".as_slice()
-}
-
-/// Whether a word is `--scaled`.
-fn is_scaled(word: &[u8]) -> bool
-    ensures { result ≡ scaled_told word.now }
-{
-    word == b"--scaled".as_slice()
 }
 
 /// The name in a word `--map=NAME`, which is not empty.

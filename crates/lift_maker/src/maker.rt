@@ -34,7 +34,7 @@ use std::alloc::Global;
 pub enum Lifted {
     /// The text of the profile.
     Text(Vec<u8>),
-    /// The line of the first repair that fails its test, from 1.
+    /// The first line of the repairs, from 1, that fails its test.
     Failed(u64),
 }
 
@@ -42,7 +42,7 @@ pub enum Lifted {
 /// with the repaired counts of blocks on its lines. Its lines are judged as those of a profile,
 /// then as those of the functions' repairs, and then these are tested as `check` tests them.
 ///
-/// How large the text may be is for the caller to judge.
+/// The text has at most 2^28 bytes, which is for the caller to judge.
 ///
 /// # Errors
 /// `Refused` at the first bad line, and `NoMemory`.

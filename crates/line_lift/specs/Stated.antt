@@ -22,9 +22,10 @@ kept_by held (what.Target key name) times = []
 abbrev pub kept_in : List (Option ℕ) → Item → List KeyCount
 kept_in held item = kept_by held item.what item.times
 
--- The counts of the keys that are held, and behind them those of the first of some numbers whose keys are not.
+-- The counts of those of the first so many keys that are held.
 abbrev pub held_first : List (Option ℕ) → ℕ → List KeyCount
 held_first held n = flat_map (λ id. held_in (record { 0 = id }) (slice_index_or held id None)) (range_with_len 0 n)
 
+-- The counts of the keys that are held, and behind them those that items tell of keys that are not.
 abbrev pub lifted_counts : List (Option ℕ) → List Item → List KeyCount
 lifted_counts held items = held_first held (length held) ++ flat_map (kept_in held) items

@@ -48,11 +48,13 @@ impl<'a> Merge<'a> {
         })
     }
 
-    /// Sums a profile text, which is the command's file `file`, with those before it.
+    /// Sums a profile text of at most 2^28 bytes, which is the command's file `file`, with those
+    /// before it, of which there are fewer than eight.
     ///
     /// # Errors
     /// `Refused` at the first bad place of the text behind those before it: its lines by themselves
-    /// first, then the first number that would not fit 64 bits. The merge is then of no use.
+    /// first, then the first number that would not fit 64 bits; and `NoMemory`. The merge is then
+    /// of no use.
     pub fn add(
         &mut self,
         alloc: Global,

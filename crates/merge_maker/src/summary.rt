@@ -11,7 +11,7 @@ use profile_text::read;
 use refusal::Stop;
 use std::alloc::Global;
 
-/// The summary of a profile text, which is the command's file `file`.
+/// The summary of a profile text of at most 2^28 bytes, which is the command's file `file`.
 ///
 /// # Errors
 /// `Refused` at its first bad line, and `NoMemory`.

@@ -10,7 +10,7 @@ mod remedies;
 mod topics;
 
 use io_edge::{FileInputs, StdSink, write_all};
-use pgo_run::{Status, run, status_line};
+use pgo_run::{LINE_ROOM, Status, run, status_line};
 use program_words::{WordsStop, read_words};
 use std::io;
 use std::process::ExitCode;
@@ -42,7 +42,7 @@ fn answer<R: AllocGlobal + Env + Files + Print>(rt: &R) -> Status {
 
 /// Prints the status's line. Nothing can be said where even that fails; the exit status tells.
 fn report(rt: &impl Eprint, status: &Status) {
-    let mut line = [0; 256];
+    let mut line = [0; LINE_ROOM];
     let len = status_line(status, &mut line);
     if let Ok(text) = str::from_utf8(&line[..len]) {
         let _ = rt.eprint(text);

@@ -7,7 +7,7 @@ use binary_places::read;
 use cold_maker::cold;
 use command_words::Cold;
 use io_edge::Inputs;
-use pgo_run::{Halt, MAX_BINARY, MAX_PROFILE, in_file, read_file};
+use pgo_run::{Halt, MAX_BINARY_BYTES, MAX_PROFILE_BYTES, in_file, read_file};
 use std::alloc::Global;
 
 /// What is written for the binary and the profile text in these files.
@@ -24,9 +24,9 @@ pub(crate) fn output<I: Inputs>(
         (I.opens inputs.old) (I.opens inputs.new) (I.faults inputs.old) (I.faults inputs.new) }
     ensures store { I.store inputs.new ≡ I.store inputs.old }
 {
-    let file = read_file(alloc, inputs, 1, asked.binary, MAX_BINARY)?;
+    let file = read_file(alloc, inputs, 1, asked.binary, MAX_BINARY_BYTES)?;
     let binary = in_file(1, read(alloc, &file, asked.options.base))?;
-    let profile = read_file(alloc, inputs, 2, asked.profile, MAX_PROFILE)?;
+    let profile = read_file(alloc, inputs, 2, asked.profile, MAX_PROFILE_BYTES)?;
     let text = in_file(2, cold(alloc, binary, &profile, 2))?;
     Ok(text)
 }

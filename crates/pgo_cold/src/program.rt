@@ -33,7 +33,8 @@ pub fn run<I: Inputs, O: Sink>(
     ensures usage { (result ≡ Status.Usage) ↔ (cold_of (texts_of words.now) ≡ None) }
     ensures usage_touches_nothing { result ≡ Status.Usage → inputs.new ≡ inputs.old }
 
-    // Each file that is missing, each first bad place and each failed check are told exactly.
+    // Each file that is missing and each first bad place are told exactly. There is no check, so
+    // that none fails.
     ensures no_such_file { IfSome (I.store inputs.old) (λ files. (k : ℕ) →
         ComesExactly result (Status.NoSuchFile k)
         (answer_of files (texts_of words.now) ≡ no_such_file k)) }
@@ -57,7 +58,7 @@ pub fn run<I: Inputs, O: Sink>(
         (result ≡ Status.Done) ⊎ (result ≡ Status.NoMemory)) }
 
     // A fault is told only where a call failed, and no failed call is passed over. Files are opened
-    // one by one, each behind good ones.
+    // one by one, each behind good ones; where memory was refused, that they were good is not told.
     ensures read_fault { (k : ℕ) → result ≡ Status.ReadFault k →
         Rises (I.faults inputs.old) (I.faults inputs.new)
         × IsSomeAnd (cold_of (texts_of words.now)) (λ command.

@@ -2,15 +2,15 @@
 ghost use Rattle.std.specs.Prelude.{◌≡◌, ◌≤◌, length, take};
 ghost use Rattle.pgo_cold.specs.Run.{text_of};
 
-use pgo_run::Status;
+use pgo_run::{LINE_ROOM, Status};
 
 /// The line for words that ask for nothing that the program does.
 const USAGE: &[u8] = b"usage: pgo-cold [--base] BIN PROFILE\n";
 
 /// Writes the status's line for the error output to the front of `buf`, with its line feed, and
 /// answers how many bytes it has: none for `Done`. No memory is taken.
-pub(crate) fn status_line(status: &Status, buf: &mut [u8; 256]) -> usize
-    ensures within { result ≤ 256 }
+pub(crate) fn status_line(status: &Status, buf: &mut [u8; LINE_ROOM]) -> usize
+    ensures within { result ≤ LINE_ROOM }
     ensures length { result ≡ length (text_of status.now) }
     ensures text { take result buf.new ≡ text_of status.now }
 {

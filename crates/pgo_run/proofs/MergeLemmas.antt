@@ -15,7 +15,7 @@ use Rattle.profile_model.specs.Judging.{first_bad_of_profile}
 use Rattle.profile_model.specs.Merge.{first_bad_of_summed, merge_text, merged}
 use Rattle.profile_model.specs.Profile.{Profile}
 use Rattle.merge_maker.specs.Merge.{State, HasRoom, IsMergeOf}
-use Rattle.command_model.specs.Command.{merge as merge_command}
+use Rattle.command_model.specs.Command.{max_parts, merge as merge_command}
 use Rattle.command_words.specs.Words.{told_weighed}
 use Rattle.command_words.specs.declared.command.Part.{Part}
 use Rattle.command_model.specs.Files.{asked_part, first_bad_of_part, first_bad_of_profile_text, max_profile_bytes, named, weighed_texts}
@@ -196,7 +196,7 @@ Merging-all parts store n text opens opens_now faults faults_after state so_far 
 
 -- There is room for a file that is to come.
 pub Merging-room : (parts : List (ℕ × List ℕ)) (store : Option Store) (n opens opens_now : ℕ) (state : State) → Merging parts store n opens opens_now state
-    → n < length parts → length parts ≤ 8 → HasRoom state
+    → n < length parts → length parts ≤ max_parts → HasRoom state
 Merging-room parts store n opens opens_now state so_far within few =
     let count = so_far.count in
     let short : length (weighed_texts parts so_far.before) ≤ length so_far.before = shorter (map (λ part. part.0) parts) so_far.before in

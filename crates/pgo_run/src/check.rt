@@ -4,7 +4,7 @@ ghost use Rattle.command_model.specs.Command.{check as check_command};
 ghost use Rattle.pgo_run.specs.Output.{Carries};
 
 use crate::halt::{Halt, in_file};
-use crate::order::{MAX_BLOCKS, MAX_REPAIRS, read_file};
+use crate::order::{MAX_BLOCK_BYTES, MAX_REPAIR_BYTES, read_file};
 use answer_text::checked_text;
 use io_edge::Inputs;
 use repair_check::failed_line;
@@ -25,9 +25,9 @@ pub(crate) fn output<I: Inputs>(
         (I.opens inputs.old) (I.opens inputs.new) (I.faults inputs.old) (I.faults inputs.new) }
     ensures store { I.store inputs.new ≡ I.store inputs.old }
 {
-    let block_text = read_file(alloc, inputs, 1, blocks, MAX_BLOCKS)?;
+    let block_text = read_file(alloc, inputs, 1, blocks, MAX_BLOCK_BYTES)?;
     let funs = in_file(1, cfg_text::read(alloc, &block_text, 1))?;
-    let repair_text = read_file(alloc, inputs, 2, repairs, MAX_REPAIRS)?;
+    let repair_text = read_file(alloc, inputs, 2, repairs, MAX_REPAIR_BYTES)?;
     let repairs = in_file(2, repair_text::read(alloc, &repair_text, 2, &funs))?;
     let failed = failed_line(alloc, &funs, &repairs)?;
     if let Some(line) = failed {

@@ -43,6 +43,9 @@ impl From<Halt> for Status {
 }
 
 /// What judging the k-th file came to: a bad place is one of that file.
+///
+/// # Errors
+/// `Refused` at the bad place in the k-th file, and `NoMemory`.
 pub fn in_file<T>(k: u8, judged: Result<T, Stop>) -> Result<T, Halt>
     ensures { result ≡ judged_in k judged }
 {

@@ -23,6 +23,6 @@ mod summary;
 mod where_;
 
 pub use halt::{Halt, in_file};
-pub use order::{MAX_BINARY, MAX_PROFILE, read_file};
+pub use order::{MAX_BINARY_BYTES, MAX_PROFILE_BYTES, read_file};
 pub use program::run;
-pub use status::{Status, status_line};
+pub use status::{LINE_ROOM, Status, status_line};

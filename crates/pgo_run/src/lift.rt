@@ -5,7 +5,7 @@ ghost use Rattle.command_words.specs.Words.{told_options};
 ghost use Rattle.pgo_run.specs.Output.{Carries};
 
 use crate::halt::{Halt, in_file};
-use crate::order::{MAX_BINARY, MAX_BLOCKS, MAX_REPAIRS, read_file};
+use crate::order::{MAX_BINARY_BYTES, MAX_BLOCK_BYTES, MAX_REPAIR_BYTES, read_file};
 use binary_places::read;
 use command_words::Options;
 use io_edge::Inputs;
@@ -32,11 +32,11 @@ pub(crate) fn output<I: Inputs>(
         (I.opens inputs.old) (I.opens inputs.new) (I.faults inputs.old) (I.faults inputs.new) }
     ensures store { I.store inputs.new ≡ I.store inputs.old }
 {
-    let file = read_file(alloc, inputs, 1, binary, MAX_BINARY)?;
+    let file = read_file(alloc, inputs, 1, binary, MAX_BINARY_BYTES)?;
     let binary = in_file(1, read(alloc, &file, options.base))?;
-    let block_text = read_file(alloc, inputs, 2, blocks, MAX_BLOCKS)?;
+    let block_text = read_file(alloc, inputs, 2, blocks, MAX_BLOCK_BYTES)?;
     let funs = in_file(2, cfg_text::read(alloc, &block_text, 2))?;
-    let text = read_file(alloc, inputs, 3, built, MAX_REPAIRS)?;
+    let text = read_file(alloc, inputs, 3, built, MAX_REPAIR_BYTES)?;
     let lifted = in_file(3, lift(alloc, binary, &funs, &text, 3))?;
     match lifted {
         Lifted::Text(out) => Ok(out),

@@ -17,13 +17,13 @@ ghost use Rattle.output_model.specs.Summary.{IsSummaryOf};
 ghost use Rattle.pgo_run.specs.Output.{Carries};
 
 use crate::halt::{Halt, in_file};
-use crate::order::{MAX_BINARY, MAX_BLOCKS};
+use crate::order::{MAX_BINARY_BYTES, MAX_BLOCK_BYTES, too_large};
 use binary_places::{Binary, read};
 use branch_stacks::{Counts, read_text};
 use case_maker::{CasePart, CaseStop, make};
 use cfg_text::Fun;
 use profile_maker::summarize;
-use refusal::{Kind, NoMemory, Place, Stop, refuse_if};
+use refusal::{NoMemory, Stop, refuse_if};
 use std::alloc::Global;
 
 /// A file of the generated case of so many functions. No file is opened.
@@ -90,7 +90,7 @@ fn binary_in(alloc: Global, file: &[u8]) -> Result<Binary<'_>, Stop>
     ensures { JudgesUnlessNoMemory (first_bad_of_binary file.now) result
         (IsBinary file.now false) }
 {
-    judge_size(1, file, MAX_BINARY)?;
+    judge_size(1, file, MAX_BINARY_BYTES)?;
     read(alloc, file, false)
 }
 
@@ -111,7 +111,7 @@ fn functions_in(alloc: Global, text: &[u8]) -> Result<Vec<Fun<'_>>, Stop>
     ensures { JudgesUnlessNoMemory (first_bad_of_blocks 3 text.now) result
         (λ funs. map function_of funs.items ≡ functions_of text.now) }
 {
-    judge_size(3, text, MAX_BLOCKS)?;
+    judge_size(3, text, MAX_BLOCK_BYTES)?;
     cfg_text::read(alloc, text, 3)
 }
 
@@ -120,11 +120,6 @@ fn judge_size(file: u8, bytes: &[u8], limit: u64) -> Result<(), Stop>
     ensures { JudgesUnlessNoMemory (size_item file limit bytes.now) result
         (λ _. length bytes.now ≤ limit) }
 {
-    let place = Place {
-        file,
-        at: limit,
-        kind: Kind::FileTooLarge,
-    };
-    refuse_if(bytes.len() as u64 > limit, place)?;
+    refuse_if(bytes.len() as u64 > limit, too_large(file, limit))?;
     Ok(())
 }

@@ -1,22 +1,19 @@
 // `merge`: the sum of profiles, each with a weight.
 ghost use Rattle.std.specs.Prelude.{◌≡◌, ◌≤◌, ℕ, List, [], length, map};
 ghost use Rattle.io_edge.specs.Faults.{raised};
-ghost use Rattle.command_model.specs.Command.{merge as merge_command};
+ghost use Rattle.command_model.specs.Command.{max_parts, merge as merge_command};
 ghost use Rattle.command_words.specs.Words.{told_weighed};
 ghost use Rattle.merge_maker.specs.Merge.{HasRoom, IsMergeOf};
 ghost use Rattle.pgo_run.specs.Merge.{AddsFile};
 ghost use Rattle.pgo_run.specs.Output.{Carries, HasFileCause};
 
 use crate::halt::{Halt, in_file};
-use crate::order::{MAX_PROFILE, read_file};
-use command_words::Part;
+use crate::order::{MAX_PROFILE_BYTES, read_file};
+use command_words::{MAX_PARTS, Part};
 use io_edge::Inputs;
 use merge_maker::Merge;
 use std::alloc::Global;
 use std::array;
-
-/// The most files of a merge.
-const MOST_FILES: usize = 8;
 
 /// What `merge` writes for the profile texts in these files.
 ///
@@ -28,14 +25,14 @@ pub(crate) fn output<I: Inputs>(
     parts: &[Part<'_>],
     inputs: &mut I,
 ) -> Result<Vec<u8>, Halt>
-    requires { length parts.now ≤ 8 }
+    requires { length parts.now ≤ max_parts }
     ensures carried { Carries
         (merge_command (map told_weighed parts.now)) (I.store inputs.old) result
         (I.opens inputs.old) (I.opens inputs.new) (I.faults inputs.old) (I.faults inputs.new) }
     ensures store { I.store inputs.new ≡ I.store inputs.old }
 {
     // The buffers come first: names are borrowed from them.
-    let mut buffers: [Vec<u8>; MOST_FILES] = array::from_fn(|_| Vec::new(alloc));
+    let mut buffers: [Vec<u8>; MAX_PARTS] = array::from_fn(|_| Vec::new(alloc));
     let mut merge = Merge::new(alloc)?;
     merged_text(alloc, parts, inputs, &mut buffers, &mut merge)
 }
@@ -45,10 +42,10 @@ fn merged_text<'a, I: Inputs>(
     alloc: Global,
     parts: &[Part<'_>],
     inputs: &mut I,
-    buffers: &'a mut [Vec<u8>; MOST_FILES],
+    buffers: &'a mut [Vec<u8>; MAX_PARTS],
     merge: &mut Merge<'a>,
 ) -> Result<Vec<u8>, Halt>
-    requires few { length parts.now ≤ 8 }
+    requires few { length parts.now ≤ max_parts }
     requires none { IsMergeOf merge.old [] }
     ensures carried { Carries
         (merge_command (map told_weighed parts.now)) (I.store inputs.old) result
@@ -83,6 +80,6 @@ fn add_file<'a, I: Inputs>(
     ensures opens { I.opens inputs.new ≡ raised (I.opens inputs.old) }
     ensures cause { HasFileCause k (I.faults inputs.old) (I.faults inputs.new) result }
 {
-    *buffer = read_file(alloc, inputs, k, part.file, MAX_PROFILE)?;
+    *buffer = read_file(alloc, inputs, k, part.file, MAX_PROFILE_BYTES)?;
     in_file(k, merge.add(alloc, buffer, k, part.weight))
 }

@@ -1,6 +1,7 @@
 // The order of work that all commands share.
 ghost use Rattle.std.specs.Prelude.{◌≡◌, ◌≤◌, length, IfOk, IfSome};
 ghost use Rattle.io_edge.specs.Faults.{raised};
+ghost use Rattle.refusal.specs.declared.kind.Kind.TheVariants.{FileTooLarge};
 ghost use Rattle.pgo_run.specs.Output.{OpensFile, HasFileCause, ReadsFile};
 
 use crate::halt::Halt;
@@ -9,16 +10,16 @@ use refusal::{Kind, Place};
 use std::alloc::Global;
 
 /// The most bytes of a binary.
-pub const MAX_BINARY: u64 = 1 << 30;
+pub const MAX_BINARY_BYTES: u64 = 1 << 30;
 
 /// The most bytes of a block text.
-pub(crate) const MAX_BLOCKS: u64 = 1 << 28;
+pub(crate) const MAX_BLOCK_BYTES: u64 = 1 << 28;
 
-/// The most bytes of a repair text.
-pub(crate) const MAX_REPAIRS: u64 = 1 << 28;
+/// The most bytes of a repair text, and of what was built.
+pub(crate) const MAX_REPAIR_BYTES: u64 = 1 << 28;
 
 /// The most bytes of a profile text.
-pub const MAX_PROFILE: u64 = 1 << 28;
+pub const MAX_PROFILE_BYTES: u64 = 1 << 28;
 
 /// Opens the file of the k-th file word.
 ///
@@ -61,11 +62,18 @@ pub fn read_file<I: Inputs>(
     match read_whole(inputs, limit, &mut bytes) {
         Ok(()) => Ok(bytes),
         Err(ReadStop::Fault) => Err(Halt::ReadFault(k)),
-        Err(ReadStop::TooLarge) => Err(Halt::Refused(Place {
-            file: k,
-            at: limit,
-            kind: Kind::FileTooLarge,
-        })),
+        Err(ReadStop::TooLarge) => Err(Halt::Refused(too_large(k, limit))),
         Err(ReadStop::NoMemory) => Err(Halt::NoMemory),
+    }
+}
+
+/// The place of a file that has more bytes than this.
+pub(crate) fn too_large(file: u8, limit: u64) -> Place
+    ensures { result ≡ record { file = file; at = limit; kind = FileTooLarge } }
+{
+    Place {
+        file,
+        at: limit,
+        kind: Kind::FileTooLarge,
     }
 }

@@ -5,7 +5,7 @@ ghost use Rattle.command_words.specs.Words.{told_options};
 ghost use Rattle.pgo_run.specs.Output.{Carries};
 
 use crate::halt::{Halt, in_file};
-use crate::order::{MAX_BINARY, read_file};
+use crate::order::{MAX_BINARY_BYTES, read_file};
 use crate::samples::sampled;
 use binary_places::read;
 use command_words::Options;
@@ -30,7 +30,7 @@ pub(crate) fn output<I: Inputs>(
         (I.opens inputs.old) (I.opens inputs.new) (I.faults inputs.old) (I.faults inputs.new) }
     ensures store { I.store inputs.new ≡ I.store inputs.old }
 {
-    let file = read_file(alloc, inputs, 1, binary, MAX_BINARY)?;
+    let file = read_file(alloc, inputs, 1, binary, MAX_BINARY_BYTES)?;
     let binary = in_file(1, read(alloc, &file, options.base))?;
     let counts = sampled(alloc, inputs, perf, options.map, &binary.loads)?;
     let text = make(alloc, binary, counts)?;

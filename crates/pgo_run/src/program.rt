@@ -59,7 +59,7 @@ pub fn run<I: Inputs, O: Sink>(
         (result ≡ Status.Done) ⊎ (result ≡ Status.NoMemory)) }
 
     // A fault is told only where a call failed, and no failed call is passed over. Files are opened
-    // one by one, each behind good ones.
+    // one by one, each behind good ones; where memory was refused, that they were good is not told.
     ensures read_fault { (k : ℕ) → result ≡ Status.ReadFault k →
         Rises (I.faults inputs.old) (I.faults inputs.new)
         × IsSomeAnd (command_of (texts_of words.now)) (λ command.

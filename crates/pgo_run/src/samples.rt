@@ -17,6 +17,9 @@ use std::alloc::Global;
 
 /// The samples in file 2, of this name, whose addresses are moved where the binary has a name in
 /// load lines; `loads` are the binary's segments of code.
+///
+/// # Errors
+/// Those of reading file 2, and the first bad place of its text.
 pub(crate) fn sampled<I: Inputs>(
     alloc: Global,
     inputs: &mut I,

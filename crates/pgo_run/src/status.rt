@@ -5,12 +5,15 @@ ghost use Rattle.pgo_run.specs.Status.{code_of, text_of};
 use itoa::Buffer;
 use refusal::Place;
 
+/// The room for the line of a status, in bytes.
+pub const LINE_ROOM: usize = 256;
+
 /// How a command ended.
 #[derive(Clone, Copy, Debug, PartialEq, Eq)]
 pub enum Status {
     /// The whole output was written.
     Done,
-    /// The line of the repair text, from 1, that fails its test.
+    /// The first line, from 1, of a repair text or of what was built that fails its test.
     CheckFailed(u64),
     /// The words spell no command.
     Usage,
@@ -46,8 +49,8 @@ impl Status {
 
 /// Writes the status's line for the error output to the front of `buf`, with its line feed, and
 /// answers how many bytes it has: none for `Done`. No memory is taken.
-pub fn status_line(status: &Status, buf: &mut [u8; 256]) -> usize
-    ensures within { result ≤ 256 }
+pub fn status_line(status: &Status, buf: &mut [u8; LINE_ROOM]) -> usize
+    ensures within { result ≤ LINE_ROOM }
     ensures length { result ≡ length (text_of status.now) }
     ensures text { take result buf.new ≡ text_of status.now }
 {
@@ -68,8 +71,8 @@ pub fn status_line(status: &Status, buf: &mut [u8; 256]) -> usize
 }
 
 /// Puts bytes at a place of the buffer, and answers where they end.
-fn put(buf: &mut [u8; 256], at: usize, bytes: &[u8]) -> usize
-    requires { at + length bytes.now ≤ 256 }
+fn put(buf: &mut [u8; LINE_ROOM], at: usize, bytes: &[u8]) -> usize
+    requires { at + length bytes.now ≤ LINE_ROOM }
     ensures end { result ≡ at + length bytes.now }
     ensures front { take result buf.new ≡ take at buf.old ++ bytes.now }
 {
@@ -80,7 +83,7 @@ fn put(buf: &mut [u8; 256], at: usize, bytes: &[u8]) -> usize
 
 /// Puts a number's decimal digits, of which there are at most 20; 20 places more are left behind
 /// them.
-fn put_number(buf: &mut [u8; 256], at: usize, n: u64) -> usize
+fn put_number(buf: &mut [u8; LINE_ROOM], at: usize, n: u64) -> usize
     requires { at ≤ 216 }
     ensures end { result ≡ at + length (decimal_text n) }
     ensures short { result ≤ at + 20 }
@@ -90,9 +93,9 @@ fn put_number(buf: &mut [u8; 256], at: usize, n: u64) -> usize
 }
 
 /// Puts a line of some words, fewer than 30 bytes, and a number.
-fn put_numbered(buf: &mut [u8; 256], words: &[u8], n: u64) -> usize
+fn put_numbered(buf: &mut [u8; LINE_ROOM], words: &[u8], n: u64) -> usize
     requires { length words.now < 30 }
-    ensures within { result ≤ 256 }
+    ensures within { result ≤ LINE_ROOM }
     ensures end { result ≡ length words.now + length (decimal_text n) + 1 }
     ensures front { take result buf.new ≡ words.now ++ decimal_text n ++ 10 ∷ [] }
 {
@@ -102,8 +105,8 @@ fn put_numbered(buf: &mut [u8; 256], words: &[u8], n: u64) -> usize
 }
 
 /// Puts the line of a refusal.
-fn put_place(buf: &mut [u8; 256], place: &Place) -> usize
-    ensures within { result ≤ 256 }
+fn put_place(buf: &mut [u8; LINE_ROOM], place: &Place) -> usize
+    ensures within { result ≤ LINE_ROOM }
     ensures end { result ≡ length (text_of (Status.Refused place.now)) }
     ensures front { take result buf.new ≡ text_of (Status.Refused place.now) }
 {

@@ -4,7 +4,7 @@ ghost use Rattle.command_model.specs.Command.{summary as summary_command};
 ghost use Rattle.pgo_run.specs.Output.{Carries};
 
 use crate::halt::{Halt, in_file};
-use crate::order::{MAX_PROFILE, read_file};
+use crate::order::{MAX_PROFILE_BYTES, read_file};
 use io_edge::Inputs;
 use merge_maker::summarize;
 use std::alloc::Global;
@@ -18,7 +18,7 @@ pub(crate) fn output<I: Inputs>(alloc: Global, file: &[u8], inputs: &mut I) -> R
         (I.opens inputs.old) (I.opens inputs.new) (I.faults inputs.old) (I.faults inputs.new) }
     ensures store { I.store inputs.new ≡ I.store inputs.old }
 {
-    let text = read_file(alloc, inputs, 1, file, MAX_PROFILE)?;
+    let text = read_file(alloc, inputs, 1, file, MAX_PROFILE_BYTES)?;
     let lines = in_file(1, summarize(alloc, &text, 1))?;
     Ok(lines)
 }

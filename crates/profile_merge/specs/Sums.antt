@@ -1,7 +1,8 @@
 -- Sums of what profiles say, by the numbers of names and keys.
-use Rattle.std.specs.Prelude.{◌≡◌, ◌≢◌, ◌<◌, ◌≤◌, ⊤, ℕ, ◌+◌, ◌*◌, ◌^◌, ◌==◌, nat_le, Bool, false, AllPairs, List, length, find, cond, slice_index, sum_by, Option, None, Some, Result, Ok, Err, if◌then◌else◌}
+use Rattle.std.specs.Prelude.{◌≡◌, ◌<◌, ◌≤◌, ⊤, ℕ, ◌+◌, ◌*◌, ◌^◌, ◌==◌, nat_le, Bool, false, List, length, find, cond, slice_index, sum_by, Option, None, Some, Result, Ok, Err, if◌then◌else◌}
 use Rattle.std.specs.List.{AllByRecursion}
 use Rattle.std.specs.Option.{option_map}
+use Rattle.profile_laws.specs.Once.{StandOnce}
 use Rattle.profile_text.specs.Draft.{IsGivenItem}
 use Rattle.profile_text.specs.declared.item.Item.{Item}
 use Rattle.profile_text.specs.declared.item.What.{What}
@@ -49,7 +50,7 @@ number_at items what = sum_by (λ item. cond (same_what item.what what) item.tim
 
 -- No head, count or target has two numbers.
 abbrev pub TellOnce : List Item → Type 0
-TellOnce items = AllPairs (λ x y. x.what ≢ y.what) items
+TellOnce items = StandOnce (λ item. item.what) items
 
 -- Each sum was raised by so many times its number.
 abbrev pub AddsPart : ℕ → List Item → Sums → Sums → Type 0

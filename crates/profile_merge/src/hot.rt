@@ -8,7 +8,7 @@ use refusal::NoMemory;
 use std::alloc::{AllocError, Global};
 
 /// A million: cutoffs are in millionths.
-const MILLION: u64 = 1_000_000;
+pub(crate) const MILLION: u64 = 1_000_000;
 
 /// The counts above 0 of these numbers, the greatest first.
 pub(crate) fn counts_of(alloc: Global, items: &[Item]) -> Result<Vec<u64>, NoMemory>
@@ -83,7 +83,7 @@ pub(crate) fn least_hot(counts: &[u64], total: u128, cutoff: u64) -> u64
     requires down { Descend counts.now }
     requires total { total ≡ sum counts.now }
     requires small { total < 2 ^ 127 }
-    requires cutoff { cutoff ≤ 1000000 }
+    requires cutoff { cutoff ≤ MILLION }
     ensures { result ≡ least_hot counts.now cutoff }
 {
     let share = share_of(total, cutoff);
@@ -102,7 +102,7 @@ pub(crate) fn least_hot(counts: &[u64], total: u128, cutoff: u64) -> u64
 /// The total is taken apart, so that no product passes 128 bits.
 fn share_of(total: u128, cutoff: u64) -> u128
     requires small { total < 2 ^ 127 }
-    requires cutoff { cutoff ≤ 1000000 }
+    requires cutoff { cutoff ≤ MILLION }
     ensures { IsShare total cutoff result }
 {
     let million = u128::from(MILLION);

@@ -10,7 +10,7 @@ ghost use Rattle.profile_merge.specs.Hot.{Descend};
 ghost use Rattle.profile_merge.specs.Laws.{AreNumbered};
 
 use crate::functions::functions_of;
-use crate::hot::{counts_of, least_hot, lines_from, max_of, total_of};
+use crate::hot::{MILLION, counts_of, least_hot, lines_from, max_of, total_of};
 use key_types::Keys;
 use profile_text::Profile;
 use refusal::NoMemory;
@@ -25,9 +25,10 @@ const CUTOFFS: [u64; 16] = [
     950_000, 990_000, 999_000, 999_900, 999_990, 999_999,
 ];
 
-/// Appends the summary of a profile whose keys are of `keys`: how many functions and lines it has,
-/// what the counts of all lines come to, the greatest, and for each cutoff the least count of the
-/// lines that make up so many millionths of all, with how many lines have at least that.
+/// Appends the summary of a profile whose keys are of `keys`: how many functions would be written
+/// of it, how many lines have a count above 0, their sum and the greatest of them, and for each
+/// cutoff the least count of the hottest lines that make up so many millionths of the sum, with how
+/// many lines have at least that.
 ///
 /// # Errors
 /// `NoMemory`, and `out` may have grown: what it held stands at its front.
@@ -104,7 +105,7 @@ fn push_cutoff(out: &mut Vec<u8>, counts: &[u64], total: u128, cutoff: u64) -> R
     requires down { Descend counts.now }
     requires total { total ≡ sum counts.now }
     requires small { total < 2 ^ 127 }
-    requires cutoff { cutoff ≤ 1000000 }
+    requires cutoff { cutoff ≤ MILLION }
     ensures appended { OnOk result (out.new.items
         ≡ out.old.items ++ cutoff_text counts.now cutoff) }
     ensures grows { OnErr result (StartsWith out.new.items out.old.items) }

@@ -23,9 +23,10 @@ use std::alloc::Global;
 /// The number of the first line, from 1, that fails its test; `None` where each repair keeps what
 /// it promises. There is a repair of each function, in order, as `repair_text::read` gives them.
 ///
-/// The line of a block or an edge passes where its count is within its bounds, conserves, and the
-/// prices fit it; the last line of counts where the cost is theirs; the last line of a cut where
-/// its sums are those of the set and the first is above the second.
+/// The line of a block passes where its count is within its bounds and balances at both sides, and
+/// the prices fit it, its calls and its returns; that of an edge where its count is within its
+/// bounds and the prices fit it; the last line of counts where the cost is theirs; the last line of
+/// a cut where its sums are those of the set and the first is above the second.
 ///
 /// # Errors
 /// `NoMemory`.

@@ -34,8 +34,8 @@ took_few net before was after same fits few =
       },
     )
 
-pub took_most : (net : Network) (before was after : ℕ) → was ≡ before → StartWithin most_digits net → AreFew net was after → after ≤ before + 37 * phase_bound net
-took_most net before was after same fits few = subst (λ (n : ℕ). after ≤ n + 37 * phase_bound net) same (few most_digits fits).few
+pub took_most : (net : Network) (before was after : ℕ) → was ≡ before → StartWithin most_digits net → AreFew net was after → after ≤ before + (most_digits + 1) * phase_bound net
+took_most net before was after same fits few = subst (λ (n : ℕ). after ≤ n + (most_digits + 1) * phase_bound net) same (few most_digits fits).few
 
 -- ---- one function
 
@@ -60,13 +60,13 @@ took_of key count edges fun weights edge_weights net solved before after is took
 
 -- A function has so few blocks and edges that these are below 2^29.
 pub few_of : {K : Type 0} (key : ℕ → Option K) (count : K → ℕ) (edges : Option EdgeTold) (fun : Function) (weights edge_weights : List Weight) (net : Network) (solved : Solved) (before after : ℕ)
-    → IsRepaired key count edges fun weights edge_weights net solved → IsSound fun.blocks fun.edges → after ≤ before + 37 * phase_bound net → after ≤ before + 2 ^ 29
+    → IsRepaired key count edges fun weights edge_weights net solved → IsSound fun.blocks fun.edges → after ≤ before + (most_digits + 1) * phase_bound net → after ≤ before + 2 ^ 29
 few_of key count edges fun weights edge_weights net solved before after is sound few =
     let blocks = repaired_blocks key count edges fun weights edge_weights net solved is in
     let edges_are = repaired_edges key count edges fun weights edge_weights net solved is in
     let few_blocks : length fun.blocks ≤ 65536 = sound.few_blocks in
     let few_edges : length fun.edges ≤ 262144 = sound.few_edges in
-    let most : after ≤ before + 37 * (32 * (length net.blocks + length net.edges + 1)) = few in
+    let most : after ≤ before + (most_digits + 1) * (32 * (length net.blocks + length net.edges + 1)) = few in
     omega (arith, blocks, edges_are, few_blocks, few_edges, most)
 
 -- ---- one function behind the other

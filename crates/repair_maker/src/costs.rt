@@ -73,7 +73,7 @@ fn cost_of(
     }
 }
 
-/// The same with one function more.
+/// What repairs come to with one function more, of this cost, or a cut where there is none.
 fn with_one(sum: Costs, cost: Option<u128>) -> Result<Costs, NoMemory>
     requires { sum.cuts + 1 < 2 ^ 64 }
     ensures { IfOk result (λ made. (made.cost ≡ sum.cost + unwrap_or cost 0)

@@ -25,7 +25,7 @@ use std::alloc::Global;
 /// from which blocks have their weights. `edges` are what was sampled of edges; without it their
 /// weights are unknown and are not told. With `scaled` each network whose counts to start from are
 /// small enough is solved within a bound on augmentations, and the answer is how many these were
-/// together; without it the answer is 0. There are at most 2^29 functions.
+/// together, which tells nothing without it. There are at most 2^29 functions.
 ///
 /// # Errors
 /// `NoMemory`, and the repairs of the functions in front were appended.

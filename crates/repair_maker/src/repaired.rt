@@ -6,7 +6,7 @@ ghost use Rattle.flow_model.specs.Sound.{IsSound};
 ghost use Rattle.block_weights.specs.Counts.{count_in};
 ghost use Rattle.cfg_text.specs.Fun.{function_of};
 ghost use Rattle.key_types.specs.Segments.{AreSegments, key_told};
-ghost use Rattle.scaling_model.specs.Bound.{phase_bound};
+ghost use Rattle.scaling_model.specs.Bound.{most_digits, phase_bound};
 ghost use Rattle.repair_maker.specs.Repaired.{IsRepaired};
 ghost use Rattle.repair_maker.specs.Solver.{TookFew};
 ghost use Rattle.repair_maker.specs.Told.{edges_told};
@@ -48,7 +48,7 @@ pub(crate) fn repair(
         (function_of fun.now) made.weights.items made.edge_weights.items made.net made.solved) }
     ensures counted { IfOk result (λ made. TookFew made.net solver.old solver.new) }
     ensures few { IfOk result (λ made.
-        solver.new ≤ solver.old + 37 * phase_bound made.net) }
+        solver.new ≤ solver.old + (most_digits + 1) * phase_bound made.net) }
 {
     let weights = weights(alloc, fun, segments, counts)?;
     let edge_weights = weighed(alloc, fun, edges, &weights)?;

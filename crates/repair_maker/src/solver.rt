@@ -1,7 +1,7 @@
 // How networks are solved, and how many augmentations that took.
 ghost use Rattle.std.specs.Prelude.{◌≡◌, ◌≤◌, ◌+◌, ◌*◌, ◌^◌, IfOk, OnOk};
 ghost use Rattle.flow_solver.specs.Solved.{Solves};
-ghost use Rattle.scaling_model.specs.Bound.{phase_bound};
+ghost use Rattle.scaling_model.specs.Bound.{most_digits, phase_bound};
 ghost use Rattle.repair_maker.specs.Solver.{TookFew};
 
 use flow_network::{Net, Solved};
@@ -47,7 +47,7 @@ impl Solver {
         requires room { self.old ≤ 2 ^ 63 }
         ensures solved { IfOk result (Solves net.now) }
         ensures counted { TookFew net.now self.old self.new }
-        ensures few { self.new ≤ self.old + 37 * phase_bound net.now }
+        ensures few { self.new ≤ self.old + (most_digits + 1) * phase_bound net.now }
     {
         if self.scaled && fits(net) {
             solve_scaled(alloc, net, &mut self.steps)

@@ -52,7 +52,7 @@ const CUT: &[u8] = b"# function loop cut 0\n# block 0 weight 5 in 1 out 1\n\
 // The words that test it.
 const CHECK: &[&[u8]] = &[b"check", b"loop", b"cut"];
 
-// What `build` writes for the first sample: 258 bytes of repair.
+// The repair that `build` writes for the first sample: 258 bytes.
 const REPAIR: &[u8] = b"# function f0000 flow\n# block 0 weight 1 count 1 in 0 out 0\n\
 # block 1 weight 1 count 1 in 0 out 0\n# block 2 weight 0 count 0 in 0 out 0\n\
 # block 3 weight 1 count 1 in 0 out 0\n# edge 0 1 count 1\n# edge 0 2 count 0\n\
@@ -76,8 +76,9 @@ const SUM: &[&[u8]] = &[b"make", b"1", b"sum"];
 const SUMMARY: &[u8] = b"functions 1 branches 5 total 7 cost 40 cuts 0\n";
 
 // The commands, each with what stands in the file `perf`.
-const COMMANDS: [(&[&[u8]], &[u8]); 8] = [
+const COMMANDS: [(&[&[u8]], &[u8]); 9] = [
     (&[b"counts", b"perf"], SAMPLE),
+    (&[b"where", b"bin", b"401014"], b""),
     (WORDS, SAMPLE),
     (BUILD, SAMPLE),
     (CHECK, b""),
@@ -169,7 +170,7 @@ fn binary(alloc: Global, functions: u64) -> Result<Vec<u8>, CaseStop> {
 }
 
 #[test]
-fn each_command_writes_its_output(rt: HostRuntime) -> Result<(), test::Fail> {
+fn what_is_written_of_a_generated_case(rt: HostRuntime) -> Result<(), test::Fail> {
     let alloc = rt.alloc();
     let bin = binary(alloc, 1)?;
     let cases: [(&[&[u8]], &[u8]); 4] = [
@@ -192,7 +193,9 @@ fn each_failing_read_is_told(rt: HostRuntime) -> Result<(), test::Fail> {
     // Call 0 opens a file, and the last one finds its end. Between them the 655 bytes of the binary
     // take eleven reads, the 258 of the repair five, the 195 of the profile four, the 144 of both
     // samples and the 160 of the blocks three, and the others two.
-    let cases: [(&[&[u8]], &[u8], u8, u64); 19] = [
+    let cases: [(&[&[u8]], &[u8], u8, u64); 21] = [
+        (&[b"counts", b"perf"], TEXT, 1, 5),
+        (&[b"where", b"bin", b"401014"], b"", 1, 13),
         (WORDS, TEXT, 1, 13),
         (WORDS, TEXT, 2, 5),
         (BUILD, SAMPLE, 1, 13),

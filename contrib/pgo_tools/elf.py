@@ -182,7 +182,7 @@ def is_elf(path):
         return False
 
 
-MAKERS = [("rustc", "rustc"), ("clang", "clang"), ("LLVM", "clang"), ("GNU", "gcc"), ("Go ", "go"), ("gc", "go")]
+MAKERS = [("rustc", "rustc"), ("clang", "clang"), ("LLVM", "clang"), ("GNU", "gcc"), ("Go ", "go")]
 
 
 def maker(producer):

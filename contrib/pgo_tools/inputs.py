@@ -43,19 +43,20 @@ class Text(NamedTuple):
 
 
 def is_stream(path):
-    """It is read once: a pipe, a terminal, a socket."""
+    """It is read once: a pipe, a socket, and the input whatever it is, which a further program would not find."""
     try:
         mode = os.stat(path).st_mode
     except OSError:
         return False
-    return stat.S_ISFIFO(mode) or stat.S_ISSOCK(mode) or os.path.realpath(path) == os.path.realpath("/dev/stdin") and not stat.S_ISDIR(mode)
+    is_input = os.path.normpath(path) in ("/dev/stdin", "/dev/fd/0", "/proc/self/fd/0")
+    return stat.S_ISFIFO(mode) or stat.S_ISSOCK(mode) or is_input and not stat.S_ISDIR(mode)
 
 
 def text_in(name, folder, asked):
     """The branch text in a file, a packed one, a recording, or a pipe. `asked` are words for perf script that choose samples."""
     path = programs.as_file(name)
     kind = kind_of(path)
-    if kind in PACKED or not os.path.isfile(path) and is_stream(path):
+    if kind in PACKED or is_stream(path):
         path = copied(path, f"{folder}/text")
         kind = kind_of(path)
     if kind == "recording":

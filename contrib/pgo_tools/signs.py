@@ -12,6 +12,8 @@ from pgo_tools.names import text_of
 HOT_SHARE, FEW_SAMPLES = 0.9, 10
 # So many lines without a discriminator are no chance.
 MANY_LINES = 20
+# Names as rustc's old mangling has them.
+OLD_RUST = re.compile(r"_ZN.*17h[0-9a-f]{16}E(?:\..*)?")
 # Bytes that an instruction that branches begins with, behind prefixes (x86-64).
 BRANCH = re.compile(
     rb"(?:[\xf2\xf3\x26\x36\x2e\x3e\x64-\x67\x40-\x4f])*"
@@ -137,36 +139,44 @@ def look_at_unread(path):
 
 # Of profiles that have lines.
 
-def warnings(program, text, name, profile, report, built):
-    """What looks wrong with the profile of a program. `built` is another build that ran, or ""."""
-    same = f"the binary that ran: perf buildid-list and readelf -n {program.name} tell its number"
-    yield from other_binary(program, text, name, report, built, same)
+def same_binary(program):
+    return f"the binary that ran: perf buildid-list and readelf -n {program.name} tell its number"
+
+
+def of_program(part, text):
+    """What looks wrong with the profile of a program."""
+    yield from other_binary(part, text)
+    yield from unfit_build(part.program, part.profile)
+
+
+def of_text(text, parts):
+    """What is wrong with the recording."""
     if not text.ends():
         yield Sign(f"{text.name} does not end with a line feed, so it may have been cut off, and its last address with it",
                    "print the text again, and see that perf ended well")
-    yield from unfit_build(program, profile)
-    yield from few_samples(profile)
+    yield from few_samples([part.profile for part in parts])
 
 
-def other_binary(program, text, name, report, built, same):
+def other_binary(part, text):
     """The binary may be another one than ran: by its build, by its branches, or by the sums where those cannot be seen."""
-    code = program.elf.code()
-    if name and code and not code[0].file_size:
+    program, same = part.program, same_binary(part.program)
+    code, entries, crossing = program.elf.code(), part.report["entries"], part.report["ranges crossing"]
+    if part.name and code and not code[0].file_size:
         yield Sign(f"{program.name} is a debug file, and has other offsets than the program that was loaded",
                    "the program itself; eu-unstrip of elfutils puts the two together")
         return
-    if built:
-        yield Sign(f"the build {built} ran, and {program.name} is {program.elf.build_id()}", same)
+    if part.built:
+        yield Sign(f"the build {part.built} ran, and {program.name} is {program.elf.build_id()}", same)
         return
-    good, bad = branching(program, text, name) if program.elf.machine == X86_64 and text.is_file() else (0, 0)
-    ran = report["ranges ran"] + report["ranges crossing"]
+    good, bad = branching(program, text, part.name) if program.elf.machine == X86_64 and text.is_file() else (0, 0)
+    ran = part.report["ranges ran"] + crossing
     if good + bad:
         if bad * 9 > good:
             yield Sign(f"of the {good + bad} most frequent branches {bad} start where {program.name} has no branch: another binary ran", same)
-    elif not report["entries"]:
+    elif part.profile and not entries:
         yield Sign("no branch enters a function: another binary may have run", same)
-    elif report["ranges crossing"] * 20 > ran:
-        yield Sign(f"{report['ranges crossing']} of {ran} stretches lead from one function into another: another binary may have run", same)
+    elif crossing * 20 > ran:
+        yield Sign(f"{crossing} of {ran} stretches lead from one function into another: another binary may have run", same)
 
 
 def places(program, text, name):
@@ -199,28 +209,29 @@ def branching(program, text, name):
 def unfit_build(program, profile):
     """The program was built in a way by which compilers find little of its profile."""
     makers = program.elf.makers()
-    if not makers or not found.packs(makers[0][0]):
+    maker = makers[0][0] if makers else ""
+    if not found.packs(maker):
         return
     lines = [place for node in profile.values() for each in node.walk() for place in each.lines]
     if len(lines) >= MANY_LINES and not any(disc for _, disc in lines) and not program.elf.has_discriminators():
-        is_rust = makers[0][0] == "rustc"
-        option = "-Z debug-info-for-profiling (of its nightly builds)" if is_rust else "-g -fdebug-info-for-profiling"
-        yield Sign(f"{program.name} was built without -{'Z ' if is_rust else 'f'}debug-info-for-profiling: a build by this profile can be slower than "
-                   "one without", f"{option} on the build that is sampled, and on the one that takes the profile")
-    old = [name for name in profile if re.fullmatch(r"_ZN.*17h[0-9a-f]{16}E", name)]
-    if makers[0][0] == "rustc" and len(old) * 2 > len(profile):
-        yield Sign("rustc spelled its names in the old way (_ZN..E), and its nightly builds, which read profiles, spell them in the new one (_R..)",
-                   "sample a build by the very rustc that takes the profile, or -C symbol-mangling-version=v0 on both")
+        option = "-Z debug-info-for-profiling (nightly)" if maker == "rustc" else "-fdebug-info-for-profiling"
+        yield Sign(f"{program.name} was built without {option.split(' (')[0]}: a build by this profile can be slower than one without",
+                   f"-g {option} on the build that is sampled, and on the one that takes the profile")
+    old = [name for name in profile if OLD_RUST.fullmatch(name)]
+    if maker == "rustc" and len(old) * 2 > len(profile):
+        yield Sign("rustc spelled the names in its old way (_ZN..), and nightly builds, which read profiles, spell them in another (_R..)",
+                   "sample a build by the very rustc that takes the profile; else -C symbol-mangling-version=v0 on both")
 
 
-def few_samples(profile):
+def few_samples(profiles):
     """The hot lines were met so seldom that chance has a say in them."""
-    counts = sorted((line.count for node in profile.values() for each in node.walk() for line in each.lines.values()), reverse=True)
+    nodes = [each for profile in profiles for node in profile.values() for each in node.walk()]
+    counts = sorted((line.count for node in nodes for line in node.lines.values()), reverse=True)
     left, least = HOT_SHARE * sum(counts), 0
     for least in counts:
         left -= least
         if left <= 0:
             break
     if 0 < least < FEW_SAMPLES:
-        yield Sign(f"too few samples: lines that make up {HOT_SHARE:.0%} of all counts were met only {least} times and more",
-                   f"record {-(-FEW_SAMPLES // least)} times as long, or at a higher rate (perf record -F)")
+        yield Sign(f"too few samples: some of the lines that make up {HOT_SHARE:.0%} of all counts were met {least} time{'s' * (least > 1)}",
+                   f"{-(-FEW_SAMPLES // least)} times as many: record longer, or at a higher rate (perf record -F)")

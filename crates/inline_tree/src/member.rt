@@ -9,7 +9,7 @@ use chain_model::Member;
 use dwarf_forms::Value;
 use dwarf_info::{DW_AT_CALL_LINE, DW_AT_GNU_DISCRIMINATOR, Entry};
 use entry_facts::{Origin, attribute};
-use key_types::Chain;
+use item_lists::Items;
 
 /// The number that a value is.
 fn number_of(value: Value<'_>) -> u64
@@ -42,7 +42,7 @@ pub(crate) fn function_of(entry: &Entry<'_, '_>, origin: Origin, pieces: Vec<(u6
         start: origin.line,
         line: 0,
         disc: 0,
-        pieces: Chain::new(pieces),
+        pieces: Items::new(pieces),
     }
 }
 
@@ -62,6 +62,6 @@ pub(crate) fn call_of(
         start: origin.line,
         line: number_in(DW_AT_CALL_LINE, entry),
         disc: (number_in(DW_AT_GNU_DISCRIMINATOR, entry) % (1 << 32)) as u32,
-        pieces: Chain::new(pieces),
+        pieces: Items::new(pieces),
     }
 }

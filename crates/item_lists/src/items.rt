@@ -1,4 +1,4 @@
-// A list that is a part of a key.
+// A list in a field of a public type.
 ghost use Rattle.std.specs.Prelude.{◌≡◌, List};
 ghost use Rattle.std.specs.Cmp.Lexicographic.{lists_equiv, lists_per, pointwise};
 ghost use Rattle.std.specs.Hash as fed;
@@ -7,38 +7,39 @@ ghost use Rattle.std.specs.Hash.{items_Alike};
 use std::hash::{Hash, Hasher};
 use std::marker::Model;
 
-/// A list that is made once and then read, compared item by item and hashed.
+/// A list that is made once and then read, for the fields of public types; compared item by item,
+/// and hashed.
 ///
 /// It is made from a `Vec` and lends its items; neither takes memory.
 #[derive(Debug, Drop)]
-pub struct Chain<T> {
-    links: Vec<T>,
+pub struct Items<T> {
+    list: Vec<T>,
 }
 
 // Clauses see the list of the items.
-impl<T> Model for Chain<T> {
+impl<T> Model for Items<T> {
     ghost Value = { List T };
 
-    ghost view = { λ a. a.links.items };
+    ghost view = { λ a. a.list.items };
 }
 
-impl<T> Chain<T> {
+impl<T> Items<T> {
     /// The list of these items.
-    pub fn new(links: Vec<T>) -> Self
-        ensures { result ≡ links.items }
+    pub fn new(list: Vec<T>) -> Self
+        ensures { result ≡ list.items }
     {
-        Chain { links }
+        Items { list }
     }
 
     /// The items, in their order.
     pub fn as_slice(&self) -> &[T]
         ensures { result.now ≡ self.now }
     {
-        &self.links
+        &self.list
     }
 }
 
-impl<T: PartialEq> PartialEq for Chain<T> {
+impl<T: PartialEq> PartialEq for Items<T> {
     ghost eq = { pointwise T.eq };
 
     ghost laws = { lists_per T.laws };
@@ -48,11 +49,11 @@ impl<T: PartialEq> PartialEq for Chain<T> {
     }
 }
 
-impl<T: Eq> Eq for Chain<T> {
+impl<T: Eq> Eq for Items<T> {
     ghost laws = { lists_equiv T.Eq.laws };
 }
 
-impl<T: Hash> Hash for Chain<T> {
+impl<T: Hash> Hash for Items<T> {
     ghost hash_input = { fed.slice T.hash_input };
 
     ghost respects_eq = { (items_Alike (record { fed = T.respects_eq })).fed };

@@ -15,7 +15,7 @@ import tempfile
 
 sys.dont_write_bytecode = True
 HERE = os.path.dirname(os.path.abspath(__file__))
-sys.path[:0] = [os.path.join(HERE, "..", "program"), os.path.join(HERE, "..", "hostile")]
+sys.path.insert(0, os.path.join(HERE, "..", "..", "gate", "program"))
 import lifts
 import make
 import sums

@@ -1,21 +1,15 @@
-#!/usr/bin/env python3
-"""merges.py PROGRAM: `merge` and `summary` of the built program, on profile texts of which each byte is known.
+"""`merge` and `summary` of the built program, on profile texts of which each byte is known.
 
 First cases that were worked out by hand from docs/FORMATS.md; then texts drawn at random, with mistakes planted in them, of
-which sums.py says what has to come. The last line tells how many cases passed and failed; a case that failed has a line.
+which sums.py says what has to come.
 """
 import collections
-import os
-import random
-import sys
 
-sys.dont_write_bytecode = True
-sys.path.insert(0, os.path.join(os.path.dirname(os.path.abspath(__file__)), "..", "hostile"))
 import judging
 import make
 import sums
 from drawn import Text, damaged
-from judging import BAD_WORDS, DONE, MISSING, REFUSED, USAGE, judge, run, try_all
+from judging import BAD_WORDS, DONE, MISSING, REFUSED, USAGE, judge, run
 
 MOST = 2**64 - 1
 # The profile of the two samples of the generated function.
@@ -204,7 +198,7 @@ def words():
     judge("the largest weight", (DONE, b"a:0:65535\n", b""), ["merge", "65535", "p1"], p1=b"a:0:1\n")
     judge("a file that is named as a number", (DONE, F, b""), ["merge", "1", "1"], **{"1": F})
     judge("a file that is named as an option", (DONE, F, b""), ["merge", "1", "--x"], **{"--x": F})
-    judge("one file eight times", (DONE, run(["merge", "8", "p1"], {"p1": F}).stdout, b""), ["merge"] + ["1", "p1"] * 8, p1=F)
+    judge("one file eight times", (DONE, run(["merge", "8", "p1"], {"p1": F}).out, b""), ["merge"] + ["1", "p1"] * 8, p1=F)
     gives("eight files", b"a:0:36\n", *[b"a:0:1\n"] * 8, weights=range(1, 9))
     # Files that are missing, in turn; the files before are judged.
     for k in range(1, 9):
@@ -238,12 +232,12 @@ def summaries():
 def profiles():
     """What `profile` and `build` write, merged alone: the profile's lines again."""
     for count in (0, 1, 2, 64, 700):
-        files = {part: run(["make", str(count), part], {}).stdout for part in ("bin", "perf", "cfg")}
+        files = {part: run(["make", str(count), part], {}).out for part in ("bin", "perf", "cfg")}
         for command, options in (["profile"], []), (["profile"], ["--base"]), (["build"], []), (["build"], ["--edges"]):
-            told = run([*command, *options, "bin", "perf", *["cfg"] * (command == ["build"])], files).stdout
+            told = run([*command, *options, "bin", "perf", *["cfg"] * (command == ["build"])], files).out
             lines = b"".join(line for line in told.splitlines(keepends=True) if not line.startswith(b"#"))
             gives(f"what {command[0]} writes of {count} functions", lines, told)
-    deep = run(["profile", "bin", "perf"], {"bin": make.nested_calls(400), "perf": b"0x4010fe/0x9 0x9/0x4010fe\n"}).stdout
+    deep = run(["profile", "bin", "perf"], {"bin": make.nested_calls(400), "perf": b"0x4010fe/0x9 0x9/0x4010fe\n"}).out
     gives("calls 255 deep", b"".join(line for line in deep.splitlines(keepends=True) if not line.startswith(b"#")), deep)
 
 
@@ -270,27 +264,28 @@ def compared(words, files):
     return wanted
 
 
-def at_random():
-    draw = random.Random(20261129)
-    for _ in range(400):
-        files = {f"p{k}": Text(draw).spelled() for k in range(draw.choice([1, 2, 2, 3, 8]))}
-        for name in files:
-            if draw.random() < 0.25:
-                files[name] = damaged(draw, files[name])
-        pairs = [(str(draw.choice([1, 1, 2, 3, 1000, 65535])), draw.choice(sorted(files))) for _ in range(draw.randrange(1, 9))]
-        first = compared(["merge", *(word for pair in pairs for word in pair)], files)
-        draw.shuffle(pairs)
-        second = compared(["merge", *(word for pair in pairs for word in pair)], files)
-        assert first[:2] == second[:2]
-        compared(["summary", "p0"], files)
-        if first[0] == DONE:
-            # What was merged is read, and has the same sums.
-            judge("a merge, merged", first, ["merge", "1", "m"], m=first[1])
-            compared(["summary", "m"], {"m": first[1]})
+def at_random(draw):
+    files = {f"p{k}": Text(draw).spelled() for k in range(draw.choice([1, 2, 2, 3, 8]))}
+    for name in files:
+        if draw.random() < 0.25:
+            files[name] = damaged(draw, files[name])
+    pairs = [(str(draw.choice([1, 1, 2, 3, 1000, 65535])), draw.choice(sorted(files))) for _ in range(draw.randrange(1, 9))]
+    first = compared(["merge", *(word for pair in pairs for word in pair)], files)
+    draw.shuffle(pairs)
+    second = compared(["merge", *(word for pair in pairs for word in pair)], files)
+    assert first[:2] == second[:2]
+    compared(["summary", "p0"], files)
+    if first[0] == DONE:
+        # What was merged is read, and has the same sums.
+        judge("a merge, merged", first, ["merge", "1", "m"], m=first[1])
+        compared(["summary", "m"], {"m": first[1]})
+
+
+def kinds_at_random():
+    """Of a few hundred texts by seeds some end in each way."""
     for kind in (b"done", b"BadLine", b"TooDeep", b"BadIndent", b"KeyTwice", b"CountTooLarge"):
         if KINDS[kind] < 10:
-            judging.failed += 1
-            print(f"FAILED: texts at random: {KINDS[kind]} cases of {kind.decode()}")
+            judging.fail("texts at random", f"{KINDS[kind]} cases of {kind.decode()}")
 
 
-try_all([rows, texts, refusals, large_sums, words, summaries, profiles, size_limit, at_random])
+PARTS = [rows, texts, refusals, large_sums, words, summaries, profiles, size_limit]

@@ -1,19 +1,10 @@
-#!/usr/bin/env python3
-"""judged PROGRAM: repairs that another solver made, through `pgo check`.
+"""Repairs that another solver made, through `pgo check`.
 
-A thousand random functions are weighed at random and solved here: counts of least cost with prices, or a cut. The
-program has to accept them all. Then one number or one bit of each repair is changed, and the program has to name the
-first line that fails by docs/RULES.md and docs/FORMATS.md ("Repair text"), of which this is a second program, or to
-accept what still holds. The last line tells how many cases passed and failed; a case that failed has a line.
+Random functions are weighed at random and solved here: counts of least cost with prices, or a cut. The program has to accept
+them, alone and all in one text. Then one number or one bit of each repair is changed, and the program has to name the first line
+that fails by docs/RULES.md and docs/FORMATS.md ("Repair text"), of which this is a second program, or to accept what still holds.
 """
-import os
-import random
-import subprocess
-import sys
-import tempfile
-
-PROGRAM = os.path.abspath(sys.argv[1])
-COUNT = 1000
+from judging import DONE, FAILED, fail, judge
 
 
 class Arc:
@@ -207,44 +198,28 @@ def text_of(lines):
     return "".join("# " + " ".join(map(str, line)) + "\n" for line in lines)
 
 
-def main():
-    draw = random.Random(1)
-    passed = failures = cuts = kept = 0
-    with tempfile.TemporaryDirectory() as folder:
-
-        def answer(blocks, repairs):
-            for name, text in (("cfg", blocks), ("out", repairs)):
-                with open(f"{folder}/{name}", "w", encoding="ascii") as file:
-                    file.write(text)
-            ran = subprocess.run([PROGRAM, "check", "cfg", "out"], cwd=folder, stdin=subprocess.DEVNULL, capture_output=True)
-            return ran.returncode, ran.stdout + ran.stderr
-
-        def judge(title, blocks, repairs, line, functions=1):
-            nonlocal passed, failures
-            wanted = (0, b"checked %d\n" % functions) if line is None else (1, b"check failed at line %d\n" % line)
-            said = answer(blocks, repairs)
-            if said == wanted:
-                passed += 1
-            else:
-                failures += 1
-                print(f"FAILED: {title}: {said}, wanted {wanted}\n{blocks}{repairs}")
-
-        functions = [Function(draw) for _ in range(COUNT)]
-        solved = [lines_of(function, *solve(function)) for function in functions]
-        for number, (function, lines) in enumerate(zip(functions, solved)):
-            cuts += lines[0][2] == "cut"
-            if failed(function, lines) is not None:
-                failures += 1
-                print(f"FAILED: function {number} is not solved here: line {failed(function, lines)}\n{text_of(lines)}")
-        judge("all as they were solved", "".join(map(Function.text, functions)), "".join(map(text_of, solved)), None, COUNT)
-        for number, (function, lines) in enumerate(zip(functions, solved)):
-            other = changed(lines, draw)
-            line = failed(function, other)
-            kept += line is None
-            judge(f"function {number}, changed", function.text(), text_of(other), line)
-    print(f"{COUNT} functions, {cuts} of them cuts; {kept} changed numbers left repairs")
-    print(f"{passed} passed, {failures} failed")
-    sys.exit(failures > 0)
+def answers(title, blocks, repairs, line, functions=1):
+    """Holds `check` to the first line that fails, or to that there is none."""
+    wanted = (DONE, b"checked %d\n" % functions, b"") if line is None else (FAILED, b"", b"check failed at line %d\n" % line)
+    judge(title, wanted, ["check", "cfg", "out"], cfg=blocks.encode(), out=repairs.encode())
 
 
-main()
+SOLVED = []
+
+
+def one(draw):
+    """A function, as it was solved and with one number changed."""
+    function = Function(draw)
+    lines = lines_of(function, *solve(function))
+    if failed(function, lines) is not None:
+        fail("a function is not solved here", f"line {failed(function, lines)}\n{text_of(lines)}")
+    SOLVED.append((function.text(), text_of(lines)))
+    answers("as it was solved", *SOLVED[-1], None)
+    other = changed(lines, draw)
+    answers("one number changed", function.text(), text_of(other), failed(function, other))
+
+
+def all_at_once():
+    """All that were solved, in one text."""
+    blocks, repairs = zip(*SOLVED)
+    answers(f"{len(SOLVED)} at once", "".join(blocks), "".join(repairs), None, len(SOLVED))

@@ -1,19 +1,15 @@
-#!/usr/bin/env python3
-"""known.py PROGRAM: runs the built program on binaries of which each byte is known, and on texts of samples of them.
+"""The built program on binaries of which each byte is known, and on texts of samples of them.
 
 What it has to write is worked out by hand from docs/FORMATS.md and docs/RULES.md, and the places of the file where a
-changed byte is refused too. The last line tells how many cases passed and failed; a case that failed has a line.
+changed byte is refused too.
 """
 import itertools
-import os
 import re
 import struct
-import sys
 
-sys.dont_write_bytecode = True
-sys.path.insert(0, os.path.join(os.path.dirname(os.path.abspath(__file__)), "..", "hostile"))
 import make
-from judging import BAD_WORDS, DONE, FAILED, MISSING, REFUSED, USAGE, judge, run, try_all
+from common import TOP
+from judging import BAD_WORDS, DONE, FAILED, MISSING, REFUSED, USAGE, judge, run
 
 # The generated binaries of one function and of two: `f0000` with a call of `g` inlined into it, and `f0001` behind it.
 ONE = make.small(1)
@@ -938,7 +934,7 @@ BOUNDED_CUT = (
 
 def shown():
     """The repair text that docs/FORMATS.md shows."""
-    page = os.path.join(os.path.dirname(os.path.abspath(__file__)), "..", "..", "docs", "FORMATS.md")
+    page = TOP / "docs" / "FORMATS.md"
     with open(page, "rb") as text:
         return re.search(rb"```\n(# function f0000 flow\n.*?)```", text.read(), re.DOTALL)[1]
 
@@ -1092,7 +1088,7 @@ def checks():
         ("cuts", LOOP + BOUNDED, TWO_SAMPLES, []), ("nothing sampled", BLOCKS + LOOP, b"", ["--edges"]),
     ]:
         built = run(["build", *options, "bin", "perf", "cfg"], {"bin": ONE, "perf": perf, "cfg": blocks})
-        passes("what build wrote, " + title, blocks, built.stdout, blocks.count(b"func "))
+        passes("what build wrote, " + title, blocks, built.out, blocks.count(b"func "))
 
 
 # The profile of those weights, and the generated function as one block that leaves at once.
@@ -1201,9 +1197,9 @@ def lifts():
     # What `build` wrote, as it is; what was lifted of it is a profile, and lifts to itself behind the same repairs.
     for options in [], ["--base"], ["--edges"], ["--base", "--edges"]:
         files = {"bin": ONE, "perf": TWO_SAMPLES, "cfg": BLOCKS + LOOP}
-        built = run(["build", *options, "bin", "perf", "cfg"], files).stdout
+        built = run(["build", *options, "bin", "perf", "cfg"], files).out
         bases = [option for option in options if option == "--base"]
-        made = run(["lift", *bases, "bin", "cfg", "out"], {**files, "out": built}).stdout
+        made = run(["lift", *bases, "bin", "cfg", "out"], {**files, "out": built}).out
         title = " ".join(["again", *options])
         judge("lifted and merged alone, " + title, (DONE, made, b""), ["merge", "1", "made"], made=made)
         repairs = b"".join(line for line in built.splitlines(keepends=True) if line[:1] == b"#")
@@ -1253,8 +1249,8 @@ def makes():
     judge("a number without digits", (BAD_WORDS, b"", USAGE), ["make", "", "bin"])
 
     # What is built of 64 functions is the same twice, and its summary is that of its lines.
-    files = {part: run(["make", "64", part], {}).stdout for part in ("bin", "perf", "cfg")}
-    built = run(["build", "bin", "perf", "cfg"], files).stdout
+    files = {part: run(["make", "64", part], {}).out for part in ("bin", "perf", "cfg")}
+    built = run(["build", "bin", "perf", "cfg"], files).out
     judge("64 functions built again", (DONE, built, b""), ["build", "bin", "perf", "cfg"], **files)
     judge("what is built and its summary", (DONE, summary_of(built), b""), ["make", "64", "sum"])
     # The second solver's counts cost as little, 40 a function.
@@ -1263,11 +1259,11 @@ def makes():
         told=lambda out: b"".join(re.findall(rb"# end .*\n", out)), **files,
     )
     # Whoever reads what it wrote passes its last line over: the answers are those to the text without it.
-    scaled = run(["build", "--scaled", "bin", "perf", "cfg"], files).stdout
+    scaled = run(["build", "--scaled", "bin", "perf", "cfg"], files).out
     for words in ["check cfg out", "lift bin cfg out", "merge 1 out", "summary out"]:
         front, _, _ = scaled.rpartition(b"# augmentations ")
         whole = run(words.split(), {**files, "out": front})
-        judge("the last line is passed over: " + words, (DONE, whole.stdout, b""), words.split(), out=scaled, **files)
+        judge("the last line is passed over: " + words, (DONE, whole.out, b""), words.split(), out=scaled, **files)
 
 
 def large():
@@ -1293,7 +1289,7 @@ def large():
     )
 
 
-try_all([
+PARTS = [
     places, range_lists, other_places, chains, chained_profiles, refusals, words, profiles, touched, reports, bases_and_loads, builds,
     builds_with_options, block_texts, weights, checks, lifts, makes, large,
-])
+]

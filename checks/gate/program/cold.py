@@ -1,16 +1,9 @@
-#!/usr/bin/env python3
-"""cold.py COLD: the built program `pgo-cold`, on binaries and profile texts of which each byte is known.
+"""The built program `pgo-cold`, on binaries and profile texts of which each byte is known.
 
-What it has to write is worked out by hand from docs/FORMATS.md and docs/RULES.md. The last line tells how many cases passed and
-failed; a case that failed has a line.
+What it has to write is worked out by hand from docs/FORMATS.md and docs/RULES.md.
 """
-import os
-import sys
-
-sys.dont_write_bytecode = True
-sys.path.insert(0, os.path.join(os.path.dirname(os.path.abspath(__file__)), "..", "hostile"))
 import make
-from judging import BAD_WORDS, DONE, MISSING, REFUSED, judge, try_all
+from judging import BAD_WORDS, DONE, MISSING, REFUSED, judge
 
 USAGE = b"usage: pgo-cold [--base] BIN PROFILE\n"
 # A function `f0000` with the places 0, 1, 2.2 and 3, and 1 in a call of `g` from 2.1; and `f0001` behind it, alike.
@@ -82,4 +75,4 @@ def again():
     made("written again", text, text)
 
 
-try_all([by_hand, refusals, again])
+PARTS = [by_hand, refusals, again]

@@ -17,7 +17,7 @@ import re
 import sys
 
 sys.dont_write_bytecode = True
-sys.path.insert(0, f"{os.path.dirname(os.path.abspath(__file__))}/../../contrib")
+sys.path.insert(0, f"{os.path.dirname(os.path.abspath(__file__))}/../../../contrib")
 from block_text.exceptions import landing_pads  # noqa: E402
 from block_text.program import Functions, Program  # noqa: E402
 

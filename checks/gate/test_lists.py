@@ -6,7 +6,7 @@ import sys
 import tempfile
 import unittest
 
-LISTS = os.path.join(os.path.dirname(os.path.abspath(__file__)), "lists")
+LISTS = os.path.join(os.path.dirname(os.path.dirname(os.path.abspath(__file__))), "lists")
 CITES = {"low": "", "middle": "low::one();", "high": "low::one(); middle::two();"}
 
 

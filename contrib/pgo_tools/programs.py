@@ -1,0 +1,63 @@
+"""Finding and calling other programs: pgo itself, and tools of the system. Each is called by a list of words, without a shell."""
+import os
+import shutil
+import subprocess
+import sys
+
+from pgo_tools.cli import NO_PROGRAM, Trouble
+from pgo_tools.names import text_of
+
+
+def here():
+    """The folder of the script that runs, behind any links to it."""
+    return os.path.dirname(os.path.realpath(sys.argv[0]))
+
+
+def is_program(path):
+    return os.path.isfile(path) and os.access(path, os.X_OK)
+
+
+def pgo():
+    """The program pgo: where the variable PGO says, beside the script, in the folder above, or on the PATH."""
+    said = os.environ.get("PGO")
+    said = said if not said or "/" in said else shutil.which(said)
+    for path in (said, f"{here()}/pgo", f"{here()}/../pgo", shutil.which("pgo")):
+        if path and is_program(path):
+            return os.path.abspath(path)
+    raise Trouble("there is no pgo beside this script, in the folder above, or on the PATH", NO_PROGRAM, "PGO=/where/pgo/is in front")
+
+
+def cold():
+    """The program pgo-cold beside pgo, or None."""
+    path = os.path.join(os.path.dirname(pgo()), "pgo-cold")
+    return path if is_program(path) else None
+
+
+def tool(*names):
+    """Where the first of these programs is that is on the PATH, or None."""
+    return next(filter(None, map(shutil.which, names)), None)
+
+
+def as_file(name):
+    """A file's name as a word that no program takes for an option."""
+    return f"./{name}" if name.startswith("-") else name
+
+
+def plain_words():
+    """The environment in which tools print what their manuals say."""
+    return {**os.environ, "LC_ALL": "C"}
+
+
+def call(words, stdin=subprocess.DEVNULL, stdout=subprocess.PIPE):
+    """Runs a program to its end: its status, its output as bytes (b"" where it went to a file), and its error output as text."""
+    told = subprocess.run(words, stdin=stdin, stdout=stdout, stderr=subprocess.PIPE, env=plain_words(), check=False)
+    return told.returncode, told.stdout or b"", text_of(told.stderr).strip()
+
+
+def answer(*words):
+    """What a program prints, as a text, and nothing where it is not there or fails."""
+    try:
+        status, said, _ = call(list(words))
+    except OSError:
+        return ""
+    return "" if status else text_of(said)

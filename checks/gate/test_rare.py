@@ -95,8 +95,8 @@ class Programs(Case):
             with self.subTest(compiler=compiler):
                 plain, barred = self.texts(compiler)
                 self.assertNotIn(" never\n", plain)
-                self.assertRegex(self.function(plain, "around"), r"\n# blocks? [0-9 ]+: only unwinding comes here\n")
-                self.assertRegex(self.function(plain, "checked" if "checked" in plain else "risky"), ": every way leads to what never returns\n")
+                self.assertRegex(self.function(plain, "around"), r"\n# rare: only unwinding comes to [0-9 ]+\n")
+                self.assertRegex(self.function(plain, "checked" if "checked" in plain else "risky"), r"\n# rare: every way from [0-9 ]+ leads to what never returns\n")
                 self.assertRegex(self.function(barred, "around"), r"\nblock [1-9][0-9]* 0x[0-9a-f]+ 0x[0-9a-f]+( exit)? never\n")
                 self.assertEqual(barred.replace(" never\n", "\n"), plain)
                 self.no_cut_comes_of_it(plain, barred)

@@ -93,13 +93,13 @@ def living(follow, before, exits, wanted):
 
 def said(numbers, what):
     """A comment on these blocks, or none."""
-    return [f"# {'block' if len(numbers) == 1 else 'blocks'} {' '.join(map(str, sorted(numbers)))}: {what}"] if numbers else []
+    return [f"# rare: {what.format(' '.join(map(str, sorted(numbers))))}"] if numbers else []
 
 
 def judged(lows, highs, follow, exits, kinds, touch):
     """Comment lines on the rare blocks of a function, and the set of those to be told `never`; `touch` is None without samples."""
     unwound, doomed = marked(lows, follow, exits, kinds)
-    lines = said(unwound, "only unwinding comes here") + said(doomed, "every way leads to what never returns")
+    lines = said(unwound, "only unwinding comes to {}") + said(doomed, "every way from {} leads to what never returns")
     if touch is None:
         return lines, set()
     touched = {n for n, (low, high) in enumerate(zip(lows, highs)) if touch.holds(low, high)}

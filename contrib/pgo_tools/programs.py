@@ -5,6 +5,7 @@ import shutil
 import signal
 import subprocess
 import sys
+import threading
 
 from pgo_tools.cli import NO_PROGRAM, Trouble, stop
 from pgo_tools.names import text_of
@@ -50,12 +51,6 @@ def plain_words():
     return {**os.environ, "LC_ALL": "C"}
 
 
-def call(words, stdin=subprocess.DEVNULL, stdout=subprocess.PIPE):
-    """Runs a program to its end: its status, its output as bytes (b"" where it went to a file), and its error output as text."""
-    told = subprocess.run(words, stdin=stdin, stdout=stdout, stderr=subprocess.PIPE, env=plain_words(), check=False)
-    return told.returncode, told.stdout or b"", text_of(told.stderr).strip()
-
-
 @contextlib.contextmanager
 def running(words, **how):
     """A program that runs beside the block, and is ended with it where the block is left by a Trouble or a signal.
@@ -64,6 +59,8 @@ def running(words, **how):
     """
     late, process = [], None
     heard = [each for each in (signal.SIGINT, signal.SIGTERM, signal.SIGHUP) if signal.getsignal(each) == stop]
+    if threading.current_thread() is not threading.main_thread():
+        heard = []
     for each in heard:
         signal.signal(each, lambda number, _: late.append(number))
     try:
@@ -83,6 +80,17 @@ def running(words, **how):
         if process:
             with process:
                 pass
+
+
+def call(words, stdin=subprocess.DEVNULL, stdout=subprocess.PIPE, given=None):
+    """Runs a program to its end: its status, its output as bytes (b"" where it went to a file), and its error output as text.
+
+    `given` is what it reads, in place of `stdin`.
+    """
+    source = stdin if given is None else subprocess.PIPE
+    with running(words, stdin=source, stdout=stdout, stderr=subprocess.PIPE) as process:
+        said, err = process.communicate(given)
+    return process.returncode, said or b"", text_of(err).strip()
 
 
 def answer(*words):

@@ -41,6 +41,14 @@ def cut(text, width):
     return text if len(text) <= width else text[: width - 2] + ".."
 
 
+def cut_middle(text, width):
+    """The text's two ends, with two points between them where some is left out: names often differ at the end alone."""
+    if len(text) <= width:
+        return text
+    first = (width - 2) // 2
+    return text[:first] + ".." + text[len(text) - (width - 2 - first) :]
+
+
 def demangled(names):
     """Each name as its program's source has it, where a demangler is there, and else as it stands."""
     names = list(names)

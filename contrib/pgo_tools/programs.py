@@ -1,10 +1,13 @@
 """Finding and calling other programs: pgo itself, and tools of the system. Each is called by a list of words, without a shell."""
+import contextlib
 import os
 import shutil
+import signal
 import subprocess
 import sys
+import threading
 
-from pgo_tools.cli import NO_PROGRAM, Trouble
+from pgo_tools.cli import NO_PROGRAM, Trouble, stop
 from pgo_tools.names import text_of
 
 
@@ -41,8 +44,8 @@ def tool(*names):
 
 
 def as_file(name):
-    """A file's name as a word that no program takes for an option."""
-    return f"./{name}" if name.startswith("-") else name
+    """A file's name as a word that no program takes for an option, nor for a file of more words (@FILE)."""
+    return f"./{name}" if name.startswith(("-", "@")) else name
 
 
 def plain_words():
@@ -50,10 +53,46 @@ def plain_words():
     return {**os.environ, "LC_ALL": "C"}
 
 
-def call(words, stdin=subprocess.DEVNULL, stdout=subprocess.PIPE):
-    """Runs a program to its end: its status, its output as bytes (b"" where it went to a file), and its error output as text."""
-    told = subprocess.run(words, stdin=stdin, stdout=stdout, stderr=subprocess.PIPE, env=plain_words(), check=False)
-    return told.returncode, told.stdout or b"", text_of(told.stderr).strip()
+@contextlib.contextmanager
+def running(words, **how):
+    """A program that runs beside the block, and is ended with it where the block is left by a Trouble or a signal.
+
+    A signal that comes while the program is started is heard once it can be ended, too.
+    """
+    late, process = [], None
+    heard = [each for each in (signal.SIGINT, signal.SIGTERM, signal.SIGHUP) if signal.getsignal(each) == stop]
+    if threading.current_thread() is not threading.main_thread():
+        heard = []
+    for each in heard:
+        signal.signal(each, lambda number, _: late.append(number))
+    try:
+        try:
+            process = subprocess.Popen(words, env=plain_words(), **how)
+        finally:
+            for each in heard:
+                signal.signal(each, stop)
+        if late:
+            stop(late[0], None)
+        yield process
+    except BaseException:
+        if process:
+            process.kill()
+        raise
+    finally:
+        if process:
+            with process:
+                pass
+
+
+def call(words, stdin=subprocess.DEVNULL, stdout=subprocess.PIPE, given=None):
+    """Runs a program to its end: its status, its output as bytes (b"" where it went to a file), and its error output as text.
+
+    `given` is what it reads, in place of `stdin`.
+    """
+    source = stdin if given is None else subprocess.PIPE
+    with running(words, stdin=source, stdout=stdout, stderr=subprocess.PIPE) as process:
+        said, err = process.communicate(given)
+    return process.returncode, said or b"", text_of(err).strip()
 
 
 def answer(*words):

@@ -3,8 +3,11 @@ case is skipped.
 
 `PGO` and `PGO_COLD` name other programs than those that were built here, or else those of release/.
 """
+import hashlib
 import os
 import pathlib
+import random
+import shlex
 import shutil
 import signal
 import subprocess
@@ -16,6 +19,8 @@ from typing import Callable, NamedTuple, Optional
 
 sys.dont_write_bytecode = True
 HERE = pathlib.Path(__file__).resolve().parent
+# What holds the programs to what is known of them.
+sys.path.insert(0, str(HERE / "program"))
 TOP = HERE.parent.parent
 CONTRIB = TOP / "contrib"
 WORDS = TOP / "demo" / "words"
@@ -31,9 +36,11 @@ def program(variable: str, name: str, crate: str) -> str:
     """The program that the environment names; else the one that was built here, where out/built says so; else release/'s."""
     if os.environ.get(variable):
         return os.path.abspath(os.environ[variable])
-    built = TOP / "crates" / crate / "out" / crate
-    whole = (TOP / "out" / "built").is_file() and os.access(built, os.X_OK)
-    return str(built if whole else TOP / "release" / name)
+    built, record = TOP / "crates" / crate / "out" / crate, TOP / "out" / "built"
+    if record.is_file() and os.access(built, os.X_OK):
+        if f"{name} {hashlib.sha256(built.read_bytes()).hexdigest()}" in record.read_text().splitlines():
+            return str(built)
+    return str(TOP / "release" / name)
 
 
 PGO = program("PGO", "pgo", "pgo_cli")
@@ -78,6 +85,11 @@ def run(*words, folder=None, given=b"", limit=120, environment=None, output=None
 def python(*words, **how) -> Ran:
     """The same for a script of Python, by the one that runs here."""
     return run(sys.executable, *words, **how)
+
+
+def within(limit, *words) -> list:
+    """The words that run a program within a limit of the shell's, as `ulimit -v 16000`."""
+    return ["sh", "-c", f'{limit} && exec "$@"', "sh", *words]
 
 
 def on_full_device(*words, **how) -> "list[Ran]":
@@ -138,6 +150,27 @@ def needs_file(path):
     return unittest.skipUnless(os.path.exists(path), f"there is no {path}")
 
 
+try:
+    import hypothesis
+    from hypothesis import strategies
+except ImportError:
+    hypothesis = None
+SHRINKS = hypothesis is not None
+
+
+def each_drawn(examples: int, tried: Callable) -> bool:
+    """Tries what is drawn so many times, from a source of draws as random.Random is: by hypothesis where it is installed, which makes
+    the draws of what fails as small as it can, and else by the seeds from 1 on. Tells whether it was by seeds."""
+    if hypothesis is None:
+        for seed in range(1, examples + 1):
+            tried(random.Random(seed))
+        return True
+    checks = list(hypothesis.HealthCheck)
+    settings = hypothesis.settings(max_examples=examples, deadline=None, database=None, derandomize=True, suppress_health_check=checks)
+    settings(hypothesis.given(strategies.randoms(use_true_random=False))(lambda draw: tried(draw)))()
+    return False
+
+
 class Case(unittest.TestCase):
     """A case with a folder of its own, which is removed behind it."""
 
@@ -158,6 +191,11 @@ class Case(unittest.TestCase):
     def run_here(self, *words, **how) -> Ran:
         """Runs a program in the case's folder."""
         return run(*words, folder=how.pop("folder", self.folder), **how)
+
+    def expects(self, title, ran: Ran, status, out=b"", err=b""):
+        """The same as a case of its own."""
+        with self.subTest(title):
+            self.expect(ran, status, out, err)
 
     def names(self, below=".") -> "list[str]":
         """What the case's folder holds, or one below it."""
@@ -193,4 +231,5 @@ class Case(unittest.TestCase):
 
 
 if __name__ == "__main__":
-    sys.exit("common.py holds what the checks share: python3 -m unittest discover checks/gate")
+    # For scripts of the shell.
+    print(f"PGO={shlex.quote(PGO)} PGO_COLD={shlex.quote(COLD)}")

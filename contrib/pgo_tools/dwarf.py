@@ -7,8 +7,7 @@ import struct
 
 from pgo_tools.names import text_of
 
-PRODUCER, STATEMENTS, DECLARED_LINE, OFFSETS_BASE = 0x25, 0x10, 0x3B, 0x72
-SUBPROGRAM = 0x2E
+PRODUCER, OFFSETS_BASE = 0x25, 0x72
 # Forms of a fixed size (DWARF 5, section 7.5.6); the offsets' size stands in for "word".
 FIXED = {
     0x01: 8, 0x05: 2, 0x06: 4, 0x07: 8, 0x0B: 1, 0x0C: 1, 0x11: 1, 0x12: 2, 0x13: 4, 0x14: 8, 0x19: 0, 0x1E: 16, 0x20: 8,
@@ -160,9 +159,3 @@ class Units:
             if text:
                 found[text] += unit.end - unit.at
         return found
-
-    def has_start_lines(self, wanted):
-        """A function of some unit whose producer is wanted says in which line it starts (DW_AT_decl_line)."""
-        tables = {unit.table for unit in self.each() if wanted(unit.text(PRODUCER))}
-        rows = [row for table in tables for tag, row in self.abbreviations(table).values() if tag == SUBPROGRAM]
-        return not rows or any(name == DECLARED_LINE for row in rows for name, _, _ in row)

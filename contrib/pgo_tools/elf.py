@@ -2,6 +2,7 @@
 import collections
 import mmap
 import os
+import re
 import struct
 import zlib
 from typing import NamedTuple
@@ -13,6 +14,8 @@ EXECUTABLE, SHARED = 2, 3
 NOBITS, NOTE, COMPRESSED = 8, 7, 0x800
 LOAD, LOADED_NOTE, EXECUTE = 1, 4, 1
 X86_64 = 62
+# An extended operation of few bytes with the number 4.
+DISCRIMINATOR = re.compile(rb"\x00[\x02-\x06]\x04")
 FAULTS = (struct.error, IndexError, ValueError, OverflowError, KeyError, zlib.error)
 
 
@@ -152,6 +155,24 @@ class Elf:
             return collections.Counter()
 
 
+    def makers(self):
+        """Who made the code, by shares of the debugging information: [("clang", 0.9), ("gcc", 0.1)]; assembled parts are left out."""
+        sums = collections.Counter()
+        for producer, size in self.producers().items():
+            sums[maker(producer)] += size
+        del sums["as"]
+        whole = sum(sums.values())
+        return [(name, size / whole) for name, size in sums.most_common()]
+
+    def has_discriminators(self):
+        """Line programs set discriminators (DWARF 5, 6.2.5.3): of clang and rustc only where they were asked for profiling.
+
+        What looks like such an operation can be something else, so a few in a large program are none.
+        """
+        lines = self.bytes_of(".debug_line", 1 << 26)[: 1 << 26]
+        return len(DISCRIMINATOR.findall(lines)) * 4000 > len(lines)
+
+
 def is_elf(path):
     """The file at a path begins as an ELF file does."""
     try:
@@ -161,7 +182,7 @@ def is_elf(path):
         return False
 
 
-MAKERS = [("rustc", "rustc"), ("clang", "clang"), ("LLVM", "clang"), ("GNU", "gcc"), ("Go ", "go"), ("gc", "go")]
+MAKERS = [("rustc", "rustc"), ("clang", "clang"), ("LLVM", "clang"), ("GNU", "gcc"), ("Go ", "go")]
 
 
 def maker(producer):

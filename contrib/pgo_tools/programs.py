@@ -31,9 +31,11 @@ def pgo():
 
 
 def cold():
-    """The program pgo-cold beside pgo, or None."""
-    path = os.path.join(os.path.dirname(pgo()), "pgo-cold")
-    return path if is_program(path) else None
+    """The program pgo-cold: where the variable PGO_COLD says, or beside pgo; or None."""
+    for path in (os.environ.get("PGO_COLD"), os.path.join(os.path.dirname(pgo()), "pgo-cold")):
+        if path and is_program(path):
+            return os.path.abspath(path)
+    return None
 
 
 def tool(*names):

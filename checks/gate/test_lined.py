@@ -3,9 +3,13 @@ here, position-independent or not, stripped or not, walked through by drawn ways
 import collections
 import random
 import shutil
+import sys
 import unittest
 
 from common import BLOCKS, CONTRIB, HERE, MISSING, PGO, REFUSED, TEXT, TOP, WORDS, BAD_WORDS, Case, needs, run
+
+sys.path.insert(0, str(CONTRIB))
+from pgo_tools import dwarf_writer  # noqa: E402
 
 LINED, MAKER = CONTRIB / "lined", CONTRIB / "blocks"
 NOTE = "lined: for pgo build, people and contrib/draw; a profile made with it is not for clang\n"
@@ -158,6 +162,15 @@ class OfTheDemo(Case):
         self.expect(self.run_here(LINED, WORDS, BLOCKS, "-o", "lined"), 0, b"", NOTE)
         ran = self.run_here("llvm-dwarfdump", "--verify", "lined")
         self.assertEqual(ran.status, 0, ran.out[-500:])
+
+
+class Names(unittest.TestCase):
+    """Each function has a name of its own, which a profile can hold."""
+
+    def test_names(self):
+        given = [("f", 1), ("f", 2), ("f", 2), ("type:.eq.x1", 3), ("9p", 4), ("[x", 5), ("#", 6), ("a\x7f b", 7), ("f@0x1", 8), ("g", 9)]
+        wanted = ["f@0x1.2", "f@0x2", "f@0x2.2", "type_.eq.x1", "_9p", "_[x", "_#", "a__b", "f@0x1", "g"]
+        self.assertEqual(dwarf_writer.own_names(given), wanted)
 
 
 class OfCompilers(Case):

@@ -206,6 +206,8 @@ class OfCompilers(Case):
                 with self.subTest(compiler=compiler, flags=flags):
                     self.agrees(*flags, compiler=compiler)
 
+    test_counts_of_drawn_ways_are_found_again.takes = 20
+
     @needs("gcc", "strip")
     def test_a_stripped_program_has_them_too(self):
         for words in (["strip", "-g"], ["strip"]):

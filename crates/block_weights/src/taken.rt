@@ -20,8 +20,8 @@ pub(crate) fn rank(to: u64, from: u64) -> u128
     u128::from(to) * SOURCES + u128::from(from)
 }
 
-/// How often the branches in front of each place of their list were taken, and behind the last place
-/// all of them: one sum more than there are branches.
+/// How often the branches in front of each place of their list were taken, and behind the last
+/// place all of them: one sum more than there are branches.
 pub(crate) fn sums_of(alloc: Global, branches: &[Pair]) -> Result<Vec<u64>, NoMemory>
     requires { branches_taken branches.now < 2 ^ 32 }
     ensures { IfOk result (λ sums. AreSums branches.now sums.items) }

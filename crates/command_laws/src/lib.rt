@@ -1,6 +1,6 @@
 //! What follows from how commands answer: that `check` accepts what `build` writes, and passes
-//! least counts and cuts alone, that `merge` writes again what `profile` and `build` wrote, and that
-//! the order of its files is no matter; and where an entry counts in a profile.
+//! least counts and cuts alone, that `merge` writes again what `profile` and `build` wrote, and
+//! that the order of its files is no matter; and where an entry counts in a profile.
 #![tactic(auto)]
 
 mod laws;

@@ -75,8 +75,7 @@ all_least [] [] sound told passes = tt
 all_least [] (r ∷ repairs) sound told passes = told
 all_least (fun ∷ funs) [] sound told passes = told
 all_least (fun ∷ funs) ((line, r) ∷ repairs) sound told passes =
-    let both = none_of_two (failed_in fun line r) (checking.failed_line funs repairs) passes in
-    (
+    let both = none_of_two (failed_in fun line r) (checking.failed_line funs repairs) passes in (
       least (network_by fun r) r.solution r.first r.second ((passing_lines_repair fun line r sound.0 told.0.whole).0 both.0),
       all_least funs repairs sound.1 told.1 both.1,
     )

@@ -42,7 +42,6 @@ all_pass (x ∷ xs) = ap (λ rest. x ∷ rest) (all_pass xs)
 
 -- ---- what one branch gives
 
-
 no_entry : (reason : Option Reason) → is_entry (class_by_reason reason) ≡ false
 no_entry None = refl
 no_entry (Some reason) = refl

@@ -1,5 +1,5 @@
 -- What passed `check` is least.
-use Rattle.std.proofs.Common.{◌≡◌, ℕ, ◌≤◌, ◌<◌, ◌^◌, Bool, true, false, List, [], ◌∷◌, length, Option, None, Some, nat_lt, refl, arith, sym, ap, ◌∙◌, subst}
+use Rattle.std.proofs.Common.{◌≡◌, ℕ, ◌≤◌, ◌<◌, ◌^◌, Bool, true, false, List, [], ◌∷◌, length, Option, None, Some, nat_lt, refl, arith, subst}
 use Rattle.std.specs.List.{AllByRecursion, AllZip}
 use Rattle.std.specs.Option.{option_or}
 use Rattle.std.proofs.lemmas.Bool.Decides.{nat_tests}
@@ -8,9 +8,8 @@ use Rattle.refusal.specs.declared.place.Place.{Place}
 use Rattle.refusal.specs.Place.{fails_at, first_bad, size_item}
 use Rattle.block_model.specs.Function.{Function}
 use Rattle.block_model.specs.Text.{functions_of}
-use Rattle.flow_model.specs.Network.{Network, arcs_of}
+use Rattle.flow_model.specs.Network.{Network}
 use Rattle.flow_model.specs.Sound.{IsSound}
-use Rattle.flow_model.specs.Cut.{IsCut, least_in, most_out}
 use Rattle.flow_model.specs.Sides.{at_side}
 use Rattle.flow_model.proofs.LawLemmas.{a_cut_shows_no_counts}
 use Rattle.sound_text.proofs.TextLemmas.{good_texts_are_sound}
@@ -76,8 +75,7 @@ all_least [] [] sound told passes = tt
 all_least [] (r ∷ repairs) sound told passes = told
 all_least (fun ∷ funs) [] sound told passes = told
 all_least (fun ∷ funs) ((line, r) ∷ repairs) sound told passes =
-    let both = none_of_two (failed_in fun line r) (checking.failed_line funs repairs) passes in
-    (
+    let both = none_of_two (failed_in fun line r) (checking.failed_line funs repairs) passes in (
       least (network_by fun r) r.solution r.first r.second ((passing_lines_repair fun line r sound.0 told.0.whole).0 both.0),
       all_least funs repairs sound.1 told.1 both.1,
     )

@@ -7,10 +7,9 @@ use Rattle.std.proofs.lemmas.List.Sums.{sum_by-cons}
 use Rattle.profile_model.specs.Ways.{Way, same_name, same_way}
 use Rattle.report_model.specs.declared.class.Reason.{Reason}
 use Rattle.report_model.specs.Branches.{class_by_reason, is_entry}
-use Rattle.report_model.specs.Report.{Sampled}
 use Rattle.binary_model.specs.Places.{Place}
-use Rattle.output_model.specs.Program.{Program, way_at}
-use Rattle.output_model.specs.Sampled.{call_by, call_of, class_of_branch, class_of_places, classes_of, has_way, head_of, profile_of}
+use Rattle.output_model.specs.Program.{way_at}
+use Rattle.output_model.specs.Sampled.{call_by, call_of, class_of_branch, class_of_places, has_way, head_of, profile_of}
 use Rattle.command_laws.specs.Entries.{EntriesCount, enters}
 
 -- What a branch adds to a sum over what branches give.
@@ -42,7 +41,6 @@ all_pass [] = refl
 all_pass (x ∷ xs) = ap (λ rest. x ∷ rest) (all_pass xs)
 
 -- ---- what one branch gives
-
 
 no_entry : (reason : Option Reason) → is_entry (class_by_reason reason) ≡ false
 no_entry None = refl

@@ -18,7 +18,7 @@ class BlockMap:
                     piece = Bytes(program.data, section.offset, 0)
                     while piece.at < section.offset + section.size:
                         self.read(piece)
-        except (struct.error, IndexError) as fault:
+        except (struct.error, IndexError, ValueError) as fault:
             raise Refused(f"the program's map of basic blocks is damaged: {fault}") from None
 
     def read(self, piece):
@@ -42,19 +42,16 @@ class BlockMap:
                     piece.uleb()
                 if features & 4:
                     follow[name] = [(piece.uleb(), piece.uleb())[0] for _ in range(piece.uleb())]
+        names = {name for name, _, _, _ in blocks}
+        if len(names) < len(blocks) or any(it not in names for there in follow.values() for it in there):
+            raise ValueError("blocks of one number, or an edge to no block")
         if blocks and features & 4:
             self.functions[blocks[0][1]] = (blocks, follow)
 
     def blocks(self, at):
         """Rows [low, high, successors, exit] in the order of the map; and comment lines."""
         blocks, follow = self.functions[at]
-        starts, notes = {}, []
-        for k in range(len(blocks) - 1, -1, -1):
-            name, low, high, what = blocks[k]
-            following = blocks[k + 1] if k + 1 < len(blocks) else None
-            starts[name] = low
-            if low == high and following is not None:
-                starts[name] = starts[following[0]]
+        starts, notes = self.starts(blocks, follow), []
         rows, inside = [], {low for _, low, _, _ in blocks}
         for k, (name, low, high, what) in enumerate(blocks):
             if low == high:
@@ -62,14 +59,36 @@ class BlockMap:
             leaves = bool(what & 3) or self.tail_branch(low, high, inside)
             if what & 8 and k + 1 < len(blocks) and high < blocks[k + 1][1] < high + 64:
                 high = blocks[k + 1][1]
-            there = [starts[it] for it in follow[name]]
+            there = list(dict.fromkeys(start for it in follow[name] for start in starts[it]))
             if what & 16 and not there:
                 notes.append(f"block at {low:#x} ends in a jump that leads to places that are not known: exit")
             rows.append([low, high, there, leaves])
         return rows, notes
 
+    @staticmethod
+    def starts(blocks, follow):
+        """Where the flow goes on that enters a block of this name: at its start, or, of one without code, where that leads.
+
+        Behind a call that never returns clang has a block without code that leads nowhere: what stands there is another one.
+        """
+        code = {name: low for name, low, high, _ in blocks if low < high}
+        found = {}
+        for name, _, _, _ in reversed(blocks):
+            seen, work, ends = {name}, [name], []
+            while work:
+                here = work.pop()
+                if here in code or here in found:
+                    ends.extend([code[here]] if here in code else found[here])
+                    continue
+                there = [it for it in follow[here] if it not in seen]
+                seen.update(there)
+                work.extend(reversed(there))
+            found[name] = ends
+        return found
+
     def tail_branch(self, low, high, inside):
         """Whether a block ends in a conditional tail call, alone or in front of a jump; the map tells of others."""
+        low = max(low, high - 11)
         code = self.program.read(low, high - low) or b""
         for size in (0, 2, 5):
             at = len(code) - size - 6

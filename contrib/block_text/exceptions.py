@@ -1,7 +1,8 @@
 """The landing pads of a program, by its tables of exceptions."""
 import struct
 
-from block_text.program import NOBITS, Refused
+from block_text.program import Refused
+from pgo_tools.elf import NOBITS
 
 class Bytes:
     """A place in the bytes of a section, and what is read from there."""
@@ -23,6 +24,8 @@ class Bytes:
             shift += 7
             if byte < 128:
                 return value
+            if shift > 140:
+                raise ValueError("a number has no end")
 
     def sleb(self):
         start = self.at

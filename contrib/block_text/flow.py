@@ -1,9 +1,12 @@
 """The flow of functions, as objdump prints it: the instructions that do not simply go on at the next."""
-import os
 import re
 import subprocess
+import tempfile
 
-from block_text.program import Refused, text_of
+from block_text.program import Refused
+from pgo_tools.cli import NO_PROGRAM, Trouble
+from pgo_tools.names import text_of
+from pgo_tools.programs import as_file, running
 
 # What is called and never comes back. Functions of the program itself are found out, these are those of libraries.
 NO_RETURN = frozenset("""
@@ -33,25 +36,36 @@ TO_NOWHERE, TO_STRANGER = -1, -2
 
 def printed(path):
     """What objdump prints of the program's code, in pieces that each begin at a symbol."""
-    words = ["objdump", "-d", "-w", "--no-show-raw-insn", "--", path]
-    try:
-        with subprocess.Popen(words, stdout=subprocess.PIPE, stderr=subprocess.PIPE, env={**os.environ, "LC_ALL": "C"}) as run:
-            rest = b""
-            while True:
-                piece = run.stdout.read(1 << 22)
-                rest += piece
-                cut = rest.rfind(b"\n\n") if piece else len(rest)
-                if cut >= 0:
-                    heads = list(HEADER.finditer(rest, 0, cut))
-                    for head, following in zip(heads, [it.start() for it in heads[1:]] + [cut]):
-                        yield int(head[1], 16), rest[head.end():following]
-                    rest = rest[cut:]
-                if not piece:
-                    break
-            if run.wait():
-                raise Refused(f"objdump failed: {text_of(run.stderr.read()).strip()}")
-    except FileNotFoundError:
-        raise Refused("there is no objdump (package binutils)") from None
+    words = ["objdump", "-d", "-w", "--no-show-raw-insn", "--", as_file(path)]
+    with tempfile.TemporaryFile() as said:
+        try:
+            with running(words, stdin=subprocess.DEVNULL, stdout=subprocess.PIPE, stderr=said) as run:
+                yield from pieces(run.stdout)
+        except FileNotFoundError:
+            raise Trouble("there is no objdump", NO_PROGRAM, "the package binutils") from None
+        if run.returncode:
+            said.seek(0)
+            raise Refused(f"objdump failed: {one_line(said.read(500))}")
+
+
+def one_line(raw):
+    return " ".join(text_of(raw).split())
+
+
+def pieces(stream):
+    """The code of each symbol in what objdump prints: its address, and the lines behind its head."""
+    rest = b""
+    while True:
+        piece = stream.read(1 << 22)
+        rest += piece
+        cut = rest.rfind(b"\n\n") if piece else len(rest)
+        if cut >= 0:
+            heads = list(HEADER.finditer(rest, 0, cut))
+            for head, following in zip(heads, [it.start() for it in heads[1:]] + [cut]):
+                yield int(head[1], 16), rest[head.end():following]
+            rest = rest[cut:]
+        if not piece:
+            break
 
 
 class Reader:

@@ -1,67 +1,46 @@
 """The file of a program: its sections, symbols and relocations, and the functions with their parts."""
 import bisect
-import collections
-import mmap
-import os
 import re
 import struct
 
+from pgo_tools.cli import REFUSED, Trouble
+from pgo_tools.elf import EXECUTABLE, FAULTS, NOBITS, SHARED, X86_64, Elf
+
 PART_NAME = re.compile(r"(.+?)\.(?:cold|__part|eh)(?:\.\d+)*$")
 
-class Refused(Exception):
+ALLOC, EXECUTE, WRITE = 2, 4, 1
+SYMBOLS, RELA, DYNAMIC_SYMBOLS = 2, 4, 11
+
+
+class Refused(Trouble):
     """What the user is told in one line."""
 
-
-Section = collections.namedtuple("Section", "name kind flags address offset size link entry")
-ALLOC, EXECUTE, WRITE = 2, 4, 1
-NOBITS, SYMBOLS, RELA, DYNAMIC_SYMBOLS = 8, 2, 4, 11
+    def __init__(self, what, helps=""):
+        super().__init__(what, REFUSED, helps)
 
 
-def text_of(raw):
-    return raw.decode("utf-8", "surrogateescape")
-
-
-class Program:
+class Program(Elf):
     """Sections, symbols and relocations of an ELF file for x86-64."""
 
     def __init__(self, path):
-        with open(path, "rb") as file:
-            whole = os.fstat(file.fileno()).st_size if os.path.isfile(path) else 0
-            self.data = mmap.mmap(file.fileno(), 0, access=mmap.ACCESS_READ) if whole else b""
-        if self.data[:4] != b"\x7fELF":
-            raise Refused(f"{path} is no ELF file")
-        if self.data[4:6] != b"\x02\x01" or len(self.data) < 64 or struct.unpack_from("<H", self.data, 18)[0] != 62:
+        super().__init__(path)
+        if self.machine != X86_64:
             raise Refused(f"{path} is not a program for x86-64")
-        if struct.unpack_from("<H", self.data, 16)[0] not in (2, 3):
-            raise Refused(f"{path} is not linked: give the program")
-        try:
-            self.read_sections()
-            self.read_symbols()
-            self.read_relocations()
-        except (struct.error, IndexError, ValueError, OverflowError) as fault:
-            raise Refused(f"{path} is damaged or cut off: {fault}") from None
-
-    def read_sections(self):
-        at, = struct.unpack_from("<Q", self.data, 40)
-        size, count, names = struct.unpack_from("<HHH", self.data, 58)
-        if not at:
-            raise Refused("the program has no sections")
-        first = struct.unpack_from("<IIQQQQIIQQ", self.data, at)
-        count, names = count or first[5], first[6] if names == 0xFFFF else names
-        rows = [struct.unpack_from("<IIQQQQIIQQ", self.data, at + size * k) for k in range(count)]
-        base = rows[names][4]
-        self.sections = []
-        for name, kind, flags, address, offset, length, link, _, _, entry in rows:
-            self.sections.append(Section(self.name_at(base + name), kind, flags, address, offset, length, link, entry))
+        if self.kind not in (EXECUTABLE, SHARED):
+            raise Refused(f"{path} is not linked", "give the program")
+        if not self.sections:
+            raise Refused(f"{path} has no sections")
         self.loaded = sorted((it for it in self.sections if it.flags & ALLOC and it.kind != NOBITS and it.size),
                              key=lambda it: it.address)
         self.starts = [it.address for it in self.loaded]
+        try:
+            self.read_symbols()
+            self.read_relocations()
+        except FAULTS as fault:
+            raise Refused(f"{path} is damaged or cut off: {fault}") from None
 
     def name_at(self, offset):
-        end = self.data.find(b"\0", offset)
-        if end < 0:
-            raise ValueError("a name has no end")
-        return text_of(self.data[offset:end])
+        return self.text_at(self.data, offset)
 
     def read_symbols(self):
         """The functions by address with all their names, and the sized objects."""

@@ -31,7 +31,8 @@ MEMORY = re.compile(r"(?:%[c-gs]s:)?(-?0x[0-9a-f]+)?(?:\((%\w+)?(?:,(%\w+),(\d))
 NO_CHANGE = re.compile(r"cmp|test|nop|bt$|u?comis|v?u?comis|prefetch|endbr|push|j|ret|hlt|ud|lfence|mfence|sfence|pause")
 MOST_VALUES, MOST_ENTRIES, NEAR = 12, 65536, 24
 # What is known of a register or a slot of the stack: an address; one behind it by some index; 8 or 4 bytes of a table, which
-# the index chooses; such 4 bytes and a base; a place on the stack, from where it stood at the entry.
+# the index chooses; such 4 bytes and a base; a place on the stack, from where it stood at the entry. Of 4 bytes it is known
+# too which register told the table, and its value, as long as the register keeps it: another value is not its base.
 PLACE, BEHIND, WIDE, NARROW, SUM, STACK = range(6)
 NOTHING = frozenset()
 
@@ -106,6 +107,7 @@ class Tables:
             # The rest may outlive the call, as gcc knows of functions in the same file (-fipa-ra).
             for name in RESULTS:
                 state.pop(name, None)
+                self.forget(name, state)
             for pad in self.unit.pads.get(address, ()):
                 self.arrive(pad, state)
         if kind in (BRANCH, CALL):
@@ -227,8 +229,10 @@ class Tables:
                 state["%rsp"] = state.get("%rbp", NOTHING)
                 state["%rbp"] = self.loaded(state["%rsp"], 8, state)
                 self.shift(state, 8)
+                self.forget("%rbp", state)
             elif word in ("cltq", "cdqe"):
                 state["%rax"] = frozenset(it for it in state.get("%rax", NOTHING) if it[0] == NARROW)
+                self.forget("%rax", state)
             return
         target = operands[-1]
         if word in ("pop", "popq"):
@@ -244,6 +248,7 @@ class Tables:
                 state[name] = values
             else:
                 state.pop(name, None)
+            self.forget(name, state)
         elif "(" in target and not word.startswith("lea"):
             self.store(state, self.place(target, note, state), values)
 
@@ -260,7 +265,8 @@ class Tables:
         if word.startswith("cmov"):
             return self.value(source, note, state, 8) | state.get(REGISTERS[target][0], NOTHING)
         if word.startswith("add") and len(operands) == 2 and target in REGISTERS:
-            return self.added(self.value(source, note, state, 8), state.get(REGISTERS[target][0], NOTHING), source)
+            name = REGISTERS.get(source, ("",))[0]
+            return self.added((self.value(source, note, state, 8), name), (state.get(REGISTERS[target][0], NOTHING), REGISTERS[target][0]), source)
         if word.startswith("sub") and len(operands) == 2 and source.startswith("$") and target in REGISTERS:
             return self.moved(state.get(REGISTERS[target][0], NOTHING), -number(source[1:]))
         if word.startswith("and") and target == "%rsp":
@@ -273,7 +279,7 @@ class Tables:
         if operand.startswith("$"):
             value = number(operand[1:]) % (1 << 64)
             return frozenset([(PLACE, value)]) if self.program.section_of(value) else NOTHING
-        return self.loaded(self.place(operand, note, state), wide, state)
+        return self.loaded(self.place(operand, note, state), wide, state, operand)
 
     def place(self, operand, note, state):
         """What is known of the address of an operand in memory."""
@@ -289,21 +295,23 @@ class Tables:
             found = self.moved(bases, more)
         else:
             indexes = state.get(index, NOTHING) if scale == "1" else NOTHING
-            found = self.summed(self.added(bases, indexes, index) if base else NOTHING, more)
+            found = self.summed(self.added((bases, base), (indexes, index), index) if base else NOTHING, more)
         if not found and (base or index) and self.program.is_data(more % (1 << 64)) and more >= 4096:
             found = frozenset([(BEHIND, more)])
         return found
 
     def added(self, some, others, operand):
-        """The sums of two values; one that is not known counts as an index."""
+        """The sums of two values, each with the register that holds it; one that is not known counts as an index."""
         if operand.startswith("$"):
-            return self.moved(others, number(operand[1:]))
+            return self.moved(others[0], number(operand[1:]))
         found = set()
-        for one, other in ((some, others), (others, some)):
+        for (one, name), (other, _) in ((some, others), (others, some)):
+            narrow = [it for it in other if it[0] == NARROW]
+            found.update((SUM, it[1], it[3]) for it in narrow if it[2] == name)
             for value in one:
                 if value[0] == PLACE:
-                    found.update((SUM, it[1], value[1]) for it in other if it[0] == NARROW)
-                if value[0] in (PLACE, BEHIND) and not any(it[0] == NARROW for it in other) and self.program.is_data(value[1]):
+                    found.update((SUM, it[1], value[1]) for it in narrow if it[2] != name)
+                if value[0] in (PLACE, BEHIND) and not narrow and self.program.is_data(value[1]):
                     found.add((BEHIND, value[1]))
         return frozenset(found)
 
@@ -316,18 +324,28 @@ class Tables:
             found.update((SUM, it[1], more) for it in values if it[0] == NARROW)
         return frozenset(found)
 
-    def loaded(self, places, wide, state):
-        found = set()
+    def loaded(self, places, wide, state, operand=""):
+        found, memory = set(), MEMORY.match(operand)
+        base, more = (memory[2], number(memory[1] or "0")) if memory else (None, 0)
         for place in places:
             if place[0] == STACK:
                 found.update(state.get(place[1], NOTHING))
             elif place[0] == BEHIND and self.program.is_data(place[1]):
-                found.add((WIDE if wide == 8 else NARROW, place[1]))
+                value = place[1] - more
+                told = (base, value) if base and (PLACE, value) in state.get(base, NOTHING) else (None, 0)
+                found.add((WIDE, place[1]) if wide == 8 else (NARROW, place[1], *told))
             elif place[0] == PLACE and wide == 8 and self.program.is_fixed(place[1]):
                 value = self.program.word(place[1])
                 if value:
                     found.add((PLACE, value))
         return frozenset(found)
+
+    @staticmethod
+    def forget(name, state):
+        """Takes back that 4 bytes of a table are told by a register, which has another value now."""
+        for key, values in state.items():
+            if any(it[0] == NARROW and it[2] == name for it in values):
+                state[key] = frozenset(it[:2] + (None, 0) if it[0] == NARROW and it[2] == name else it for it in values)
 
     def store(self, state, places, values):
         for place in places:

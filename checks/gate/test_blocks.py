@@ -1,0 +1,241 @@
+"""contrib/blocks holds against strangers: names like options, hostile programs, a full device, a signal; and two faults of its reading."""
+import os
+import pathlib
+import random
+import signal
+import subprocess
+import sys
+import time
+from collections import Counter
+from types import SimpleNamespace
+
+from common import (BAD_WORDS, BLOCKS, CONTRIB, DONE, FAILED, MISSING, REFUSED, WORDS, WRITE_FAULT, Case, into_closed_pipe, needs, needs_file,
+                    on_closed_output, run)
+
+sys.path.insert(0, str(CONTRIB))
+from block_text.block_map import BLOCK_MAP, BlockMap  # noqa: E402
+from block_text.program import Refused  # noqa: E402
+
+SCRIPT = CONTRIB / "blocks"
+# Two tables beside each other, each with offsets from itself, and one register for both. Behind each place are as many
+# instructions of a byte as the tables are apart, so that a table beside the other one's base leads to instructions too.
+TWO_TABLES = """
+    .text
+    .globl main
+    .type main, @function
+main:
+    mov %edi, %eax
+    lea first(%rip), %r13
+    cmp $1, %edi
+    je jump
+    lea second(%rip), %r13
+jump:
+    cmp $1, %eax
+    ja out
+    movslq (%r13,%rax,4), %rax
+    add %r13, %rax
+    jmp *%rax
+PLACES
+out:
+    ret
+    .size main, . - main
+    .section .rodata
+    .align 4
+first: .long place0 - first, place1 - first
+second: .long place2 - second, place3 - second
+"""
+PLACES = "\n".join(f"place{k}:\n" + "nop\n" * 16 + "ret" for k in range(4))
+
+
+def functions(text):
+    """The functions of a block text: by name their edges, as pairs of addresses, and the addresses of exits."""
+    found = {}
+    for line in text.decode("utf-8", "surrogateescape").splitlines():
+        words = line.split()
+        if words[0] == "func":
+            lows, edges, exits = found.setdefault(words[1], ([], [], []))
+        elif words[0] == "block":
+            lows.append(int(words[2], 16))
+            exits.extend(lows[-1:] if words[-1] == "exit" else [])
+        elif words[0] == "edge":
+            edges.append((lows[int(words[1])], lows[int(words[2])]))
+    return found
+
+
+@needs("objdump")
+class Words(Case):
+    def renamed(self, name):
+        """The demo with one function renamed: by_times."""
+        old = b"\0by_times\0"
+        return self.file("renamed", WORDS.read_bytes().replace(old, (b"\0" + name + b"\0").ljust(len(old), b"\0")))
+
+    def test_functions_by_name(self):
+        ran = run(SCRIPT, WORDS, "main", "count_word")
+        self.assertEqual((ran.status, sorted(functions(ran.out))), (DONE, ["count_word", "main"]))
+
+    def test_functions_named_like_options(self):
+        for name in (b"-d", b"--fit", b"--", b"@x"):
+            path = self.renamed(name)
+            for words in ((path, "--", name), ("--", path, name), (path, "main", "--", name)):
+                with self.subTest(name=name, words=words):
+                    ran = self.run_here(SCRIPT, *words)
+                    self.assertEqual((ran.status, ran.said), (DONE, ""))
+                    self.assertIn(b"func " + name + b"\n", ran.out)
+            listed = self.file("names", name + b"\n")
+            self.assertIn(b"func " + name + b"\n", self.run_here(SCRIPT, path, f"--names={listed}").out)
+
+    def test_an_option_that_is_none(self):
+        self.tells(run(SCRIPT, WORDS, "-d"), BAD_WORDS, "there is no option -d: a name that begins with - stands behind --")
+        self.tells(run(SCRIPT), BAD_WORDS, "no program is named")
+
+    def test_names_of_files_like_options(self):
+        for name in ("-x", "@x", "--help"):
+            self.file("x", "--version\n")
+            self.file(name, WORDS.read_bytes())
+            with self.subTest(name=name):
+                ran = self.run_here(SCRIPT, "--", name)
+                self.assertEqual((ran.status, ran.said), (DONE, ""))
+                self.assertEqual(ran.out.split(b"\n", 1)[1], BLOCKS.read_bytes().split(b"\n", 1)[1])
+
+    def test_no_name_at_all(self):
+        self.file("none")
+        self.expect(self.run_here(SCRIPT, "--known", "--names=none", WORDS), FAILED, err="blocks: no function is named\n")
+        self.tells(self.run_here(SCRIPT, "--known", WORDS, "other"), FAILED, "code has none of the functions that were named")
+        self.tells(self.run_here(SCRIPT, WORDS, "main", "nothing"), FAILED, "the program's code has no function nothing$")
+
+    def test_names_of_bytes_that_are_no_text(self):
+        path = self.renamed(b"\xff\x1b[2J")
+        self.assertIn(b"func \xff\x1b[2J\n", self.run_here(SCRIPT, path).out)
+        said = self.run_here(SCRIPT, path, b"no\xff\x1b[2J").err
+        self.assertNotIn(b"\x1b", said)
+
+
+@needs("objdump")
+class Programs(Case):
+    def test_refusals(self):
+        self.expect(self.run_here(SCRIPT, "none"), MISSING, err="blocks: none: No such file or directory\n")
+        self.tells(run(SCRIPT, SCRIPT), REFUSED, "is no ELF file")
+        self.tells(run(SCRIPT, self.file("short", WORDS.read_bytes()[:20000])), REFUSED, "short is damaged or cut off")
+        self.tells(run(SCRIPT, self.file("empty")), REFUSED, "empty is no ELF file")
+        # The table of sections is said to lie where no number of the system's leads.
+        good = WORDS.read_bytes()
+        self.tells(run(SCRIPT, self.file("astray", good[:40] + b"\xff" * 8 + good[48:])), REFUSED, "astray is damaged or cut off")
+
+    @needs("objcopy")
+    def test_a_debug_file(self):
+        subprocess.run(["objcopy", "--only-keep-debug", WORDS, self.folder / "words.debug"], check=True)
+        self.tells(self.run_here(SCRIPT, "words.debug"), REFUSED, "no debug file")
+
+    @needs("strip")
+    def test_a_stripped_program(self):
+        subprocess.run(["strip", "-o", self.folder / "bare", WORDS], check=True)
+        self.tells(self.run_here(SCRIPT, "bare"), REFUSED, "no symbols of functions: give it as it was before it was stripped")
+
+    def test_programs_with_bytes_changed(self):
+        good = WORDS.read_bytes()
+        for seed in range(16):
+            drawn, raw = random.Random(seed), bytearray(good)
+            for _ in range(drawn.choice((1, 8, 200))):
+                # Headers, symbols and tables stand at both ends.
+                at = drawn.randrange(4096) if drawn.random() < 0.5 else drawn.randrange(len(raw) - 4096, len(raw))
+                raw[at] = drawn.choice((0, 1, 0x7F, 0x80, 0xFF, drawn.randrange(256)))
+            with self.subTest(seed=seed):
+                ran = self.run_here(SCRIPT, self.file("drawn", bytes(raw)), limit=30)
+                self.assertNotIn("Traceback", ran.said)
+                self.assertIn(ran.status, (DONE, FAILED, REFUSED))
+                self.assertEqual(ran.status == DONE, ran.out != b"")
+
+
+@needs("objdump")
+class Outputs(Case):
+    @needs_file("/dev/full")
+    def test_a_full_device(self):
+        self.ends_on_full_device("blocks", SCRIPT, WORDS)
+
+    def test_a_closed_output(self):
+        self.tells(on_closed_output(SCRIPT, WORDS), WRITE_FAULT, "^blocks: output: it is closed$")
+
+    def test_a_closed_pipe_is_quiet(self):
+        self.expect(into_closed_pipe(SCRIPT, WORDS), WRITE_FAULT)
+
+
+class Objdump(Case):
+    """Another objdump in front."""
+
+    def tool(self, lines):
+        path = self.file("bin/objdump", f"#!/bin/sh\n{lines}\n")
+        path.chmod(0o755)
+        return {"PATH": f"{path.parent}:{os.environ['PATH']}"}
+
+    def test_much_that_it_complains_of(self):
+        ran = run(SCRIPT, WORDS, environment=self.tool("yes 'objdump: odd' | head -c 2000000 >&2; exit 1"), limit=20)
+        self.tells(ran, REFUSED, "^blocks: objdump failed: objdump: odd")
+        self.assertLess(len(ran.err), 1000)
+
+    def test_it_ends_with_the_script(self):
+        mark = self.folder / "pid"
+        held = {**os.environ, **self.tool(f"echo $$ >{mark}; exec sleep 100")}
+        for by in (signal.SIGTERM, signal.SIGHUP, signal.SIGINT):
+            with self.subTest(by=by.name), subprocess.Popen([SCRIPT, WORDS], env=held, stderr=subprocess.PIPE) as script:
+                while not (mark.exists() and mark.read_text().strip()):
+                    time.sleep(0.01)
+                script.send_signal(by)
+                self.assertEqual((script.wait(20), script.stderr.read()), (128 + by, b""))
+                left = pathlib.Path(f"/proc/{mark.read_text().strip()}")
+                mark.unlink()
+                self.assertFalse(left.exists())
+
+
+class Tables(Case):
+    @needs("gcc", "objdump")
+    def test_a_table_is_read_beside_the_base_that_its_register_had(self):
+        source = self.file("two.s", TWO_TABLES.replace("PLACES", PLACES))
+        made = self.run_here("gcc", "-nostdlib", "-no-pie", "-Wl,-e,main", "-o", "two", source)
+        if made.status:
+            self.skipTest("gcc makes no program for x86-64 here")
+        edges = functions(self.run_here(SCRIPT, "two", "main").out)["main"][1]
+        jump, _ = Counter(low for low, _ in edges).most_common(1)[0]
+        places = sorted(there for low, there in edges if low == jump)
+        self.assertEqual([it - places[0] for it in places], [0, 17, 34, 51])
+
+
+def uleb(value):
+    return bytes([value]) if value < 128 else bytes([value & 127 | 128]) + uleb(value >> 7)
+
+
+def mapped(blocks):
+    """The map of one function at 0x1000, of blocks (number, size, successors)."""
+    raw = bytes([2, 4]) + (0x1000).to_bytes(8, "little") + uleb(len(blocks))
+    for number, size, _ in blocks:
+        raw += uleb(number) + uleb(0) + uleb(size) + uleb(0)
+    for _, _, there in blocks:
+        raw += uleb(len(there)) + b"".join(uleb(it) + uleb(7) for it in there)
+    return raw
+
+
+def read_map(raw):
+    section = SimpleNamespace(kind=BLOCK_MAP, offset=0, size=len(raw))
+    return BlockMap(SimpleNamespace(data=raw, sections=[section], names={}, read=lambda low, size: None))
+
+
+class Maps(Case):
+    def edges(self, blocks):
+        rows, _ = read_map(mapped(blocks)).blocks(0x1000)
+        return {row[0]: row[2] for row in rows}
+
+    def test_a_block_without_code_behind_a_call_that_never_returns_leads_nowhere(self):
+        # A call with a landing pad, block 3; behind the call block 2 has no code, and block 5 that comes next is none of its ways.
+        blocks = [(0, 4, [1, 5]), (1, 6, [2, 3]), (2, 0, []), (5, 8, []), (3, 2, [5])]
+        self.assertEqual(self.edges(blocks), {0x1000: [0x1004, 0x100A], 0x1004: [0x1012], 0x100A: [], 0x1012: [0x100A]})
+
+    def test_a_block_without_code_leads_where_its_successors_are(self):
+        blocks = [(0, 4, [1]), (1, 0, [2]), (2, 0, [3]), (3, 8, [])]
+        self.assertEqual(self.edges(blocks), {0x1000: [0x1004], 0x1004: []})
+        self.assertEqual(self.edges([(0, 4, [1]), (1, 0, [2]), (2, 0, [1])]), {0x1000: []})
+
+    def test_damaged_maps(self):
+        good = mapped([(0, 4, [1]), (1, 2, [])])
+        cases = [good[:-1], mapped([(0, 4, [7])]), mapped([(0, 4, []), (0, 4, [])]), bytes([2, 4]) + b"\x80" * 100000, bytes([9]) + good]
+        for raw in cases:
+            with self.subTest(raw=raw[:20]), self.assertRaises(Refused):
+                read_map(raw)

@@ -1,0 +1,115 @@
+"""Branch texts, as `perf script -F ip,brstack` prints them (docs/FORMATS.md, "Branch text"), and their load lines."""
+import re
+from typing import NamedTuple
+
+from pgo_tools.cli import REFUSED, Trouble
+from pgo_tools.names import text_of
+
+LONGEST, MOST_ENTRIES = 65536, 1024
+RECORD = b"PERF_RECORD_"
+LOAD = re.compile(
+    rb"PERF_RECORD_MMAP2 (?:[^ \t]+[ \t]+)*?[^ \t]*:[ \t]+\[0x([0-9a-fA-F]+)\(0x([0-9a-fA-F]+)\)[ \t]+@[ \t]+(0|0x[0-9a-fA-F]+)"
+    rb"[ \t]+((?:[^ \t]+[ \t]+)*?[^ \t]*\]):[ \t]+([^ \t]+)[ \t](.+)", re.DOTALL)
+BUILD = re.compile(rb"<([0-9a-fA-F]+)>\]$")
+POINTER = re.compile(rb"(?:0x)?[0-9a-fA-F]+")
+ENTRY = re.compile(rb"(0x[0-9a-fA-F]+)/(0x[0-9a-fA-F]+)(?:/.*)?", re.DOTALL)
+
+
+class Load(NamedTuple):
+    """A load line: from `start` on stand `size` bytes of the file of this name, from its offset on. `build` is its number, or ""."""
+
+    number: int
+    start: int
+    size: int
+    offset: int
+    rights: str
+    name: str
+    build: str
+
+    def is_code(self):
+        return "x" in self.rights
+
+
+class Sample(NamedTuple):
+    """A sample: the line's number, the instruction pointer or None, and the branches, newest first."""
+
+    number: int
+    pointer: int
+    branches: list
+
+
+def load_of(number, line):
+    """The load that a line tells of, or None."""
+    at = line.find(b"PERF_RECORD_MMAP2 ")
+    match = LOAD.match(line, at) if at >= 0 and not line.startswith(b"#") else None
+    if not match:
+        return None
+    build = BUILD.search(match[4])
+    numbers = [int(match[place], 16) for place in (1, 2, 3)]
+    return Load(number, *numbers, text_of(match[5]), text_of(match[6]), text_of(build[1]).lower() if build else "")
+
+
+def is_sample(line):
+    """A line is a sample: it is not blank, and neither a comment nor a record."""
+    return not line.startswith(b"#") and bool(line.strip(b" \t")) and RECORD not in line
+
+
+def loads(file):
+    """The load lines of a stream of bytes, from its first line to its last."""
+    for number, line in enumerate(file, 1):
+        if RECORD in line:
+            load = load_of(number, line.rstrip(b"\n"))
+            if load:
+                yield load
+
+
+def samples(file, path="the branch text"):
+    """Each sample of a stream of bytes; a Trouble at the first bad line."""
+    for number, line in enumerate(file, 1):
+        line = line[:-1] if line.endswith(b"\n") else line
+        if len(line) > LONGEST:
+            raise Trouble(f"{path}: refused at {number}: LineTooLong", REFUSED)
+        if is_sample(line):
+            yield sample_of(number, line, path)
+
+
+def sample_of(number, line, path):
+    fields = re.split(rb"[ \t]+", line.strip(b" \t"))
+    pointer = None
+    if b"/" not in fields[0]:
+        first = fields.pop(0)
+        pointer = int(first, 16) if POINTER.fullmatch(first) else -1
+    found = [ENTRY.fullmatch(field) for field in fields]
+    if pointer is not None and not 0 <= pointer < 1 << 64 or None in found:
+        raise Trouble(f"{path}: refused at {number}: BadLine", REFUSED, remedy(text_of(line)))
+    branches = [(int(match[1], 16), int(match[2], 16)) for match in found]
+    if any(end >> 64 for branch in branches for end in branch):
+        raise Trouble(f"{path}: refused at {number}: BadLine", REFUSED, remedy(text_of(line)))
+    if len(branches) > MOST_ENTRIES:
+        raise Trouble(f"{path}: refused at {number}: TooManyEntries", REFUSED)
+    return Sample(number, pointer, branches)
+
+
+# What helps with a line that is no sample, by how it looks.
+LOOKS = [(re.compile(form), said) for form, said in [
+    (r"[^ ]+:[0-9]+:[0-9]+$", "it is a profile: the text that perf script -F ip,brstack prints"),
+    (r"(func [^ ]+|block [0-9]+ 0x[0-9a-f]+ 0x[0-9a-f]+.*)$", "it is a block text: the text that perf script -F ip,brstack prints"),
+    (r"(0x[0-9a-f]+(@.*)? \[0x|\. |\.$)", "perf script without -D"),
+    (r".*([+][0-9a-fx]+/|\]/|\([^ ]*\)/)", "brstack without sym or dso: perf script -F ip,brstack"),
+    (r" *(0x)?[0-9a-f]+ +[^0-9 ]", "no names beside the address: perf script -F ip,brstack"),
+    (r" *[^ ]*[^0-9a-fx/ ][^ ]* | *[0-9a-fx]+ +[0-9a-fx]+( |$)", "no fields in front of the address: perf script -F ip,brstack"),
+]]
+
+
+def remedy(line, is_last=False):
+    """What helps with a line that is refused."""
+    # What is not printed is looked at as if it were a character, and a CR at the end as what it is.
+    shown = re.sub(r"[^\x20-\x7e]", "?", line[:100])
+    for form, said in LOOKS:
+        if form.match(shown):
+            return said
+    if "\r" in line:
+        return 'take away the CR at its end: tr -d "\\r"'
+    if is_last:
+        return "it is the last line, and was cut off: print the text again"
+    return "perf script -F ip,brstack prints no such line"

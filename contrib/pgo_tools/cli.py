@@ -1,0 +1,118 @@
+"""How a script begins and ends: statuses, messages, signals, and an output that cannot be written.
+
+A script ends with `cli.run(main)`. Its `main(argv)` parses its words and returns the status. What goes wrong is a `Trouble`.
+"""
+import contextlib
+import errno
+import os
+import signal
+import sys
+
+from pgo_tools.names import printable
+
+# The statuses, as pgo's own (docs/FORMATS.md, "Statuses").
+DONE, FAILED, USAGE, NO_FILE, REFUSED, READ_FAULT, WRITE_FAULT, NO_MEMORY = range(8)
+NO_PROGRAM = 127
+
+
+class Trouble(Exception):
+    """Why a script ends: what, and where; perhaps what helps; and the status."""
+
+    def __init__(self, what, status=FAILED, helps=""):
+        super().__init__(what)
+        self.what, self.status, self.helps = what, status, helps
+
+
+class Stopped(BaseException):
+    """A signal asked the script to end. What it was at is undone on the way out."""
+
+    def __init__(self, number):
+        super().__init__(number)
+        self.number = number
+
+
+def name():
+    """The script's name, as its messages begin."""
+    return os.path.basename(sys.argv[0]) or "pgo"
+
+
+def say(what, helps=""):
+    """Tells a line on the error output, and below it what helps. No byte of a file's name or text reaches a terminal raw."""
+    lines = [f"{name()}: {what}"] + ([f"  what helps: {helps}"] if helps else [])
+    with contextlib.suppress(OSError, ValueError, AttributeError):
+        for line in "\n".join(lines).split("\n"):
+            sys.stderr.write(printable(line) + "\n")
+        sys.stderr.flush()
+
+
+def put(line=""):
+    """Prints a line. Names go out as the bytes that they are."""
+    out().write((line + "\n").encode("utf-8", "surrogateescape"))
+
+
+def out():
+    """The output as bytes; a Trouble where it is closed."""
+    if sys.stdout is None:
+        raise Trouble("output: it is closed", WRITE_FAULT)
+    return sys.stdout.buffer
+
+
+def stop(number, _frame):
+    """The handler of signals. Only the first one counts, so that nothing cuts the way out short."""
+    for each in (signal.SIGINT, signal.SIGTERM, signal.SIGHUP):
+        signal.signal(each, signal.SIG_IGN)
+    raise Stopped(number)
+
+
+def hear():
+    """Has SIGTERM and SIGHUP end the script as Ctrl-C does, but for what the caller has it pass over (nohup)."""
+    for each in (signal.SIGINT, signal.SIGTERM, signal.SIGHUP):
+        if signal.getsignal(each) != signal.SIG_IGN:
+            signal.signal(each, stop)
+
+
+def fault(reason):
+    """The status of a call of the system that failed, and what is said of it."""
+    said = f"{reason.filename if reason.filename is not None else 'output'}: {reason.strerror or reason}"
+    if reason.errno in (errno.ENOENT, errno.ENOTDIR):
+        return NO_FILE, said
+    if reason.filename is None or reason.errno in (errno.ENOSPC, errno.EFBIG, errno.EDQUOT, errno.EROFS):
+        return WRITE_FAULT, said
+    return READ_FAULT, said
+
+
+def ended(main, argv):
+    """The status of a script's main, whatever stops it."""
+    try:
+        status = main(argv) or DONE
+        if sys.stdout is not None:
+            sys.stdout.flush()
+        return status
+    except Trouble as reason:
+        say(reason.what, reason.helps)
+        return reason.status
+    except Stopped as reason:
+        return 128 + reason.number
+    except KeyboardInterrupt:
+        return 128 + signal.SIGINT
+    except BrokenPipeError:
+        # Who reads has had enough, and wants no message.
+        return WRITE_FAULT
+    except MemoryError:
+        say("no memory", "more memory, and no lower ulimit -v")
+        return NO_MEMORY
+    except OSError as reason:
+        status, said = fault(reason)
+        say(said)
+        return status
+
+
+def run(main, argv=None):
+    """Runs a script's main, and ends the process with its status. It never returns."""
+    hear()
+    status = ended(main, sys.argv[1:] if argv is None else argv)
+    # What could not be written is not tried again when Python ends.
+    for stream in (sys.stdout, sys.stderr):
+        with contextlib.suppress(OSError, ValueError, AttributeError):
+            stream.flush()
+    os._exit(status)

@@ -1,0 +1,192 @@
+"""ELF files: headers, sections, the build's number, and who made the code. What is damaged is a Trouble of one line."""
+import collections
+import mmap
+import os
+import re
+import struct
+import zlib
+from typing import NamedTuple
+
+from pgo_tools.cli import REFUSED, Trouble
+from pgo_tools.names import text_of
+
+EXECUTABLE, SHARED = 2, 3
+NOBITS, NOTE, COMPRESSED = 8, 7, 0x800
+LOAD, LOADED_NOTE, EXECUTE = 1, 4, 1
+X86_64 = 62
+# An extended operation of few bytes with the number 4.
+DISCRIMINATOR = re.compile(rb"\x00[\x02-\x06]\x04")
+FAULTS = (struct.error, IndexError, ValueError, OverflowError, KeyError, zlib.error)
+
+
+class Section(NamedTuple):
+    """A section header (System V gABI, "Sections")."""
+
+    name: str
+    kind: int
+    flags: int
+    address: int
+    offset: int
+    size: int
+    link: int
+    align: int
+
+
+class Segment(NamedTuple):
+    """A program header (System V gABI, "Program Header")."""
+
+    kind: int
+    flags: int
+    offset: int
+    address: int
+    file_size: int
+    size: int
+    align: int
+
+
+class Elf:
+    """A file of 64 bits, little-endian: `kind`, `machine`, `sections` and `segments`."""
+
+    def __init__(self, path):
+        self.path = path
+        with open(path, "rb") as file:
+            whole = os.fstat(file.fileno()).st_size
+            self.data = mmap.mmap(file.fileno(), 0, access=mmap.ACCESS_READ) if whole else b""
+        if self.data[:6] != b"\x7fELF\x02\x01":
+            raise Trouble(f"{path} is no ELF file of 64 bits, little-endian", REFUSED)
+        try:
+            self.kind, self.machine = struct.unpack_from("<HH", self.data, 16)
+            self.segments = list(self.read_segments())
+            self.sections = list(self.read_sections())
+        except FAULTS as reason:
+            raise Trouble(f"{path} is damaged or cut off: {reason}", REFUSED) from None
+
+    def read_segments(self):
+        at, = struct.unpack_from("<Q", self.data, 32)
+        size, count = struct.unpack_from("<HH", self.data, 54)
+        for number in range(count if at else 0):
+            row = struct.unpack_from("<IIQQQQQQ", self.data, at + size * number)
+            kind, flags, offset, address, _, file_size, memory, align = row
+            yield Segment(kind, flags, offset, address, file_size, memory, align)
+
+    def read_sections(self):
+        at, = struct.unpack_from("<Q", self.data, 40)
+        size, count, names = struct.unpack_from("<HHH", self.data, 58)
+        if not at:
+            return
+        first = struct.unpack_from("<IIQQQQIIQQ", self.data, at)
+        count, names = count or first[5], first[6] if names == 0xFFFF else names
+        if at + size * count > len(self.data):
+            raise ValueError("its table of sections passes its end")
+        rows = [struct.unpack_from("<IIQQQQIIQQ", self.data, at + size * number) for number in range(count)]
+        base = rows[names][4]
+        for name, kind, flags, address, offset, length, link, _, align, _ in rows:
+            yield Section(self.text_at(self.data, base + name), kind, flags, address, offset, length, link, align)
+
+    @staticmethod
+    def text_at(data, offset):
+        end = data.find(b"\0", offset)
+        if end < 0:
+            raise ValueError("a name has no end")
+        return text_of(data[offset:end])
+
+    def section(self, name):
+        """The first section of this name, or None."""
+        return next((each for each in self.sections if each.name == name and each.kind), None)
+
+    def bytes_of(self, name, limit=1 << 30):
+        """The bytes of a section, unpacked where zlib can; b"" where there is none."""
+        section = self.section(name)
+        if section is None or section.kind == NOBITS:
+            return b""
+        raw = self.data[section.offset : section.offset + section.size]
+        if not section.flags & COMPRESSED:
+            return raw
+        kind, = struct.unpack_from("<I", raw)
+        return zlib.decompressobj().decompress(raw[24:], limit) if kind == 1 else b""
+
+    def is_compressed(self):
+        """Debugging information is packed, in the standard's way or the old one."""
+        return any(each.flags & COMPRESSED or each.name.startswith(".zdebug_") for each in self.sections)
+
+    def is_position_independent(self):
+        """The program runs at other addresses than its file says: load lines tell which."""
+        return self.kind == SHARED
+
+    def code(self):
+        """The executable segments that are loaded."""
+        return [each for each in self.segments if each.kind == LOAD and each.flags & EXECUTE]
+
+    def notes(self):
+        """The notes as (owner, kind, bytes), wherever they stand."""
+        places = [(each.offset, each.file_size, each.align) for each in self.segments if each.kind == LOADED_NOTE]
+        places += [(each.offset, each.size, each.align) for each in self.sections if each.kind == NOTE]
+        for at, size, align in places:
+            align, end = 8 if align == 8 else 4, min(at + size, len(self.data))
+            while at + 12 <= end:
+                owner, told, kind = struct.unpack_from("<III", self.data, at)
+                first = at + 12 + -(-owner // align) * align if align == 4 else at + -(-(12 + owner) // align) * align
+                yield self.data[at + 12 : at + 12 + owner], kind, self.data[first : first + told]
+                at = first + -(-told // align) * align
+
+    def build_id(self):
+        """The number of the build (GNU's NT_GNU_BUILD_ID) in hexadecimal, or ""."""
+        return next((told.hex() for owner, kind, told in self.notes() if owner == b"GNU\0" and kind == 3 and told), "")
+
+    def debug_link(self):
+        """The debug file that the program names, without folders, and its CRC; or None (GDB, "Debugging Information in Separate Files")."""
+        raw = self.bytes_of(".gnu_debuglink")
+        name = raw.partition(b"\0")[0]
+        at = (len(name) + 4) // 4 * 4
+        if not name or b"/" in name or name in (b".", b"..") or len(raw) < at + 4:
+            return None
+        return text_of(name), struct.unpack_from("<I", raw, at)[0]
+
+    def comments(self):
+        """What compilers and linkers have left in `.comment`: the C library's files name gcc in clang's programs, too."""
+        return [text_of(each) for each in self.bytes_of(".comment").split(b"\0") if each]
+
+    def producers(self):
+        """For each DW_AT_producer of a unit how many bytes of debugging information it made, the most first."""
+        from pgo_tools.dwarf import Units
+        try:
+            return Units(self).producers()
+        except FAULTS:
+            return collections.Counter()
+
+
+    def makers(self):
+        """Who made the code, by shares of the debugging information: [("clang", 0.9), ("gcc", 0.1)]; assembled parts are left out."""
+        sums = collections.Counter()
+        for producer, size in self.producers().items():
+            sums[maker(producer)] += size
+        del sums["as"]
+        whole = sum(sums.values())
+        return [(name, size / whole) for name, size in sums.most_common()]
+
+    def has_discriminators(self):
+        """Line programs set discriminators (DWARF 5, 6.2.5.3): of clang and rustc only where they were asked for profiling.
+
+        What looks like such an operation can be something else, so a few in a large program are none.
+        """
+        lines = self.bytes_of(".debug_line", 1 << 26)[: 1 << 26]
+        return len(DISCRIMINATOR.findall(lines)) * 4000 > len(lines)
+
+
+def is_elf(path):
+    """The file at a path begins as an ELF file does."""
+    try:
+        with open(path, "rb") as file:
+            return file.read(4) == b"\x7fELF"
+    except OSError:
+        return False
+
+
+MAKERS = [("rustc", "rustc"), ("clang", "clang"), ("LLVM", "clang"), ("GNU", "gcc"), ("Go ", "go")]
+
+
+def maker(producer):
+    """Who made a unit, by its DW_AT_producer: "clang", "rustc", "gcc", "as", or the text's first word."""
+    if producer.startswith("GNU AS"):
+        return "as"
+    return next((name for word, name in MAKERS if word in producer), (producer.split() or ["?"])[0])

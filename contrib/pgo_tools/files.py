@@ -1,0 +1,197 @@
+"""Files: what their first bytes say that they are, packed ones read as plain ones, and outputs put in place whole."""
+import bz2
+import contextlib
+import gzip
+import io
+import lzma
+import os
+import shutil
+import stat
+import subprocess
+import threading
+import zlib
+
+from pgo_tools.cli import READ_FAULT, REFUSED, USAGE, WRITE_FAULT, Trouble
+from pgo_tools.names import text_of
+
+# What a file is by its first bytes.
+MAGICS = [
+    (b"\x7fELF", "program"), (b"PERFILE2", "recording"), (b"\x1f\x8b", "gz"), (b"\xfd7zXZ\0", "xz"), (b"\x28\xb5\x2f\xfd", "zst"),
+    (b"BZh", "bz2"), (b"!<arch>\n", "archive"), (b"!<thin>\n", "archive"), (b"#!", "script"),
+]
+PACKED = ("gz", "xz", "zst", "bz2")
+
+
+def kind_by(head):
+    """What a file is that begins with these bytes: a word of MAGICS, "empty", or "" for anything else."""
+    if not head:
+        return "empty"
+    return next((kind for magic, kind in MAGICS if head.startswith(magic)), "")
+
+
+def kind_of(path):
+    """What the file at a path is; "" for what is no file or cannot be read."""
+    try:
+        if not os.path.isfile(path):
+            return ""
+        with open(path, "rb") as file:
+            return kind_by(file.read(8))
+    except OSError:
+        return ""
+
+
+class Unpacker:
+    """What a program such as zstd unpacks of a stream."""
+
+    def __init__(self, words, source):
+        self.source = source
+        self.process = subprocess.Popen(words, stdin=subprocess.PIPE, stdout=subprocess.PIPE, stderr=subprocess.DEVNULL)
+        threading.Thread(target=self.feed, daemon=True).start()
+
+    def feed(self):
+        with contextlib.suppress(OSError, ValueError):
+            shutil.copyfileobj(self.source, self.process.stdin, 1 << 16)
+        with contextlib.suppress(OSError, ValueError):
+            self.process.stdin.close()
+
+    def read(self, size):
+        piece = self.process.stdout.read(size)
+        if not piece and self.process.wait():
+            raise EOFError("its end is not there")
+        return piece
+
+    def close(self):
+        self.process.kill()
+        self.process.stdout.close()
+        self.process.wait()
+
+
+class Checked(io.RawIOBase):
+    """A packed stream whose damage is a Trouble that names the file."""
+
+    def __init__(self, stream, path):
+        super().__init__()
+        self.stream, self.path = stream, path
+
+    def readable(self):
+        return True
+
+    def readinto(self, buffer):
+        try:
+            piece = self.stream.read(len(buffer))
+        except (EOFError, OSError, lzma.LZMAError, zlib.error) as reason:
+            raise Trouble(f"{self.path} is packed, and damaged or cut off ({reason})", READ_FAULT, "pack it again") from None
+        buffer[: len(piece)] = piece
+        return len(piece)
+
+    def close(self):
+        if not self.closed:
+            self.stream.close()
+        super().close()
+
+
+def unpacked(file, kind, path):
+    """What a packed stream holds, as a stream to read and to close."""
+    if kind == "gz":
+        return gzip.GzipFile(fileobj=file)
+    if kind == "xz":
+        return lzma.LZMAFile(file)
+    if kind == "bz2":
+        return bz2.BZ2File(file)
+    if not shutil.which("zstd"):
+        raise Trouble(f"{path} is packed by zstd, which is not there", READ_FAULT, "unpack it")
+    return Unpacker(["zstd", "-dcq"], file)
+
+
+@contextlib.contextmanager
+def open_packed(path):
+    """The file or pipe at a path as a stream of bytes, unpacked where it is packed. It is read once, from its start."""
+    with open(path, "rb") as file:
+        kind = kind_by(file.peek(8)[:8])
+        if kind not in PACKED:
+            yield file
+            return
+        with io.BufferedReader(Checked(unpacked(file, kind, path), path), 1 << 16) as stream:
+            yield stream
+
+
+def read_bytes(path, limit=1 << 28):
+    """The bytes of a file of at most so many."""
+    with open(path, "rb") as file:
+        raw = file.read(limit + 1)
+    if len(raw) > limit:
+        raise Trouble(f"{path} has more than {limit} bytes", REFUSED)
+    return raw
+
+
+def lines_of(file):
+    """The lines of a stream of bytes as texts, without their line feeds, each with its number."""
+    for number, line in enumerate(file, 1):
+        yield number, text_of(line[:-1] if line.endswith(b"\n") else line)
+
+
+def target_of(path, inputs=()):
+    """The file that an output goes to, behind links; a Trouble where that is a folder, a device, a pipe, or an input."""
+    place = os.path.realpath(path)
+    try:
+        mode = os.stat(place).st_mode
+    except FileNotFoundError:
+        mode = stat.S_IFREG
+    except OSError:
+        raise Trouble(f"{path}: nothing can be written there", WRITE_FAULT) from None
+    if stat.S_ISDIR(mode):
+        raise Trouble(f"{path}: it is a folder", WRITE_FAULT)
+    if not stat.S_ISREG(mode):
+        raise Trouble(f"{path}: it is a device or a pipe, and no file", WRITE_FAULT)
+    for each in inputs:
+        if is_same(place, each):
+            raise Trouble(f"{path}: it is read, too: {each}", USAGE)
+    return place
+
+
+def is_same(place, other):
+    """Two names are of one file."""
+    try:
+        return os.path.samefile(place, other)
+    except OSError:
+        return os.path.realpath(other) == place
+
+
+def created(place):
+    """A new file beside a place, opened, with its name."""
+    for number in range(1000):
+        new = f"{place}.{os.getpid()}.{number}.new"
+        try:
+            return os.open(new, os.O_WRONLY | os.O_CREAT | os.O_EXCL | os.O_CLOEXEC, 0o666), new
+        except FileExistsError:
+            continue
+        except OSError as reason:
+            raise Trouble(f"{place}: nothing can be written there ({reason.strerror})", WRITE_FAULT) from None
+    raise Trouble(f"{place}: nothing can be written there", WRITE_FAULT)
+
+
+@contextlib.contextmanager
+def put_in_place(path, inputs=(), lasting=True):
+    """A file to write bytes to, which stands at the path once the block has ended well, and else leaves nothing behind.
+
+    A link is followed, and a file that was there keeps its mode. Devices, pipes, folders and the inputs are refused. What need
+    not outlive a loss of power is not waited for on its way to the disk.
+    """
+    place = target_of(path, inputs)
+    handle, new = created(place)
+    try:
+        with os.fdopen(handle, "wb") as file:
+            yield file
+            file.flush()
+            with contextlib.suppress(OSError):
+                os.fchmod(file.fileno(), stat.S_IMODE(os.stat(place).st_mode))
+            if lasting:
+                os.fsync(file.fileno())
+        os.replace(new, place)
+    except OSError as reason:
+        if reason.filename not in (None, new):
+            raise
+        raise Trouble(f"{path}: {reason.strerror}", WRITE_FAULT, "room on the disk") from None
+    finally:
+        with contextlib.suppress(OSError):
+            os.unlink(new)

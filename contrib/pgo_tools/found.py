@@ -1,0 +1,77 @@
+"""What is found out of a program and its recording: who made it, and by which name it was loaded."""
+import os
+
+from pgo_tools.cli import Trouble
+from pgo_tools.names import shell_word
+
+DELETED = " (deleted)"
+
+
+def percent(share):
+    return "less than 1%" if 0 < share < 0.01 else f"{share:.0%}"
+
+
+def packs(maker):
+    """Its discriminators are packed, so that profiles take their bases."""
+    return maker in ("clang", "rustc")
+
+
+def wants_base(elf):
+    """Most of the code is of clang or rustc."""
+    return sum(share for maker, share in elf.makers() if packs(maker)) > 0.5
+
+
+def shares(elf):
+    """Who made the code, in words: "clang 90%, gcc 10%"."""
+    return ", ".join(f"{maker} {percent(share)}" for maker, share in elf.makers())
+
+
+def is_mixed(elf):
+    """A part that matters is of a maker whose discriminators are of the other kind."""
+    packed = sum(share for maker, share in elf.makers() if packs(maker))
+    return 0.02 < packed < 0.98
+
+
+def last_name(name):
+    """A load line's name without folders, and without what Linux says of a file that was replaced."""
+    return os.path.basename(name[: -len(DELETED)] if name.endswith(DELETED) else name)
+
+
+def loaded_names(program, loads):
+    """The names by which load lines have this program: by its build's number, else by its own name."""
+    number = program.elf.build_id()
+    named = [load for load in loads if load.name.startswith("/")]
+    found = {load.name for load in named if load.build and load.build == number}
+    for own in (os.path.basename(program.name), os.path.basename(os.path.realpath(program.name))):
+        found = found or {load.name for load in named if last_name(load.name) == own}
+    return sorted(found)
+
+
+def loaded_name(program, loads):
+    """The one name, or "" where there is none; a Trouble where several fit."""
+    names = loaded_names(program, loads)
+    if len(names) > 1:
+        raise Trouble(f"the load lines have {len(names)} names that fit {program.name}", helps="the one that ran, whole:\n" + as_options(names))
+    return names[0] if names else ""
+
+
+def as_options(names):
+    return "\n".join(f"    --map={quoted(name)}" for name in names)
+
+
+def quoted(name):
+    """A name in double quotes where that is enough, as people write it."""
+    return f'"{name}"' if not set(name) & set('"$`\\!') and name.isprintable() else shell_word(name)
+
+
+def names_to_choose(program, loads):
+    """The first few names of the load lines: those that end as the program does, if there are any, and else all."""
+    names = sorted({load.name for load in loads if load.name.startswith("/")})
+    same = [name for name in names if last_name(name) == os.path.basename(program.name)]
+    return (same or names)[:5] if not same else same
+
+
+def other_build(program, loads, name):
+    """The first number of the load lines of this name that is another than the program's, or ""."""
+    number = program.elf.build_id()
+    return next((load.build for load in loads if number and load.name == name and load.build not in ("", number)), "")

@@ -1,0 +1,180 @@
+"""A recording in whatever form it comes as a plain branch text, and a program with all that it needs in one file.
+
+What has to be made for that stands in a folder of the caller's own. What cannot be made is left as it is: pgo says what it lacks.
+"""
+import os
+import shutil
+import stat
+import zlib
+from typing import NamedTuple
+
+from pgo_tools import branch_text, programs
+from pgo_tools.cli import USAGE, WRITE_FAULT, Trouble
+from pgo_tools.elf import Elf
+from pgo_tools.files import PACKED, kind_of, open_packed
+
+DEBUG_FOLDER = "/usr/lib/debug"
+
+
+class Text(NamedTuple):
+    """A branch text: its name as the user gave it, the plain file, and what perf said where it could not print it."""
+
+    name: str
+    path: str
+    said: str = ""
+
+    def is_file(self):
+        return os.path.isfile(self.path)
+
+    def loads(self):
+        """The load lines of code."""
+        if not self.is_file():
+            return []
+        with open(self.path, "rb") as file:
+            return [load for load in branch_text.loads(file) if load.is_code()]
+
+    def ends(self):
+        """Its last line has a line feed; an empty text, or one that cannot be looked at, is taken to end."""
+        if not self.is_file() or not os.path.getsize(self.path):
+            return True
+        with open(self.path, "rb") as file:
+            file.seek(-1, os.SEEK_END)
+            return file.read(1) == b"\n"
+
+
+def is_stream(path):
+    """It is read once: a pipe, a socket, and the input whatever it is, which a further program would not find."""
+    try:
+        mode = os.stat(path).st_mode
+    except OSError:
+        return False
+    is_input = os.path.normpath(path) in ("/dev/stdin", "/dev/fd/0", "/proc/self/fd/0")
+    return stat.S_ISFIFO(mode) or stat.S_ISSOCK(mode) or is_input and not stat.S_ISDIR(mode)
+
+
+def text_in(name, folder, asked):
+    """The branch text in a file, a packed one, a recording, or a pipe. `asked` are words for perf script that choose samples."""
+    path = programs.as_file(name)
+    kind = kind_of(path)
+    if kind in PACKED or is_stream(path):
+        path = copied(path, f"{folder}/text")
+        kind = kind_of(path)
+    if kind == "recording":
+        return printed(name, path, folder, asked)
+    if asked:
+        raise Trouble(f"{' and '.join(asked)}: {name} is no recording (perf.data), of which samples are chosen", USAGE)
+    return Text(name, path)
+
+
+def copied(path, copy):
+    """The content of a file or a pipe, unpacked, as a file."""
+    try:
+        with open_packed(path) as source, open(copy, "wb") as target:
+            shutil.copyfileobj(source, target, 1 << 20)
+    except OSError as reason:
+        if reason.filename not in (None, copy):
+            raise
+        raise Trouble(f"write fault in {os.path.dirname(copy)}", WRITE_FAULT, "room there, or TMPDIR in front, which names another folder") from None
+    return copy
+
+
+def printed(name, path, folder, asked):
+    """A recording as perf script prints it, where perf is there and can."""
+    perf = programs.tool("perf")
+    if not perf:
+        return Text(name, path, "there is no perf here to print it")
+    copy = f"{folder}/printed"
+    with open(copy, "wb") as target:
+        words = [perf, "script", "-i", os.path.abspath(path), "--show-mmap-events", "-F", "ip,brstack", *asked]
+        status, _, said = programs.call(words, stdout=target)
+    if status:
+        return Text(name, path, "perf script says: " + (said.split("\n") or [""])[-1])
+    return Text(name, copy)
+
+
+class Program(NamedTuple):
+    """A program: its name as the user gave it, the file with all that it needs, and its ELF headers (None: it is none)."""
+
+    name: str
+    path: str
+    elf: object
+    debug: str = ""
+
+    def base_name(self):
+        return os.path.basename(self.name)
+
+
+def opened(path):
+    """The ELF headers of a file, or None."""
+    try:
+        return Elf(path) if os.path.isfile(path) else None
+    except (Trouble, OSError):
+        return None
+
+
+def program_in(name, folder):
+    """The program of this name, joined with its debug file and unpacked, where that is needed and can be done."""
+    path, debug = programs.as_file(name), ""
+    elf = opened(path)
+    if elf is not None and not has_information(elf):
+        debug = debug_file(path, elf)
+        path, elf = made_of(path, elf, debug and joined(path, debug, folder))
+    if elf is not None and elf.is_compressed():
+        path, elf = made_of(path, elf, decompressed(path, folder))
+    return Program(name, path, elf, debug)
+
+
+def has_information(elf):
+    return any(elf.section(each) for each in (".debug_info", ".zdebug_info"))
+
+
+def made_of(path, elf, made):
+    """What was made in place of a program, if it was, and lies in memory as the program does: load lines hang on that."""
+    new = opened(made) if made else None
+    if new is None or new.segments != elf.segments:
+        return path, elf
+    return made, new
+
+
+def decompressed(path, folder):
+    objcopy = programs.tool("objcopy", "llvm-objcopy", "eu-elfcompress")
+    if not objcopy:
+        return None
+    made = f"{folder}/plain"
+    word = "--decompress-debug-sections"
+    words = [objcopy, "-t", "none", "-o", made, path] if objcopy.endswith("eu-elfcompress") else [objcopy, word, path, made]
+    return made if programs.call(words)[0] == 0 else None
+
+
+def joined(path, debug, folder):
+    unstrip = programs.tool("eu-unstrip")
+    made = f"{folder}/whole"
+    return made if unstrip and programs.call([unstrip, "-o", made, "--", path, debug])[0] == 0 else None
+
+
+def debug_file(path, elf):
+    """The program's debug file by its build's number or by the name that it says (GDB, "Separate Debug Files"), or ""."""
+    number, link = elf.build_id(), elf.debug_link()
+    by_number = f"{DEBUG_FOLDER}/.build-id/{number[:2]}/{number[2:]}.debug"
+    if number and is_of(by_number, number, None):
+        return by_number
+    if link:
+        beside = os.path.dirname(os.path.realpath(path))
+        for place in (f"{beside}/{link[0]}", f"{beside}/.debug/{link[0]}", f"{DEBUG_FOLDER}{beside}/{link[0]}"):
+            if not same_file(place, path) and is_of(place, number, link[1]):
+                return place
+    return ""
+
+
+def same_file(place, path):
+    return os.path.exists(place) and os.path.samefile(place, path)
+
+
+def is_of(place, number, checksum):
+    """The file at a place is of the same build: by its number, else by the checksum that the program has of it."""
+    debug = opened(place)
+    if debug is None or not has_information(debug):
+        return False
+    if number and debug.build_id():
+        return number == debug.build_id()
+    return checksum is not None and zlib.crc32(debug.data) == checksum

@@ -1,0 +1,65 @@
+"""Names of functions and files as people read them: demangled, printable, and quoted for a shell."""
+import re
+import shlex
+import shutil
+import subprocess
+
+# Control bytes of either set, what has no place in UTF-8, and what turns the direction of writing.
+UNPRINTED = re.compile("[\x00-\x1f\x7f-\x9f\ud800-\udfff\u200e\u200f\u2028-\u202e\u2066-\u2069]")
+DEMANGLERS = ["llvm-cxxfilt", "c++filt"] + [f"llvm-cxxfilt-{number}" for number in range(30, 13, -1)]
+
+
+def text_of(raw):
+    """The bytes of a name as a text, from which `raw_of` makes the same bytes again."""
+    return raw.decode("utf-8", "surrogateescape")
+
+
+def raw_of(text):
+    """The bytes of a text, of those too that are not UTF-8."""
+    return text.encode("utf-8", "surrogateescape")
+
+
+def escape(match):
+    """A character that is not printed, as \\xNN for each of its bytes."""
+    return "".join(f"\\x{byte:02x}" for byte in match[0].encode("utf-8", "surrogateescape"))
+
+
+def printable(text):
+    """The text with what a terminal or a reader cannot take as \\xNN."""
+    return UNPRINTED.sub(escape, text)
+
+
+def shell_word(text):
+    """The text as one word of a POSIX shell; with bytes that are not printed as one of bash."""
+    if not UNPRINTED.search(text):
+        return shlex.quote(text)
+    return "$'" + UNPRINTED.sub(escape, text.replace("\\", "\\\\").replace("'", "\\'")) + "'"
+
+
+def cut(text, width):
+    """The text's first characters, with two points where some are left out."""
+    return text if len(text) <= width else text[: width - 2] + ".."
+
+
+def cut_middle(text, width):
+    """The text's two ends, with two points between them where some is left out: names often differ at the end alone."""
+    if len(text) <= width:
+        return text
+    first = (width - 2) // 2
+    return text[:first] + ".." + text[len(text) - (width - 2 - first) :]
+
+
+def demangled(names):
+    """Each name as its program's source has it, where a demangler is there, and else as it stands."""
+    names = list(names)
+    tool = next(filter(shutil.which, DEMANGLERS), None)
+    asked = [name for name in names if name.startswith(("_Z", "__Z", "_R")) and "\n" not in name]
+    shown = {name: name for name in names}
+    if not tool or not asked:
+        return shown
+    text = "".join(f"{name}\n" for name in asked).encode("utf-8", "surrogateescape")
+    told = subprocess.run([tool], input=text, stdout=subprocess.PIPE, stderr=subprocess.DEVNULL, check=False)
+    lines = told.stdout.decode("utf-8", "surrogateescape").split("\n")
+    if told.returncode == 0 and len(lines) == len(asked) + 1:
+        shown.update(zip(asked, lines))
+    return shown

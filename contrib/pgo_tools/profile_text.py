@@ -1,0 +1,178 @@
+"""Profiles in LLVM's text form (docs/FORMATS.md, "Profile text"): read line by line, or whole as a tree.
+
+The rules and the causes are pgo's own: what it refuses is refused here at the same line, by the same kind.
+"""
+import re
+from typing import NamedTuple, Optional, Union
+
+from pgo_tools.cli import REFUSED, Trouble
+from pgo_tools.files import lines_of
+
+MOST_SPACES = 256
+NAME = r"[^\x00-\x20\x7f:#!0-9][^\x00-\x20\x7f:]*"
+FUNCTION = re.compile(rf"({NAME}):([0-9]+):([0-9]+)")
+BODY = re.compile(rf"([0-9]+)(?:\.([0-9]+))?: ([0-9]+)((?: {NAME}:[0-9]+)*)")
+CALL = re.compile(rf"([0-9]+)(?:\.([0-9]+))?: ({NAME}):([0-9]+)")
+
+
+class FunctionLine(NamedTuple):
+    """`NAME:TOTAL:HEAD`"""
+
+    name: str
+    total: int
+    head: int
+
+
+class BodyLine(NamedTuple):
+    """` OFFSET[.DISC]: COUNT CALLEE:TIMES..`"""
+
+    offset: int
+    disc: int
+    count: int
+    targets: tuple
+
+
+class CallLine(NamedTuple):
+    """` OFFSET[.DISC]: CALLEE:TOTAL`: an inlined call."""
+
+    offset: int
+    disc: int
+    callee: str
+    total: int
+
+
+class Entry(NamedTuple):
+    """A line that tells something: its number, its depth, and what it says."""
+
+    number: int
+    depth: int
+    said: Union[FunctionLine, BodyLine, CallLine]
+
+
+def refused(path, number, kind):
+    helps = ""
+    if kind == "BadLine":
+        helps = "a profile's text, as pgo prints it; of one in binary form llvm-profdata merge --sample --text makes one"
+    return Trouble(f"{path}: refused at {number}: {kind}", REFUSED, helps)
+
+
+def number_of(digits, bits):
+    """The number of these digits; a ValueError where it has more bits."""
+    digits = (digits or "0").lstrip("0") or "0"
+    if len(digits) > 20 or int(digits) >> bits:
+        raise ValueError
+    return int(digits)
+
+
+def parsed(depth, line):
+    """What a line says, its spaces taken away, or None where it has none of the forms."""
+    try:
+        if depth == 0:
+            match = FUNCTION.fullmatch(line)
+            return match and FunctionLine(match[1], number_of(match[2], 64), number_of(match[3], 64))
+        match = CALL.fullmatch(line)
+        if match:
+            return CallLine(number_of(match[1], 16), number_of(match[2], 32), match[3], number_of(match[4], 64))
+        match = BODY.fullmatch(line)
+        if not match:
+            return None
+        targets = [each.rpartition(":") for each in match[4].split(" ")[1:]]
+        told = tuple((name, number_of(times, 64)) for name, _, times in targets)
+        return BodyLine(number_of(match[1], 16), number_of(match[2], 32), number_of(match[3], 64), told)
+    except ValueError:
+        return None
+
+
+def entries(file, path="the profile"):
+    """Each line of a stream of bytes that tells something, as an Entry; a Trouble at the first bad form, depth or indent.
+
+    Lines that stand twice are not looked for: `read` does that.
+    """
+    opened = 0
+    for number, line in lines_of(file):
+        shown = line.lstrip(" ")
+        if not line.strip(" \t") or shown.startswith("#"):
+            continue
+        depth = len(line) - len(shown)
+        said = parsed(depth, shown)
+        if said is None:
+            raise refused(path, number, "BadLine")
+        if depth > MOST_SPACES:
+            raise refused(path, number, "TooDeep")
+        if depth > opened:
+            raise refused(path, number, "BadIndent")
+        opened = depth if isinstance(said, BodyLine) else depth + 1
+        yield Entry(number, depth, said)
+
+
+class Node:
+    """A function, or a call that was inlined: its lines by (offset, disc), and its calls by (offset, disc, callee)."""
+
+    def __init__(self, name, head: Optional[int] = None):
+        self.name, self.head = name, head
+        self.lines, self.calls = {}, {}
+
+    def total(self):
+        """The sum of the counts of its lines, with what was inlined."""
+        return sum(line.count for line in self.lines.values()) + sum(call.total() for call in self.calls.values())
+
+    def walk(self):
+        """The node and the calls inlined into it, at whatever depth."""
+        work = [self]
+        while work:
+            node = work.pop()
+            yield node
+            work.extend(reversed(list(node.calls.values())))
+
+
+def read(file, path="the profile"):
+    """The functions of a profile by their names, in its order, as Nodes; a Trouble at its first bad line."""
+    functions, opened = {}, []
+    for entry in entries(file, path):
+        del opened[entry.depth :]
+        if not add(functions, opened, entry.said):
+            raise refused(path, entry.number, "KeyTwice")
+    return functions
+
+
+def add(functions, opened, said):
+    """Adds what a line says below what is open; False where it stood before."""
+    if isinstance(said, BodyLine):
+        place, lines = (said.offset, said.disc), opened[-1].lines
+        if place in lines or len(dict(said.targets)) < len(said.targets):
+            return False
+        lines[place] = said
+        return True
+    if isinstance(said, FunctionLine):
+        key, group, node = said.name, functions, Node(said.name, said.head)
+    else:
+        key, group, node = (said.offset, said.disc, said.callee), opened[-1].calls, Node(said.callee)
+    if key in group:
+        return False
+    group[key] = node
+    opened.append(node)
+    return True
+
+
+def text_of_functions(functions):
+    """The lines of a profile, in the orders of docs/FORMATS.md: totals are made anew."""
+    totals = {name: node.total() for name, node in functions.items()}
+    for name in sorted(functions, key=lambda each: (-totals[each], each.encode("utf-8", "surrogateescape"))):
+        yield f"{name}:{totals[name]}:{functions[name].head}"
+        yield from below(functions[name], 1)
+
+
+def below(node, depth):
+    """The lines of a node, and behind them its calls with theirs."""
+    space = " " * depth
+    for (offset, disc), line in sorted(node.lines.items()):
+        targets = sorted(line.targets, key=lambda each: (-each[1], each[0].encode("utf-8", "surrogateescape")))
+        yield f"{space}{place(offset, disc)}: {line.count}" + "".join(f" {callee}:{times}" for callee, times in targets)
+    for offset, disc, callee in sorted(node.calls, key=lambda each: (*each[:2], each[2].encode("utf-8", "surrogateescape"))):
+        call = node.calls[offset, disc, callee]
+        yield f"{space}{place(offset, disc)}: {callee}:{call.total()}"
+        yield from below(call, depth + 1)
+
+
+def place(offset, disc):
+    return f"{offset}.{disc}" if disc else f"{offset}"

@@ -1,0 +1,104 @@
+"""Finding and calling other programs: pgo itself, and tools of the system. Each is called by a list of words, without a shell."""
+import contextlib
+import os
+import shutil
+import signal
+import subprocess
+import sys
+import threading
+
+from pgo_tools.cli import NO_PROGRAM, Trouble, stop
+from pgo_tools.names import text_of
+
+
+def here():
+    """The folder of the script that runs, behind any links to it."""
+    return os.path.dirname(os.path.realpath(sys.argv[0]))
+
+
+def is_program(path):
+    return os.path.isfile(path) and os.access(path, os.X_OK)
+
+
+def pgo():
+    """The program pgo: where the variable PGO says, beside the script, in the folder above, or on the PATH."""
+    said = os.environ.get("PGO")
+    said = said if not said or "/" in said else shutil.which(said)
+    for path in (said, f"{here()}/pgo", f"{here()}/../pgo", shutil.which("pgo")):
+        if path and is_program(path):
+            return os.path.abspath(path)
+    raise Trouble("there is no pgo beside this script, in the folder above, or on the PATH", NO_PROGRAM, "PGO=/where/pgo/is in front")
+
+
+def cold():
+    """The program pgo-cold: where the variable PGO_COLD says, or beside pgo; or None."""
+    for path in (os.environ.get("PGO_COLD"), os.path.join(os.path.dirname(pgo()), "pgo-cold")):
+        if path and is_program(path):
+            return os.path.abspath(path)
+    return None
+
+
+def tool(*names):
+    """Where the first of these programs is that is on the PATH, or None."""
+    return next(filter(None, map(shutil.which, names)), None)
+
+
+def as_file(name):
+    """A file's name as a word that no program takes for an option, nor for a file of more words (@FILE)."""
+    return f"./{name}" if name.startswith(("-", "@")) else name
+
+
+def plain_words():
+    """The environment in which tools print what their manuals say."""
+    return {**os.environ, "LC_ALL": "C"}
+
+
+@contextlib.contextmanager
+def running(words, **how):
+    """A program that runs beside the block, and is ended with it where the block is left by a Trouble or a signal.
+
+    A signal that comes while the program is started is heard once it can be ended, too.
+    """
+    late, process = [], None
+    heard = [each for each in (signal.SIGINT, signal.SIGTERM, signal.SIGHUP) if signal.getsignal(each) == stop]
+    if threading.current_thread() is not threading.main_thread():
+        heard = []
+    for each in heard:
+        signal.signal(each, lambda number, _: late.append(number))
+    try:
+        try:
+            process = subprocess.Popen(words, env=plain_words(), **how)
+        finally:
+            for each in heard:
+                signal.signal(each, stop)
+        if late:
+            stop(late[0], None)
+        yield process
+    except BaseException:
+        if process:
+            process.kill()
+        raise
+    finally:
+        if process:
+            with process:
+                pass
+
+
+def call(words, stdin=subprocess.DEVNULL, stdout=subprocess.PIPE, given=None):
+    """Runs a program to its end: its status, its output as bytes (b"" where it went to a file), and its error output as text.
+
+    `given` is what it reads, in place of `stdin`.
+    """
+    source = stdin if given is None else subprocess.PIPE
+    with running(words, stdin=source, stdout=stdout, stderr=subprocess.PIPE) as process:
+        said, err = process.communicate(given)
+    return process.returncode, said or b"", text_of(err).strip()
+
+
+def answer(*words):
+    """What a program prints, as a text, and nothing where it is not there or fails."""
+    try:
+        status, said, _ = call(list(words))
+    except OSError:
+        return ""
+    return "" if status else text_of(said)

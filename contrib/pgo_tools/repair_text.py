@@ -1,0 +1,93 @@
+"""Repairs, as `pgo build` prints them (docs/FORMATS.md, "Repair text"): counts with prices, or a cut. Other lines are passed over."""
+import re
+from typing import NamedTuple, Optional
+
+from pgo_tools.cli import REFUSED, Trouble
+from pgo_tools.files import lines_of
+
+# Numbers of 128 bits at most, behind any zeros.
+NUMBER = "0*[0-9]{1,39}"
+WEIGHT = rf"(\?|{NUMBER})"
+FUNCTION = re.compile(r"# function ([^ ]+) (?:(flow)|cut ([01]))")
+FLOW_BLOCK = re.compile(rf"# block ({NUMBER}) weight {WEIGHT} count ({NUMBER}) in (-?{NUMBER}) out (-?{NUMBER})")
+CUT_BLOCK = re.compile(rf"# block ({NUMBER}) weight {WEIGHT} in ([01]) out ([01])")
+EDGE = re.compile(rf"# edge ({NUMBER}) ({NUMBER})(?: weight {WEIGHT})? count ({NUMBER})")
+END = re.compile(rf"# end ({NUMBER})(?: ({NUMBER}))?")
+
+
+class Block(NamedTuple):
+    """A block: its weight (None where no sample could tell), and its count with prices; of a cut the sides that are in it."""
+
+    weight: Optional[int]
+    count: Optional[int]
+    enters: int
+    leaves: int
+
+
+class Edge(NamedTuple):
+    tail: int
+    head: int
+    weight: Optional[int]
+    count: int
+
+
+class Repair:
+    """The repair of a function: `kind` is "flow" or "cut", `end` its cost, or the two sums of the cut."""
+
+    def __init__(self, name, kind, root, line):
+        self.name, self.kind, self.root, self.line = name, kind, root, line
+        self.blocks, self.edges, self.end = [], [], None
+
+
+def number_of(text):
+    # Python refuses to read thousands of digits, of zeros too.
+    return int(text.lstrip("-0") or "0") * (-1 if text.startswith("-") else 1)
+
+
+def weight_of(text):
+    return None if text in (None, "?") else number_of(text)
+
+
+def functions(file, path="the repair"):
+    """Each repair of a stream of bytes, in its order; a Trouble at the first line that is none of a repair."""
+    repair, number = None, 0
+    for number, line in lines_of(file):
+        if repair is None and not line.startswith("# function "):
+            continue
+        shown = " ".join(re.split("[ \t]+", line.strip(" \t")))
+        if repair is None:
+            match = FUNCTION.fullmatch(shown)
+            repair = match and Repair(match[1], match[2] or "cut", int(match[3] or 0), number)
+            good = bool(match)
+        else:
+            good = add(repair, shown)
+        if not good:
+            raise Trouble(f"{path}: line {number} is none of a repair: {line.rstrip()[:60]!r}", REFUSED)
+        if repair.end is not None:
+            yield repair
+            repair = None
+    if repair:
+        what = f"the repair of {repair.name} is not whole"
+        raise Trouble(f"{path}: {what}", REFUSED, "give what `pgo build` wrote, to its end")
+
+
+def add(repair, line):
+    """Adds a line to a repair; False where it is none of its kind, or not the next one."""
+    is_flow = repair.kind == "flow"
+    match = (FLOW_BLOCK if is_flow else CUT_BLOCK).fullmatch(line)
+    if match:
+        if number_of(match[1]) != len(repair.blocks) or repair.edges:
+            return False
+        told = [number_of(each) for each in match.groups()[2:]]
+        repair.blocks.append(Block(weight_of(match[2]), *(told if is_flow else [None, *told])))
+        return True
+    match = EDGE.fullmatch(line)
+    if match and is_flow:
+        tail, head = number_of(match[1]), number_of(match[2])
+        repair.edges.append(Edge(tail, head, weight_of(match[3]), number_of(match[4])))
+        return max(tail, head) < len(repair.blocks)
+    match = END.fullmatch(line)
+    if match and bool(match[2]) != is_flow and repair.blocks:
+        repair.end = tuple(number_of(each) for each in match.groups() if each is not None)
+        return True
+    return False

@@ -1,0 +1,53 @@
+"""Reports, as they follow a profile's lines (docs/FORMATS.md, "Report"): what became of each sampled branch and range."""
+import re
+from typing import NamedTuple
+
+from pgo_tools.files import lines_of
+
+UNMAPPED = re.compile(r"# unmapped ([A-Za-z]+) 0x([0-9a-f]+) 0x([0-9a-f]+) ([0-9]+)")
+SUM = re.compile(r"# (branches|entries|inside|augmentations|ranges (?:ran|reversed|outside|crossing)) ([0-9]+)")
+UNITS = re.compile(r"# units read ([0-9]+) passed ([0-9]+)")
+BUILD = re.compile(r"# build ([0-9a-f]+)")
+
+
+class Unmapped(NamedTuple):
+    reason: str
+    source: int
+    target: int
+    times: int
+
+
+class Report:
+    """The sums of a report by their words ("branches", "ranges ran", "units read"), 0 where one is missing."""
+
+    def __init__(self):
+        self.sums = {}
+        self.unmapped, self.builds = [], []
+
+    def __getitem__(self, word):
+        return self.sums.get(word, 0)
+
+    def by_reason(self, reason):
+        """How many branches are unmapped for this reason."""
+        return sum(each.times for each in self.unmapped if each.reason == reason)
+
+
+def read(file):
+    """The report in a stream of bytes; other lines are passed over."""
+    report = Report()
+    for _, line in lines_of(file):
+        if line.startswith("#"):
+            add(report, line)
+    return report
+
+
+def add(report, line):
+    """Adds a line to a report, where it is one."""
+    if match := UNMAPPED.fullmatch(line):
+        report.unmapped.append(Unmapped(match[1], int(match[2], 16), int(match[3], 16), int(match[4])))
+    elif match := SUM.fullmatch(line):
+        report.sums[match[1]] = int(match[2])
+    elif match := UNITS.fullmatch(line):
+        report.sums["units read"], report.sums["units passed"] = int(match[1]), int(match[2])
+    elif match := BUILD.fullmatch(line):
+        report.builds.append(match[1])

@@ -1,0 +1,237 @@
+"""The signs by which a profile is told to be empty, spoiled or of another binary, each with what helps against it."""
+import os
+import re
+from typing import NamedTuple
+
+from pgo_tools import branch_text, found, programs
+from pgo_tools.elf import X86_64
+from pgo_tools.files import PACKED, kind_of
+from pgo_tools.names import text_of
+
+# A function's hot lines are those that make up this share of all counts; below this count the least of them is chance.
+HOT_SHARE, FEW_SAMPLES = 0.9, 10
+# So many lines without a discriminator are no chance.
+MANY_LINES = 20
+# Names as rustc's old mangling has them.
+OLD_RUST = re.compile(r"_ZN.*17h[0-9a-f]{16}E(?:\..*)?")
+# Bytes that an instruction that branches begins with, behind prefixes (x86-64).
+BRANCH = re.compile(
+    rb"(?:[\xf2\xf3\x26\x36\x2e\x3e\x64-\x67\x40-\x4f])*"
+    rb"(?:[\x70-\x7f]|[\xe0-\xe3\xe8\xe9\xeb]|[\xc2\xc3]|\x0f[\x80-\x8f\x05\x34]|\xcd|\xff[\x10-\x2f\x50-\x6f\x90-\xaf\xd0-\xef])")
+
+
+class Sign(NamedTuple):
+    """What is wrong, and what helps."""
+
+    what: str
+    helps: str
+
+
+SHOW_LOADS = "perf script --show-mmap-events -F ip,brstack, which tells where files were loaded, and --map=NAME (docs/USING.md, step 2)"
+
+
+def help_to_map(program, text):
+    names = found.names_to_choose(program, text.loads())
+    if not names:
+        return SHOW_LOADS
+    return f"the name by which it was loaded, whole; {text.name} has\n{found.as_options(names)}"
+
+
+def sums_of(report, program):
+    """How many branches are of no loaded file that is wanted, and how many start in the program's own code."""
+    code = program.elf.code()
+    low, high = (code[0].address, code[0].address + code[0].size) if code else (0, 0)
+    foreign = sum(each.times for each in report.unmapped if each.source == each.target == 0)
+    near = sum(each.times for each in report.unmapped if low <= each.source < high)
+    return foreign, near
+
+
+def why_empty(program, text, name, report):
+    """Why a profile has no line: the first cause that holds."""
+    branches, (foreign, near) = report["branches"], sums_of(report, program)
+    if not branches:
+        return without_branches(text)
+    if not report["units read"]:
+        return without_units(program, report)
+    if name and foreign == branches and any(load.name == name for load in text.loads()):
+        return Sign(f"no branch is of {name}, though it was loaded",
+                    "the program itself, no debug file of it (eu-unstrip of elfutils puts the two together); in a recording of "
+                    "several programs that one's samples (perf script --comms=)")
+    if name and foreign == branches:
+        return Sign(f"no load line has this name: {name}", help_to_map(program, text))
+    if not name and program.elf.is_position_independent():
+        return Sign(f"{program.name} is position-independent, and ran at other addresses than it says", help_to_map(program, text))
+    if near:
+        return Sign(f"{near} of {branches} branches are of {program.name}, but it has no functions with lines there",
+                    "build with -g, without -gsplit-dwarf; the binary that ran")
+    return Sign(f"none of {branches} branches is of {program.name}",
+                "the binary that ran; brstack and not brstackoff; of a recording of several programs perf script --comms= or --pid=")
+
+
+def without_branches(text):
+    if text.is_file() and not os.path.getsize(text.path):
+        return Sign(f"{text.name} is empty", "what perf script said when it made it")
+    return Sign(f"{text.name} has no branches", "perf record -b, then perf script -F ip,brstack")
+
+
+def without_units(program, report):
+    if report["units passed"]:
+        return Sign(f"the debugging information of {program.name} is split, or of DWARF 2 or 3",
+                    "build with -gdwarf-4 or -gdwarf-5, without -gsplit-dwarf")
+    what = f"{program.name} has no debugging information, or has it compressed the old way"
+    helps = "build with -g; give it as it was before strip; objcopy --decompress-debug-sections"
+    if program.debug:
+        what = f"{program.name} has its debugging information in {program.debug}, and the two could not be joined"
+        helps = f"eu-unstrip -o {program.base_name()}.whole {program.name} {program.debug} (elfutils)"
+    return Sign(what, helps)
+
+
+# Of a line that is refused, and of a file that is none.
+
+def look_at_line(text, number):
+    """What helps with a line that is refused, and the line."""
+    if not text.is_file():
+        return "print the text into a file, and look at this line"
+    kind = kind_of(text.path)
+    if kind == "recording":
+        said = f"; {text.said}" if text.said else ""
+        return f"it is a recording: perf script -i {text.name} -F ip,brstack prints its text{said}"
+    if kind in PACKED:
+        return "it is packed: unpack it"
+    if kind == "program":
+        return "it is a program: the program first, then the text"
+    line, is_last = line_at(text.path, number)
+    shown = re.sub(r"[^\x20-\x7e]", "?", line[:100])
+    return f"{branch_text.remedy(line, is_last)}\n  the line: {shown}"
+
+
+def line_at(path, number):
+    """A line, and whether it is the last one."""
+    line = b""
+    with open(path, "rb") as file:
+        for count, line in enumerate(file, 1):
+            if count == number:
+                return text_of(line.rstrip(b"\n")), not file.readline(1)
+    return text_of(line), True
+
+
+def look_at_program(program):
+    """What helps with what is no program, by what it is instead; "" where pgo's own help says it."""
+    kind, name = kind_of(program.path), program.name
+    if kind in PACKED:
+        return f"{name} is packed: unpack it"
+    return {
+        "empty": f"{name} is empty: see what the linker said when it made it",
+        "recording": f"{name} is a recording: the program first, then what perf script -F ip,brstack prints of the recording",
+        "archive": f"{name} is a static library: the program that it was linked into",
+        "script": f"{name} is a script: the program that it starts",
+    }.get(kind, "")
+
+
+def look_at_unread(path):
+    """What helps where a file could not be read."""
+    if os.path.isdir(path):
+        return "a file: this is a folder"
+    if os.path.exists(path) and not os.access(path, os.R_OK):
+        return "leave to read it (chmod)"
+    return ""
+
+
+# Of profiles that have lines.
+
+def same_binary(program):
+    return f"the binary that ran: perf buildid-list and readelf -n {program.name} tell its number"
+
+
+def of_program(part, text):
+    """What looks wrong with the profile of a program."""
+    yield from other_binary(part, text)
+    yield from unfit_build(part.program, part.profile)
+
+
+def of_text(text, parts):
+    """What is wrong with the recording."""
+    if not text.ends():
+        yield Sign(f"{text.name} does not end with a line feed, so it may have been cut off, and its last address with it",
+                   "print the text again, and see that perf ended well")
+    yield from few_samples([part.profile for part in parts])
+
+
+def other_binary(part, text):
+    """The binary may be another one than ran: by its build, by its branches, or by the sums where those cannot be seen."""
+    program, same = part.program, same_binary(part.program)
+    code, entries, crossing = program.elf.code(), part.report["entries"], part.report["ranges crossing"]
+    if part.name and code and not code[0].file_size:
+        yield Sign(f"{program.name} is a debug file, and has other offsets than the program that was loaded",
+                   "the program itself; eu-unstrip of elfutils puts the two together")
+        return
+    if part.built:
+        yield Sign(f"the build {part.built} ran, and {program.name} is {program.elf.build_id()}", same)
+        return
+    good, bad = branching(program, text, part.name) if program.elf.machine == X86_64 and text.is_file() else (0, 0)
+    ran = part.report["ranges ran"] + crossing
+    if good + bad:
+        if bad * 9 > good:
+            yield Sign(f"of the {good + bad} most frequent branches {bad} start where {program.name} has no branch: another binary ran", same)
+    elif part.profile and not entries:
+        yield Sign("no branch enters a function: another binary may have run", same)
+    elif crossing * 20 > ran:
+        yield Sign(f"{crossing} of {ran} stretches lead from one function into another: another binary may have run", same)
+
+
+def places(program, text, name):
+    """Where the program's code was loaded: from where on, how much, and from which offset of the file."""
+    if name:
+        return sorted({(load.start, load.size, load.offset) for load in text.loads() if load.name == name})
+    return [(each.address, each.file_size, each.offset) for each in program.elf.code()]
+
+
+def branching(program, text, name):
+    """How many of the 50 most frequent sources of branches are an instruction of the file that branches, and how many are none."""
+    status, told, _ = programs.call([programs.pgo(), "counts", programs.as_file(text.path)])
+    if status:
+        return 0, 0
+    sums, parts = {}, places(program, text, name)
+    for line in told.split(b"\n"):
+        fields = line.split()
+        if len(fields) != 3 or fields[0] == b"#":
+            continue
+        at = int(fields[0], 16)
+        for start, size, offset in parts:
+            if start <= at < start + size:
+                sums[at - start + offset] = sums.get(at - start + offset, 0) + int(fields[2])
+                break
+    top = sorted(sums, key=lambda at: (-sums[at], -at))[:50]
+    good = sum(bool(BRANCH.match(program.elf.data[at : at + 6])) for at in top)
+    return good, len(top) - good
+
+
+def unfit_build(program, profile):
+    """The program was built in a way by which compilers find little of its profile."""
+    makers = program.elf.makers()
+    maker = makers[0][0] if makers else ""
+    if not found.packs(maker):
+        return
+    lines = [place for node in profile.values() for each in node.walk() for place in each.lines]
+    if len(lines) >= MANY_LINES and not any(disc for _, disc in lines) and not program.elf.has_discriminators():
+        option = "-Z debug-info-for-profiling (nightly)" if maker == "rustc" else "-fdebug-info-for-profiling"
+        yield Sign(f"{program.name} was built without {option.split(' (')[0]}: a build by this profile can be slower than one without",
+                   f"-g {option} on the build that is sampled, and on the one that takes the profile")
+    old = [name for name in profile if OLD_RUST.fullmatch(name)]
+    if maker == "rustc" and len(old) * 2 > len(profile):
+        yield Sign("rustc spelled the names in its old way (_ZN..), and nightly builds, which read profiles, spell them in another (_R..)",
+                   "sample a build by the very rustc that takes the profile; else -C symbol-mangling-version=v0 on both")
+
+
+def few_samples(profiles):
+    """The hot lines were met so seldom that chance has a say in them."""
+    nodes = [each for profile in profiles for node in profile.values() for each in node.walk()]
+    counts = sorted((line.count for node in nodes for line in node.lines.values()), reverse=True)
+    left, least = HOT_SHARE * sum(counts), 0
+    for least in counts:
+        left -= least
+        if left <= 0:
+            break
+    if 0 < least < FEW_SAMPLES:
+        yield Sign(f"too few samples: some of the lines that make up {HOT_SHARE:.0%} of all counts were met {least} time{'s' * (least > 1)}",
+                   f"{-(-FEW_SAMPLES // least)} times as many: record longer, or at a higher rate (perf record -F)")

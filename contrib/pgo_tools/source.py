@@ -1,0 +1,151 @@
+"""Where functions begin and addresses lie in source files, as tools tell it, and what stands there.
+
+A program names any file as its source. Lines are shown of files alone that lie below the folders that the caller allows.
+"""
+import os
+import re
+import stat
+from typing import NamedTuple
+
+from pgo_tools.cli import REFUSED, Trouble
+from pgo_tools.names import printable, text_of
+from pgo_tools.programs import as_file, call, tool
+
+VERSIONS = range(30, 13, -1)
+ENTRY = re.compile(r"0x[0-9a-f]+: +DW_TAG_(\w+)")
+ATTRIBUTE = re.compile(r'\s*DW_AT_(\w+)\t\((?:0x[0-9a-f]+ )?(?:"(.*)"|([^)]*))\)')
+MOST_BYTES, MOST_NAME, MOST_PATH, MOST_ASKED = 1 << 26, 4096, 4096, 256
+# What the kernel makes up, whatever folder is allowed.
+MADE_UP = ("/proc/", "/sys/", "/dev/")
+
+
+class Place(NamedTuple):
+    """A line of a file, as the program's debugging information names it."""
+
+    file: str
+    line: int
+
+    def shown(self):
+        return f"{printable(os.path.basename(self.file))}:{self.line}"
+
+
+def versions_of(name):
+    return [name] + [f"{name}-{number}" for number in VERSIONS]
+
+
+def one_line(text):
+    return " ".join(text.split())[:300]
+
+
+def starts(binary, names):
+    """Where functions of these names begin, by name; {} without llvm-dwarfdump."""
+    dump = tool(*versions_of("llvm-dwarfdump"))
+    found, asked = {}, [f"--name={name}" for name in names if len(name) <= MOST_NAME]
+    for k in range(0, len(asked) if dump else 0, MOST_ASKED):
+        status, said, err = call([dump, *asked[k : k + MOST_ASKED], as_file(binary)])
+        if status:
+            raise Trouble(f"{binary}: {one_line(err) or 'llvm-dwarfdump fails'}", REFUSED)
+        note_all(found, text_of(said).split("\n"))
+    return {name: Place(file, line) for name, (_, file, line) in found.items()}
+
+
+def note_all(found, lines):
+    entry = {}
+    for line in lines + ["0x0: DW_TAG_end"]:
+        tag = ENTRY.match(line)
+        attribute = ATTRIBUTE.match(line)
+        if tag:
+            note(found, entry)
+            entry = {"tag": tag[1]}
+        elif attribute:
+            entry[attribute[1]] = attribute[3] if attribute[2] is None else attribute[2]
+
+
+def note(found, entry):
+    """Keeps where a function begins: a definition says it better than a declaration."""
+    line = entry.get("decl_line", "")
+    if entry.get("tag") != "subprogram" or not re.fullmatch("[0-9]{1,9}", line):
+        return
+    defines = "declaration" not in entry
+    for name in {entry.get(it) for it in ("name", "linkage_name", "specification", "abstract_origin")} - {None}:
+        if name not in found or defines > found[name][0]:
+            # A definition in the same file as its declaration does not say it again.
+            file = entry.get("decl_file") or found.get(name, ("", ""))[1]
+            found[name] = (defines, file, int(line))
+
+
+def places(binary, addresses):
+    """The lines of addresses, by address, of those that have one; {} without llvm-symbolizer or addr2line."""
+    symbolizer = tool(*versions_of("llvm-symbolizer"))
+    if symbolizer:
+        words, between = [symbolizer, f"--obj={binary}", "--functions=none", "--no-inlines"], "\n\n"
+    else:
+        words, between = [tool("addr2line"), "-e", as_file(binary)], "\n"
+    if not words[0] or not addresses:
+        return {}
+    given = "".join(f"{each:#x}\n" for each in addresses).encode()
+    status, said, err = call(words, given=given)
+    if status:
+        raise Trouble(f"{binary}: {one_line(err) or words[0] + ' fails'}", REFUSED)
+    told = text_of(said).split(between)
+    if len(told) != len(addresses) + 1:
+        return {}
+    found = {}
+    for address, line in zip(addresses, told):
+        match = re.fullmatch(r"(.+?):([0-9]{1,9})(?::[0-9]+)?(?: \(discriminator [0-9]+\))?\n?", line)
+        if match and match[1] != "??" and int(match[2]):
+            found[address] = Place(match[1], int(match[2]))
+    return found
+
+
+class Sources:
+    """Source files, looked for where they were, and then by the ends of their paths, below these folders alone."""
+
+    def __init__(self, folders):
+        self.folders = list(dict.fromkeys(os.path.realpath(each or ".") for each in folders))
+        self.lines = {}
+
+    def has(self, place):
+        return bool(self.of(place.file))
+
+    def line(self, place):
+        """What stands there, printable, or "" where the file is not found or shorter."""
+        lines = self.of(place.file)
+        return printable(lines[place.line - 1].strip()) if 0 < place.line <= len(lines) else ""
+
+    def of(self, path):
+        if path not in self.lines:
+            tried = map(self.read, self.candidates(path))
+            self.lines[path] = next(filter(None, tried), [])
+        return self.lines[path]
+
+    def candidates(self, path):
+        if len(path) > MOST_PATH or "\0" in path:
+            return
+        yield path
+        parts = path.strip("/").split("/")
+        for folder in self.folders:
+            for k in range(len(parts)):
+                yield os.path.join(folder, *parts[k:])
+
+    def allows(self, place):
+        """The file, its links followed, lies below one of the folders, and in none there that is hidden."""
+        if place.startswith(MADE_UP):
+            return False
+        below = [os.path.relpath(place, each) for each in self.folders]
+        return any(not part.startswith(".") for part in below if "/." not in part)
+
+    def read(self, path):
+        """The lines of a file that is allowed, [] of any other."""
+        place = os.path.realpath(path)
+        if not self.allows(place):
+            return []
+        try:
+            handle = os.open(place, os.O_RDONLY | os.O_NONBLOCK | os.O_NOFOLLOW | os.O_CLOEXEC)
+        except OSError:
+            return []
+        if not stat.S_ISREG(os.fstat(handle).st_mode):
+            os.close(handle)
+            return []
+        with os.fdopen(handle, "rb") as file:
+            return text_of(file.read(MOST_BYTES)).split("\n")

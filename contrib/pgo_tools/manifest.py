@@ -96,6 +96,7 @@ class LeftOut(NamedTuple):
     why: str
     status: int
     bad: bool
+    stamp: List[int]
 
 
 class Below(NamedTuple):
@@ -126,6 +127,14 @@ class Manifest(NamedTuple):
 def stamp_of(seen):
     """What the system tells of a file that changes when its bytes do."""
     return [seen.st_ino, seen.st_size, seen.st_mtime_ns, seen.st_ctime_ns]
+
+
+def stamp_at(path):
+    """The same of the file at a path; nothing where there is none."""
+    try:
+        return stamp_of(os.stat(path))
+    except OSError:
+        return []
 
 
 def rows(key, entries):

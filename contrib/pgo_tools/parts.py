@@ -8,6 +8,7 @@ import errno
 import os
 import re
 import shutil
+import signal
 import stat
 import tempfile
 from typing import List, NamedTuple
@@ -45,7 +46,7 @@ class Source(NamedTuple):
     stamp: List[int]
 
     def left_out(self, why, status=REFUSED, bad=True):
-        return told.LeftOut(self.name, self.weight, why, status, bad)
+        return told.LeftOut(self.name, self.weight, why, status, bad, self.stamp)
 
 
 # Files, as they are read.
@@ -93,7 +94,7 @@ def asked(tree, entry, scratch):
         missing = isinstance(reason, (FileNotFoundError, NotADirectoryError, PermissionError))
         why = (reason.strerror or str(reason)).lower() if missing else f"read fault: {reason.strerror}"
         return told.LeftOut(entry.name, entry.weight, why.replace("no such file or directory", "no such file"),
-                            NO_FILE if missing else READ_FAULT, True)
+                            NO_FILE if missing else READ_FAULT, True, told.stamp_at(entry.name))
     why = reason_against(tree, source.facts)
     if not why:
         return source
@@ -123,8 +124,12 @@ def at_fault(sources, status, said):
         raise Trouble("write fault: there is no room for a sum", WRITE_FAULT, "room on the disk, or TMPDIR=/another/folder in front")
     if status == NO_MEMORY:
         raise Trouble("no memory for a merge", NO_MEMORY, "fewer jobs at once (-j)")
+    if status == -signal.SIGXFSZ:
+        raise Trouble("write fault: a sum is larger than files may be (ulimit -f)", WRITE_FAULT)
+    if status < 0:
+        raise Trouble(f"pgo was ended by signal {-status}", FAILED, "the same call again, with --resume behind -o")
     if not match:
-        raise Trouble(said or f"pgo ended without a word, with status {status}", status if status > 0 else FAILED)
+        raise Trouble(said or f"pgo ended without a word, with status {status}", status)
     source, why = sources[int(match[2]) - 1], match[1] + match[3]
     if OF_SUMS in why or not isinstance(source, Source):
         name = f"{source.name} and those before it" if isinstance(source, Source) else f"the sum of {source.name}"
@@ -204,6 +209,8 @@ def add_files(tree, part, pgo, target, scratch):
         good = add_group(tree, group, pgo, file, scratch, made)
         if good and not only:
             sums.append(Sum(f"{good[0]} to {good[-1]}", 1, file))
+    order = {entry.name: number for number, entry in enumerate(entries)}
+    made.left_out.sort(key=lambda each: order[each.name])
     bad = [each for each in made.left_out if each.bad]
     if bad and tree.choices.skip_bad is None:
         raise Faults(bad)
@@ -237,7 +244,7 @@ def one_build(tree, builds, what):
     if tree.choices.build == ANY:
         return ""
     if len(set(builds)) > 1:
-        said = ", ".join(build or "none" for build in sorted(set(builds)))
+        said = ", ".join([*sorted(filter(None, set(builds))), *(["none"] if "" in builds else [])])
         raise Trouble(f"{what}: the profiles are of several builds: {said}", FAILED,
                       "--build=ID takes those of one and leaves the others out, --build=any adds up all")
     return builds[0] if builds else ""
@@ -338,11 +345,8 @@ def seal(tree, part, inputs, noted):
 
 
 def is_unchanged(entry):
-    """A file was not written to since it went in. One that is gone stays in."""
-    try:
-        return told.stamp_of(os.stat(entry.name)) == entry.stamp
-    except OSError:
-        return True
+    """A file was not written to since it went in or was left out. One that is gone since stays in."""
+    return told.stamp_at(entry.name) in (entry.stamp, [])
 
 
 def is_sound(tree, part):
@@ -352,7 +356,7 @@ def is_sound(tree, part):
         return False
     if part.level == 1:
         may = tree.choices.skip_bad is not None or not seen.bad
-        return may and bool(tree.choices.fetch or all(map(is_unchanged, seen.files)))
+        return may and bool(tree.choices.fetch or all(map(is_unchanged, seen.files + seen.left_out)))
     below = {name: told.read(tree.manifest(name)) for name in tree.below(part)}
     known = [told.Below(str(name), each.sha256) for name, each in below.items() if each is not None]
     return known == seen.parts and all(is_sound(tree, name) for name in below)
@@ -418,7 +422,7 @@ def judged(tree, left_out):
         raise Trouble("nothing was merged: all files were left out", FAILED)
 
 
-def put_out(tree):
+def put_out(tree, lasting=True):
     """Puts the sum of all in place, and its manifest beside it."""
     first = gathered(tree)
     entries = [each for seen in first for each in seen.files]
@@ -433,14 +437,14 @@ def put_out(tree):
             raise Trouble(f"{len(tree.files)} files were to be merged, and {len(entries)} were", FAILED)
         with contextlib.suppress(FileNotFoundError):
             os.unlink(told.beside(tree.out))
-        with put_in_place(tree.out) as target:
+        with put_in_place(tree.out, lasting=lasting) as target:
             if told.differs(told.facts_of(text, target), whole):
                 raise Trouble(f"{tree.text(tree.last())} changed while it was read", FAILED)
             target.write(f"# build {whole.build}\n".encode() if whole.build else b"")
-    write_out(tree, whole, entries, left_out)
+    write_out(tree, whole, entries, left_out, lasting)
 
 
-def write_out(tree, whole, entries, left_out):
+def write_out(tree, whole, entries, left_out, lasting):
     """The manifest of the sum of all: its own bytes, with those of the line that tells the build."""
     file, _ = opened(tree.out)
     with file:
@@ -448,13 +452,14 @@ def write_out(tree, whole, entries, left_out):
     told.check_sums(tree.out, facts, [(1, whole)])
     sums = {of: sum(each.weight * getattr(each, of) for each in entries) for of in ("total", "heads")}
     more = [("out", tree.out), ("files_listed", len(tree.files)), ("total_in", sums["total"]), ("heads_in", sums["heads"])]
-    told.write(told.beside(tree.out), whole._replace(size=facts.size, sha256=facts.sha256, files=entries, parts=[], left_out=left_out), more)
+    noted = whole._replace(size=facts.size, sha256=facts.sha256, files=entries, parts=[], left_out=left_out)
+    told.write(told.beside(tree.out), noted, more, lasting)
 
 
 def is_out(tree):
     """The sum of all is in place already, made of the files as they are now."""
     seen = told.read(told.beside(tree.out))
-    if seen is None or seen.want != tree.want(tree.last()) or not all(map(is_unchanged, seen.files)):
+    if seen is None or seen.want != tree.want(tree.last()) or not all(map(is_unchanged, seen.files + seen.left_out)):
         return False
     try:
         file, _ = opened(tree.out)

@@ -115,7 +115,7 @@ def read(part, how, told):
         return Outcome(FAILED, [[f"part {part} was ended {by}", "--resume goes on with what is done"]])
 
 
-def run(tree, jobs, pgo):
+def run(tree, jobs, pgo, lasting=True):
     """Makes what is missing of a tree, so many parts side by side, and puts the sum of all in place. Returns the status."""
     todo = parts.missing(tree)
     waits = {part: sum(1 for each in todo if tree.above(each) == part) for part in todo if part.level > 1}
@@ -141,5 +141,5 @@ def run(tree, jobs, pgo):
             for what, helps in told.said:
                 say(what, helps)
         return min(faults.items())[1].status
-    parts.put_out(tree)
+    parts.put_out(tree, lasting)
     return 0

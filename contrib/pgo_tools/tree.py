@@ -111,7 +111,7 @@ def description(folder):
 def write(tree):
     """Puts the description into the tree's folder."""
     told = tree._replace(choices=tree.choices._asdict())._asdict()
-    with put_in_place(description(tree.folder)) as file:
+    with put_in_place(description(tree.folder), lasting=False) as file:
         file.write((json.dumps({"form": FORM, **told}) + "\n").encode("ascii"))
 
 

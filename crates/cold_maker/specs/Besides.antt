@@ -1,5 +1,5 @@
--- The keys that have lines besides, by numbers: those of which a text tells the count 0, and those whose functions stand
--- in its profile.
+-- The keys that have lines besides, by numbers: those of which a text tells the count 0, and those whose functions
+-- stand in its profile.
 use Rattle.std.specs.Prelude.{ℕ, ◌==◌, nat_lt, Bool, false, ◌&&◌, List, cond, filter, map, slice_index_or, Option, None, Some}
 use Rattle.std.specs.List.{filter_map, list_any, range_with_len}
 use Rattle.key_types.specs.declared.ids.KeyId.{KeyId}

@@ -106,7 +106,7 @@ class Demo(Profiles):
         self.file("prof", "old\n")
         os.mkdir(self.folder / "tmp")
         words = ["env", f"TMPDIR={self.folder}/tmp", SCRIPT, WORDS, "text", "prof"]
-        ran = terminated(*words, folder=self.folder, until=lambda: self.names("tmp"))
+        ran = terminated(*words, folder=self.folder, until=lambda: any(each.startswith("pgo-profile.") for each in self.names("tmp")))
         self.assertNotIn("Traceback", ran.said)
         self.assertEqual((ran.status, self.names("tmp"), (self.folder / "prof").read_text()), (143, [], "old\n"))
 
@@ -159,6 +159,16 @@ class Forms(Profiles):
             os.symlink(shutil.which(tool), self.folder / "bin" / tool)
         self.judge(4, "at 1: BadLine.*it is a recording: perf script -i perf.data .*there is no perf here", WORDS, path.name,
                    environment={"PATH": str(self.folder / "bin")})
+
+    def test_the_numbers_of_builds_that_a_recording_has(self):
+        """A stand-in for perf prints the demo's text with a load line, and says of which build the file was."""
+        number = re.search(r"# build (.*)", self.run_here(SCRIPT, WORDS, TEXT, "made.prof") and (self.folder / "made.prof").read_text())[1]
+        os.mkdir(self.folder / "bin")
+        self.file("text", load_line("/srv/app/words") + TEXT.read_text())
+        for build, status, said in ((number, 0, ""), ("0123456789", 1, "the build 0123456789 ran, and .*words is ")):
+            stand_in = self.file("bin/perf", f'#!/bin/sh\ncase $1 in script) cat "{self.folder}/text" ;; *) echo {build} /srv/app/words ;; esac\n')
+            stand_in.chmod(0o755)
+            self.judge(status, said, WORDS, self.file("perf.data", b"PERFILE2"), environment={"PATH": f"{self.folder}/bin:{os.environ['PATH']}"})
 
     def test_samples_of_a_text_are_not_chosen(self):
         self.judge(2, "--pid=7: .*words.txt is no recording", "--pid=7", WORDS, TEXT)

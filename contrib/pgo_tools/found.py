@@ -41,7 +41,7 @@ def loaded_names(program, loads):
     """The names by which load lines have this program: by its build's number, else by its own name."""
     number = program.elf.build_id()
     named = [load for load in loads if load.name.startswith("/")]
-    found = {load.name for load in named if load.build and load.build == number}
+    found = {load.name for load in named if number and is_same_build(load.build, number)}
     for own in (os.path.basename(program.name), os.path.basename(os.path.realpath(program.name))):
         found = found or {load.name for load in named if last_name(load.name) == own}
     return sorted(found)
@@ -74,4 +74,10 @@ def names_to_choose(program, loads):
 def other_build(program, loads, name):
     """The first number of the load lines of this name that is another than the program's, or ""."""
     number = program.elf.build_id()
-    return next((load.build for load in loads if number and load.name == name and load.build not in ("", number)), "")
+    builds = (load.build for load in loads if number and load.name == name and load.build)
+    return next((build for build in builds if not is_same_build(build, number)), "")
+
+
+def is_same_build(build, number):
+    """Two numbers are one. perf fills short ones up with zeros to 20 bytes."""
+    return bool(build) and build.ljust(40, "0") == number.ljust(40, "0")

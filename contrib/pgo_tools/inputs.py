@@ -3,6 +3,7 @@
 What has to be made for that stands in a folder of the caller's own. What cannot be made is left as it is: pgo says what it lacks.
 """
 import os
+import re
 import shutil
 import stat
 import zlib
@@ -17,21 +18,24 @@ DEBUG_FOLDER = "/usr/lib/debug"
 
 
 class Text(NamedTuple):
-    """A branch text: its name as the user gave it, the plain file, and what perf said where it could not print it."""
+    """A branch text: its name as the user gave it, the plain file, what perf said where it could not print it, and the numbers of
+    builds that it has by the names of their files."""
 
     name: str
     path: str
     said: str = ""
+    builds: tuple = ()
 
     def is_file(self):
         return os.path.isfile(self.path)
 
     def loads(self):
-        """The load lines of code."""
+        """The load lines of code, each with the number of its build where it or the recording has one."""
         if not self.is_file():
             return []
+        builds = dict(self.builds)
         with open(self.path, "rb") as file:
-            return [load for load in branch_text.loads(file) if load.is_code()]
+            return [load if load.build else load._replace(build=builds.get(load.name, "")) for load in branch_text.loads(file) if load.is_code()]
 
     def ends(self):
         """Its last line has a line feed; an empty text, or one that cannot be looked at, is taken to end."""
@@ -89,7 +93,9 @@ def printed(name, path, folder, asked):
         status, _, said = programs.call(words, stdout=target)
     if status:
         return Text(name, path, "perf script says: " + (said.split("\n") or [""])[-1])
-    return Text(name, copy)
+    told = programs.answer(perf, "buildid-list", "-i", os.path.abspath(path))
+    builds = re.findall(r"^([0-9a-f]{8,}) (/.*)$", told, re.MULTILINE)
+    return Text(name, copy, "", tuple((each, number) for number, each in builds))
 
 
 class Program(NamedTuple):

@@ -3,9 +3,13 @@ here, position-independent or not, stripped or not, walked through by drawn ways
 import collections
 import random
 import shutil
+import sys
 import unittest
 
 from common import BLOCKS, CONTRIB, HERE, MISSING, PGO, REFUSED, TEXT, TOP, WORDS, BAD_WORDS, Case, needs, run
+
+sys.path.insert(0, str(CONTRIB))
+from pgo_tools import dwarf_writer  # noqa: E402
 
 LINED, MAKER = CONTRIB / "lined", CONTRIB / "blocks"
 NOTE = "lined: for pgo build, people and contrib/draw; a profile made with it is not for clang\n"
@@ -160,6 +164,15 @@ class OfTheDemo(Case):
         self.assertEqual(ran.status, 0, ran.out[-500:])
 
 
+class Names(unittest.TestCase):
+    """Each function has a name of its own, which a profile can hold."""
+
+    def test_names(self):
+        given = [("f", 1), ("f", 2), ("f", 2), ("type:.eq.x1", 3), ("9p", 4), ("[x", 5), ("#", 6), ("a\x7f b", 7), ("f@0x1", 8), ("g", 9)]
+        wanted = ["f@0x1.2", "f@0x2", "f@0x2.2", "type_.eq.x1", "_9p", "_[x", "_#", "a__b", "f@0x1", "g"]
+        self.assertEqual(dwarf_writer.own_names(given), wanted)
+
+
 class OfCompilers(Case):
     """Programs of each compiler: what is drawn is found again, count by count."""
 
@@ -192,6 +205,8 @@ class OfCompilers(Case):
             for flags in (["-g", "-no-pie"], ["-g", "-pie", "-fPIE"], ["-pie", "-fPIE"]):
                 with self.subTest(compiler=compiler, flags=flags):
                     self.agrees(*flags, compiler=compiler)
+
+    test_counts_of_drawn_ways_are_found_again.takes = 20
 
     @needs("gcc", "strip")
     def test_a_stripped_program_has_them_too(self):

@@ -101,6 +101,8 @@ class Programs(Case):
                 self.assertEqual(barred.replace(" never\n", "\n"), plain)
                 self.no_cut_comes_of_it(plain, barred)
 
+    test_pads_and_ways_to_abort_are_told.takes = 20
+
     def no_cut_comes_of_it(self, plain, barred):
         """Each function is called once, so that it has to have a way out."""
         entries = [line.split()[2] for line in plain.splitlines() if line.startswith("block 0 ")]

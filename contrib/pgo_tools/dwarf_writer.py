@@ -12,7 +12,7 @@ from pgo_tools.names import raw_of
 PRODUCER = b"contrib/lined: a line for each block; the profile is not for clang"
 FILE = b"blocks"
 # What a profile's line of a function cannot hold (docs/FORMATS.md, "Names of entries"); LLVM takes [ for another kind of profile.
-UNHELD, UNLED = re.compile(r"[\x00-\x20\x7f:]"), re.compile(r"(?=[#!\[0-9]|$)")
+UNHELD, UNLED = re.compile(r"[\x00-\x20\x7f:]"), re.compile(r"[#!\[0-9]|$")
 
 # 7.5.3, 7.5.4 and 7.5.5: the numbers of what an entry is, of its attributes, and of the forms of their values.
 COMPILE_UNIT, SUBPROGRAM = 0x11, 0x2E
@@ -52,18 +52,26 @@ def sleb(value):
     return bytes(out)
 
 
+def held_name(name):
+    """The name as a profile can hold it."""
+    told = UNHELD.sub("_", name)
+    return f"_{told}" if UNLED.match(told) else told
+
+
 def own_names(functions):
     """A name of its own for each (name, address): as it stands where a profile can hold it and no other has it, else with the address."""
-    held = [UNLED.sub("_", UNHELD.sub("_", name), count=1) if UNHELD.search(name) or UNLED.match(name) else name for name, _ in functions]
-    times, taken, names = collections.Counter(held), set(), []
+    held = [held_name(name) for name, _ in functions]
+    times = collections.Counter(held)
+    taken = {name for name in times if times[name] == 1}
+    names = []
     for name, (_, address) in zip(held, functions):
-        wanted = name if times[name] == 1 else f"{name}@{address:#x}"
-        number = 1
-        while wanted in taken or number > 1 and wanted in times:
-            number += 1
-            wanted = f"{name}@{address:#x}.{number}"
-        taken.add(wanted)
-        names.append(wanted)
+        if times[name] > 1:
+            wanted, number = f"{name}@{address:#x}", 2
+            while wanted in taken:
+                wanted, number = f"{name}@{address:#x}.{number}", number + 1
+            taken.add(wanted)
+            name = wanted
+        names.append(name)
     return names
 
 

@@ -4,7 +4,7 @@ from typing import NamedTuple
 
 from pgo_tools.cli import REFUSED, Trouble
 
-HEADER, SECTION, PROGBITS, NOBITS, ALLOC = 64, struct.Struct("<IIQQQQIIQQ"), 1, 8, 2
+HEADER, SECTION, PROGBITS, STRINGS, NOBITS, ALLOC, COMPRESSED = 64, struct.Struct("<IIQQQQIIQQ"), 1, 3, 8, 2, 0x800
 FEWEST_FAR, FAR = 0xFF00, 0xFFFF
 DEBUG = (".debug", ".zdebug", ".rela.debug", ".rel.debug", ".gnu_debuglink", ".gnu_debugaltlink", ".gdb_index")
 
@@ -28,8 +28,8 @@ NONE = Header(*[0] * 10)
 
 
 def is_left_out(section):
-    """Debugging information, and what leads to it. What is loaded stays."""
-    return not section.flags & ALLOC and section.name.startswith(DEBUG)
+    """Debugging information, what leads to it, and what is packed, which pgo refuses. What is loaded stays."""
+    return not section.flags & ALLOC and bool(section.name.startswith(DEBUG) or section.flags & COMPRESSED)
 
 
 def whole_end(elf):
@@ -54,7 +54,8 @@ class Layout:
     """A file as its pieces of bytes, with a table of its sections."""
 
     def __init__(self, elf):
-        self.elf, self.end = elf, whole_end(elf)
+        self.elf, self.whole = elf, whole_end(elf)
+        self.end = self.whole
         self.pieces, self.headers, self.names = [], [NONE], bytearray(1)
 
     def place(self, raw, align):
@@ -73,7 +74,7 @@ class Layout:
     def keep(self, header, section):
         """A section of the program: where a segment holds its bytes they stay, else they move."""
         at, held = header.offset, self.elf.data[header.offset : header.offset + header.size]
-        if header.kind != NOBITS and not header.flags & ALLOC and at + header.size > whole_end(self.elf):
+        if header.kind != NOBITS and not header.flags & ALLOC and at + header.size > self.whole:
             if len(held) < header.size:
                 raise Trouble(f"{self.elf.path} is damaged or cut off: {section.name} passes its end", REFUSED, "copy it again")
             at = self.place(held, header.align)
@@ -85,7 +86,7 @@ class Layout:
 
     def close(self):
         """The file's pieces, the table of sections being the last."""
-        self.headers.append(NONE._replace(name=self.name(".shstrtab"), kind=3, align=1))
+        self.headers.append(NONE._replace(name=self.name(".shstrtab"), kind=STRINGS, align=1))
         raw = bytes(self.names)
         self.headers[-1] = self.headers[-1]._replace(offset=self.place(raw, 1), size=len(raw))
         count = len(self.headers)
@@ -96,7 +97,7 @@ class Layout:
         head = bytearray(self.elf.data[:HEADER])
         struct.pack_into("<Q", head, 40, table)
         struct.pack_into("<HHH", head, 58, SECTION.size, *short)
-        return [bytes(head), memoryview(self.elf.data)[HEADER : whole_end(self.elf)], *self.pieces]
+        return [bytes(head), memoryview(self.elf.data)[HEADER : self.whole], *self.pieces]
 
 
 def with_sections(elf, sections):

@@ -3,8 +3,12 @@ case is skipped.
 
 `PGO` and `PGO_COLD` name other programs than those that were built here, or else those of release/.
 """
+import contextlib
+import hashlib
 import os
 import pathlib
+import random
+import shlex
 import shutil
 import signal
 import subprocess
@@ -16,6 +20,8 @@ from typing import Callable, NamedTuple, Optional
 
 sys.dont_write_bytecode = True
 HERE = pathlib.Path(__file__).resolve().parent
+# What holds the programs to what is known of them.
+sys.path.insert(0, str(HERE / "program"))
 TOP = HERE.parent.parent
 CONTRIB = TOP / "contrib"
 WORDS = TOP / "demo" / "words"
@@ -31,9 +37,11 @@ def program(variable: str, name: str, crate: str) -> str:
     """The program that the environment names; else the one that was built here, where out/built says so; else release/'s."""
     if os.environ.get(variable):
         return os.path.abspath(os.environ[variable])
-    built = TOP / "crates" / crate / "out" / crate
-    whole = (TOP / "out" / "built").is_file() and os.access(built, os.X_OK)
-    return str(built if whole else TOP / "release" / name)
+    built, record = TOP / "crates" / crate / "out" / crate, TOP / "out" / "built"
+    if record.is_file() and os.access(built, os.X_OK):
+        if f"{name} {hashlib.sha256(built.read_bytes()).hexdigest()}" in record.read_text().splitlines():
+            return str(built)
+    return str(TOP / "release" / name)
 
 
 PGO = program("PGO", "pgo", "pgo_cli")
@@ -54,6 +62,12 @@ class Ran(NamedTuple):
         return self.err.decode(errors="backslashreplace")
 
 
+def kill_group(leader):
+    """Ends what a program started, and the program."""
+    with contextlib.suppress(ProcessLookupError):
+        os.killpg(leader, signal.SIGKILL)
+
+
 def run(*words, folder=None, given=b"", limit=120, environment=None, output=None, prepare=None) -> Ran:
     """Runs a program with these words; `given` is its input, as bytes or an open file. It is killed, with what it started, and
     fails the case where it takes more than `limit` seconds. `environment` changes variables, None taking one away; `output` is a
@@ -68,16 +82,23 @@ def run(*words, folder=None, given=b"", limit=120, environment=None, output=None
     )
     try:
         out, err = started.communicate(given if isinstance(given, bytes) else None, timeout=limit)
-    except subprocess.TimeoutExpired:
-        os.killpg(started.pid, signal.SIGKILL)
+    except BaseException as fault:
+        kill_group(started.pid)
         started.communicate()
-        raise AssertionError(f"{words} took more than {limit} seconds") from None
+        if isinstance(fault, subprocess.TimeoutExpired):
+            raise AssertionError(f"{words} took more than {limit} seconds") from None
+        raise
     return Ran(started.returncode, out or b"", err)
 
 
 def python(*words, **how) -> Ran:
     """The same for a script of Python, by the one that runs here."""
     return run(sys.executable, *words, **how)
+
+
+def within(limit, *words) -> list:
+    """The words that run a program within a limit of the shell's, as `ulimit -v 16000`."""
+    return ["sh", "-c", f'{limit} && exec "$@"', "sh", *words]
 
 
 def on_full_device(*words, **how) -> "list[Ran]":
@@ -119,11 +140,7 @@ def terminated(*words, folder, until: Optional[Callable[[], bool]] = None, by=si
     except subprocess.TimeoutExpired:
         raise AssertionError(f"{words} goes on behind {by.name}") from None
     finally:
-        # What it started and left behind.
-        try:
-            os.killpg(started.pid, signal.SIGKILL)
-        except ProcessLookupError:
-            pass
+        kill_group(started.pid)
     return Ran(started.returncode, out, err)
 
 
@@ -136,6 +153,27 @@ def needs(*tools):
 def needs_file(path):
     """Skips a case where the system has not this file or device."""
     return unittest.skipUnless(os.path.exists(path), f"there is no {path}")
+
+
+try:
+    import hypothesis
+    from hypothesis import strategies
+except ImportError:
+    hypothesis = None
+SHRINKS = hypothesis is not None
+
+
+def each_drawn(examples: int, tried: Callable) -> bool:
+    """Tries what is drawn so many times, from a source of draws as random.Random is: by hypothesis where it is installed, which makes
+    the draws of what fails as small as it can, and else by the seeds from 1 on. Tells whether it was by seeds."""
+    if hypothesis is None:
+        for seed in range(1, examples + 1):
+            tried(random.Random(seed))
+        return True
+    checks = list(hypothesis.HealthCheck)
+    settings = hypothesis.settings(max_examples=examples, deadline=None, database=None, derandomize=True, suppress_health_check=checks)
+    settings(hypothesis.given(strategies.randoms(use_true_random=False))(lambda draw: tried(draw)))()
+    return False
 
 
 class Case(unittest.TestCase):
@@ -158,6 +196,11 @@ class Case(unittest.TestCase):
     def run_here(self, *words, **how) -> Ran:
         """Runs a program in the case's folder."""
         return run(*words, folder=how.pop("folder", self.folder), **how)
+
+    def expects(self, title, ran: Ran, status, out=b"", err=b""):
+        """The same as a case of its own."""
+        with self.subTest(title):
+            self.expect(ran, status, out, err)
 
     def names(self, below=".") -> "list[str]":
         """What the case's folder holds, or one below it."""
@@ -193,4 +236,5 @@ class Case(unittest.TestCase):
 
 
 if __name__ == "__main__":
-    sys.exit("common.py holds what the checks share: python3 -m unittest discover checks/gate")
+    # For scripts of the shell.
+    print(f"PGO={shlex.quote(PGO)} PGO_COLD={shlex.quote(COLD)}")

@@ -171,10 +171,11 @@ def created(place):
 
 
 @contextlib.contextmanager
-def put_in_place(path, inputs=()):
+def put_in_place(path, inputs=(), lasting=True):
     """A file to write bytes to, which stands at the path once the block has ended well, and else leaves nothing behind.
 
-    A link is followed, and a file that was there keeps its mode. Devices, pipes, folders and the inputs are refused.
+    A link is followed, and a file that was there keeps its mode. Devices, pipes, folders and the inputs are refused. What need
+    not outlive a loss of power is not waited for on its way to the disk.
     """
     place = target_of(path, inputs)
     handle, new = created(place)
@@ -184,7 +185,8 @@ def put_in_place(path, inputs=()):
             file.flush()
             with contextlib.suppress(OSError):
                 os.fchmod(file.fileno(), stat.S_IMODE(os.stat(place).st_mode))
-            os.fsync(file.fileno())
+            if lasting:
+                os.fsync(file.fileno())
         os.replace(new, place)
     except OSError as reason:
         if reason.filename not in (None, new):

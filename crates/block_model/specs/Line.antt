@@ -6,6 +6,7 @@ use Rattle.std.specs.Str.{bytes_eq}
 use Rattle.text_model.specs.Fields.{fields_of}
 use Rattle.text_model.specs.LineTests.{is_comment}
 use Rattle.text_model.specs.Numbers.{decimal_of, prefixed_of}
+pub use Rattle.text_model.specs.Numbers.{◌>>=◌, within_bits}
 use Rattle.block_model.specs.declared.parts.Block.{Block}
 use Rattle.block_model.specs.declared.parts.Bound.{Bound}
 use Rattle.block_model.specs.Function.{unbounded}
@@ -23,16 +24,6 @@ pub data Line : Type 0 where
   tells_edge : ℕ → ℕ → Bound → Line
   -- The function ends.
   ends : Line
-
--- What the function gives of the value, if there is one: what `do` below chains by.
-infixl 10 ◌>>=◌
-abbrev pub ◌>>=◌ : {A B : Type 0} → Option A → (A → Option B) → Option B
-None >>= f = None
-(Some x) >>= f = f x
-
--- The number, if it fits so many bits.
-abbrev pub within_bits : ℕ → ℕ → Option ℕ
-within_bits bits n = if nat_lt n (2 ^ bits) then Some n else None
 
 -- The number of a block: decimal, within 64 bits.
 unfoldable pub place_of : List ℕ → Option ℕ

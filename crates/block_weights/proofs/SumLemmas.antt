@@ -1,24 +1,9 @@
 -- Sums over those that pass a test.
-use Rattle.std.proofs.Common.{◌≡◌, ℕ, zero, suc, ◌+◌, Bool, true, false, cond, List, [], ◌∷◌, ◌++◌, refl, sym, ap, ◌∙◌, arith, length, take, drop}
-use Rattle.std.specs.Prelude.{filter, sum_by}
+use Rattle.std.proofs.Common.{◌≡◌, ℕ, zero, suc, List, [], ◌∷◌, refl, ◌∙◌, arith, length, take, drop}
+use Rattle.std.specs.Prelude.{sum_by}
 use Rattle.std.specs.List.{AllWithin}
-use Rattle.std.proofs.lemmas.List.Elements.{filter-append}
-use Rattle.std.proofs.lemmas.List.Sums.{sum_by-append, sum_by-cons}
-
-pub sum_passing-cons : {X : Type 0} (f : X → ℕ) (p : X → Bool) (x : X) (xs : List X) → sum_by f (filter p (x ∷ xs)) ≡ cond (p x) (f x) 0 + sum_by f (filter p xs)
-sum_passing-cons {X} f p x xs = by_test (p x)
-  where
-    by_test : (t : Bool) → sum_by f (cond t (x ∷ filter p xs) (filter p xs)) ≡ cond t (f x) 0 + sum_by f (filter p xs)
-    by_test true = sum_by-cons f x (filter p xs)
-    by_test false = omega arith
-
-pub sum_passing : {X : Type 0} (f : X → ℕ) (p : X → Bool) (xs : List X) → sum_by f (filter p xs) ≡ sum_by (λ x. cond (p x) (f x) 0) xs
-sum_passing f p [] = refl
-sum_passing f p (x ∷ xs) =
-    sum_passing-cons f p x xs ∙ ap (λ n. cond (p x) (f x) 0 + n) (sum_passing f p xs) ∙ sym (sum_by-cons (λ x. cond (p x) (f x) 0) x xs)
-
-pub sum_passing-append : {X : Type 0} (f : X → ℕ) (p : X → Bool) (xs ys : List X) → sum_by f (filter p (xs ++ ys)) ≡ sum_by f (filter p xs) + sum_by f (filter p ys)
-sum_passing-append f p xs ys = ap (sum_by f) (filter-append p xs ys) ∙ sum_by-append f (filter p xs) (filter p ys)
+use Rattle.std.proofs.lemmas.List.Sums.{sum_by-cons}
+pub use Rattle.list_lemmas.proofs.Sums.{sum_passing-cons, sum_passing-append, sum_passing}
 
 -- where no term is above 0 the sum is not either
 pub no_sum : {X : Type 0} (f : X → ℕ) (xs : List X) → AllWithin (λ x. f x ≡ 0) xs 0 (length xs) → sum_by f xs ≡ 0

@@ -1,6 +1,6 @@
 -- The weight of some addresses, segment by segment.
-use Rattle.std.proofs.Common.{◌≡◌, ℕ, suc, ◌-◌, ◌^◌, ◌<◌, ◌≤◌, min, max, List, [], ◌∷◌, ◌++◌, Option, None, Some, refl, sym, ap, subst, arith, inl, inr, length, get_or}
-use Rattle.std.specs.List.{AllWithin, AllZip}
+use Rattle.std.proofs.Common.{◌≡◌, ℕ, suc, ◌-◌, ◌^◌, ◌<◌, ◌≤◌, min, max, List, [], Option, None, Some, refl, sym, ap, subst, arith, inl, inr, length, get_or}
+use Rattle.std.specs.List.{AllWithin}
 use Rattle.std.proofs.lemmas.Bool.{cases_lt}
 use Rattle.std.proofs.lemmas.List.{get_or_default, get_or_past}
 use Rattle.block_model.specs.declared.parts.Weight.{Weight}
@@ -88,10 +88,3 @@ WeightSoFar-all segments counts lo hi next weight fits so_far past =
 
 pub no_addresses : (key : ℕ → Option KeyId) (count : KeyId → ℕ) (lo hi : ℕ) → hi ≤ lo → IsWeightIn key count lo hi Unknown
 no_addresses key count lo hi none a low high = absurd (omega (arith, none, low, high))
-
--- one more pair
-pub all_zip_push : {A B : Type 0} (R : A → B → Type 0) (xs : List A) (ys : List B) (x : A) (y : B) → AllZip R xs ys → R x y → AllZip R (xs ++ x ∷ []) (ys ++ y ∷ [])
-all_zip_push R [] [] x y all one = (one, tt)
-all_zip_push R [] (z ∷ ys) x y all one = absurd all
-all_zip_push R (z ∷ xs) [] x y all one = absurd all
-all_zip_push R (z ∷ xs) (w ∷ ys) x y all one = (all.0, all_zip_push R xs ys x y all.1 one)

@@ -8,6 +8,7 @@ use Rattle.std.specs.Cmp.{nat_cmp_is}
 use Rattle.std.specs.declared.cmp.Ordering.TheVariants.{Less, Equal, Greater}
 use Rattle.std.proofs.lemmas.Bool.{eq-eqb, ne_eqb, cases_eq, cases_lt}
 use Rattle.std.proofs.lemmas.Bool.{le-leb, lt-leb}
+use Rattle.list_lemmas.proofs.Each.{all_push}
 use Rattle.refusal.specs.declared.kind.Kind.TheVariants.{BadLine, TooManyBlocks, BlockOrder, BlockEmpty, BlockOverlap, TooManyEdges, EdgeEnd, EdgeTwice, BadBound}
 use Rattle.refusal.specs.Place.{first_cause}
 use Rattle.block_model.specs.declared.parts.Block.{Block}
@@ -78,10 +79,6 @@ any_push p (y ∷ xs) x = ap (λ (v : Bool). p y || v) (any_push p xs x) ∙ swa
     swap_or true false c = refl
     swap_or false true c = refl
     swap_or false false c = refl
-
-all_push : {A : Type 0} (P : A → Type 0) (xs : List A) (x : A) → AllByRecursion P xs → P x → AllByRecursion P (xs ++ x ∷ [])
-all_push P [] x all one = (one, tt)
-all_push P (y ∷ xs) x all one = (all.0, all_push P xs x all.1 one)
 
 length_push : {A : Type 0} (xs : List A) (x : A) → length (xs ++ x ∷ []) ≡ length xs + 1
 length_push [] x = refl

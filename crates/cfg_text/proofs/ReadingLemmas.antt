@@ -1,19 +1,16 @@
 -- What reading a line leaves to read.
-use Rattle.std.proofs.Common.{◌≡◌, ℕ, suc, ◌<◌, ◌≤◌, ◌+◌, ◌^◌, Bool, true, false, List, [], ◌∷◌, ◌++◌, length, map, Option, Some, None, refl, arith, sym, ◌∙◌, ap, subst, append_assoc}
-use Rattle.std.specs.List.{enumerate_from, flat_map}
-use Rattle.std.specs.Prelude.{◌==◌, is_some, filter, Result, Ok, Err}
-use Rattle.std.proofs.lemmas.Bool.{lt-ltb}
-use Rattle.std.proofs.lemmas.List.{append-nil, map-append, length-append}
+use Rattle.std.proofs.Common.{◌≡◌, ℕ, ◌<◌, ◌+◌, ◌^◌, Bool, true, false, List, [], ◌∷◌, ◌++◌, length, map, Option, Some, None, refl, arith, sym, ◌∙◌, ap, subst, append_assoc}
+use Rattle.std.specs.List.{enumerate_from}
+use Rattle.std.specs.Prelude.{◌==◌, is_some, Result, Ok, Err}
+use Rattle.std.proofs.lemmas.List.{append-nil, map-append}
 use Rattle.refusal.specs.declared.kind.Kind.TheVariants.{NoEndLine, BadLine, NoBlocks}
 use Rattle.refusal.specs.declared.place.Place.{Place}
 use Rattle.refusal.specs.declared.kind.Kind.{Kind}
 use Rattle.refusal.specs.declared.place.Stop.{Stop}
 use Rattle.refusal.specs.declared.place.Stop.TheVariants.{Refused, NoMemory}
 use Rattle.refusal.specs.Place.{first_bad, fails_at, JudgesUnlessNoMemory}
-use Rattle.text_model.specs.Fields.{is_filled}
-use Rattle.text_model.specs.Laws.{ended}
-use Rattle.text_model.specs.Lines.{lines_of, ended_lines_of}
-use Rattle.text_model.proofs.LawLemmas.{lines_join}
+use Rattle.text_model.specs.Lines.{lines_of}
+use Rattle.text_model.proofs.LawLemmas.{lines_fewer}
 use Rattle.text_scan.specs.declared.lines.Line.{Line}
 use Rattle.text_scan.specs.Lines.{as_numbered, numbered_lines}
 use Rattle.text_scan.proofs.LineLemmas.{first_of, no_rest, length-enumerated}
@@ -114,29 +111,6 @@ end_outside file at bad all done left kept none =
     (kept.judged ∙ rw (over, items-end file (at + 1) None), sym (kept.spelled ∙ rw (over, functions-end None) (append-nil done)))
 
 -- ---- the start
-
-length-ended : (lines : List (List ℕ)) → length lines ≤ length (flat_map ended lines)
-length-ended [] = omega arith
-length-ended (line ∷ lines) =
-    let more = length-ended lines in
-    omega (arith, more, length-append (ended line) (flat_map ended lines), length-append line (10 ∷ []))
-
-length-filled : (rest : List ℕ) → length (filter is_filled (rest ∷ [])) ≤ length rest
-length-filled [] = omega arith
-length-filled (b ∷ rest) = rw (lt-ltb 0 (length (b ∷ rest)) (omega arith)) (omega arith)
-
-lines_fewer : (text : List ℕ) → length (lines_of text) ≤ length text
-lines_fewer text =
-    let (rest, made) = lines_join text in
-    omega (
-      arith,
-      ap length made.joined,
-      ap length made.all,
-      length-append (flat_map ended (ended_lines_of text)) rest,
-      length-append (ended_lines_of text) (filter is_filled (rest ∷ [])),
-      length-ended (ended_lines_of text),
-      length-filled rest,
-    )
 
 pub all_left : (file : ℕ) (text : List ℕ) (left : List (ℕ × List ℕ)) → left ≡ numbered_lines text → length text < 2 ^ 63
     → IsLeft file (first_bad_of_text file text) (functions_of text) [] None 0 left

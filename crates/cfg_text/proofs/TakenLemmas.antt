@@ -8,7 +8,7 @@ use Rattle.std.specs.declared.ops.Bound.TheVariants.{Excluded, Unbounded}
 use Rattle.std.specs.Cmp.{nat_cmp_is}
 use Rattle.std.specs.declared.cmp.Ordering.TheVariants.{Less, Equal, Greater}
 use Rattle.std.specs.BTreeMap.{insert_entry}
-use Rattle.std.proofs.lemmas.Bool.{lt-ltb, le-ltb, cases_lt}
+use Rattle.std.proofs.lemmas.Bool.{lt-ltb, le-ltb, cases_lt, or_parts}
 use Rattle.cfg_text.specs.Taken.{meets, AreApart}
 
 -- the spans that begin before hi
@@ -89,10 +89,6 @@ meet_last lo hi from (span ∷ spans) (f ∷ front) last apart is =
 
 -- ---- one span more
 
-either_no : (a b : Bool) → (a || b) ≡ false → (a ≡ false) × (b ≡ false)
-either_no true b none = absurd (cc)
-either_no false b none = (refl, none)
-
 -- a span that another does not meet lies before or behind it
 lies : (lo hi : ℕ) (span : ℕ × ℕ) → meets lo hi span ≡ false → (span.1 ≤ lo) ⊎ (hi ≤ span.0)
 lies lo hi span free =
@@ -115,7 +111,7 @@ pub apart_with : (lo hi from : ℕ) (spans : List (ℕ × ℕ)) → AreApart fro
     → AreApart from (insert_entry nat_cmp spans lo hi)
 apart_with lo hi from [] apart past filled free = (past, filled, tt)
 apart_with lo hi from (span ∷ spans) apart past filled free =
-    let frees = either_no (meets lo hi span) (list_any (meets lo hi) spans) free in
+    let frees = or_parts (meets lo hi span) (list_any (meets lo hi) spans) free in
     elim (lies lo hi span frees.0) [
       | inl ahead ↦ rw (placed_later lo hi span spans apart.1 ahead) (apart.0, apart.1, apart_with lo hi span.1 spans apart.2 ahead filled frees.1)
       | inr behind ↦ rw (placed_first lo hi span spans filled behind) (past, filled, (behind, apart.1, apart.2))
@@ -131,7 +127,7 @@ pub any_with : (p : ℕ × ℕ → Bool) (lo hi from : ℕ) (spans : List (ℕ �
     → list_any p (insert_entry nat_cmp spans lo hi) ≡ (p (lo, hi) || list_any p spans)
 any_with p lo hi from [] apart filled free = refl
 any_with p lo hi from (span ∷ spans) apart filled free =
-    let frees = either_no (meets lo hi span) (list_any (meets lo hi) spans) free in
+    let frees = or_parts (meets lo hi span) (list_any (meets lo hi) spans) free in
     elim (lies lo hi span frees.0) [
       | inl ahead ↦
           let more = any_with p lo hi span.1 spans apart.2 filled frees.1 in

@@ -10,7 +10,7 @@ ghost use Rattle.cfg_text.specs.declared.draft.DraftStop.TheVariants.{NoMemory a
 use crate::fun::Fun;
 use crate::taken::Taken;
 use block_model::{Block, Bound, Edge};
-use io_edge::Items;
+use item_lists::Items;
 use refusal::{Kind, NoMemory};
 use std::alloc::{AllocError, AllocFailed, Global};
 use std::collections::BTreeSet;

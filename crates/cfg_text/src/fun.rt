@@ -1,5 +1,5 @@
 use block_model::{Block, Edge};
-use io_edge::Items;
+use item_lists::Items;
 
 /// A function: its blocks, numbered from 0, and the edges between them. Block 0 is the entry.
 ///

@@ -1,4 +1,5 @@
-use key_types::{Chain, NameId};
+use item_lists::Items;
+use key_types::NameId;
 
 /// A function, or a call that the compiler inlined, with code of its own.
 ///
@@ -19,5 +20,5 @@ pub struct Member {
     /// The discriminator of the call modulo 2^32, 0 for a function.
     pub disc: u32,
     /// The ranges of its code, each from its first address to the one behind its last.
-    pub pieces: Chain<(u64, u64)>,
+    pub pieces: Items<(u64, u64)>,
 }

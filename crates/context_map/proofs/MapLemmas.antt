@@ -3,6 +3,8 @@ use Rattle.std.proofs.Common.{◌≡◌, ℕ, zero, suc, ◌+◌, arith, Bool, t
 use Rattle.std.specs.Prelude.{slice_get, find, option_and_then, ◌==◌, if◌then◌else◌}
 use Rattle.std.specs.Option.{option_map, is_some}
 use Rattle.std.specs.List.{AllByRecursion, enumerate_from}
+use Rattle.std.proofs.lemmas.Option.{same_Some}
+use Rattle.list_lemmas.proofs.Tests.{by_test}
 use Rattle.address_spans.specs.declared.span.Span.{Span}
 use Rattle.address_spans.specs.Spans.{owner_at}
 use Rattle.key_types.specs.declared.ids.KeyId.{KeyId}
@@ -24,15 +26,12 @@ use Rattle.context_map.specs.Asked.{IsMapOver}
 use Rattle.context_map.specs.Maps.{is_nameless, ArePartsOf, IsMap, Shown, entrance_of, entry_of, place_by, name_if, wanted, wanted_over}
 use Rattle.context_map.proofs.PartsLemmas.{chainless, place-asked, place-left}
 
-inner : {X : Type 0} (x y : X) → Some x ≡ Some y → x ≡ y
-inner x y is = cc
-
 -- which place has a key, a factor and a function
 keyed : (p : Place) (f g : ℕ) (k : Key) → with_factor p f ≡ Some (k, g) → p ≡ has_key k
 keyed outside f g k is = absurd (cc)
 keyed nameless f g k is = absurd (cc)
 keyed no_line f g k is = absurd (cc)
-keyed (has_key key) f g k is = ap has_key (ap (λ (q : Key × ℕ). q.0) (inner (key, f) (k, g) is))
+keyed (has_key key) f g k is = ap has_key (ap (λ (q : Key × ℕ). q.0) (same_Some (key, f) (k, g) is))
 
 -- a chain is empty exactly where there is no function
 no_first : (xs : List (ℕ × Member)) → option_map (λ (m : ℕ × Member). m.0) (slice_get xs 0) ≡ None → xs ≡ []
@@ -140,11 +139,6 @@ entered a member = by member.pieces member.name
     by [] name = same (0 == a) None
     by (piece ∷ pieces) name = refl
 
--- a member that is found with its number stands there
-by_test : {P : Type 0} (t : Bool) → (t ≡ true → P) → (t ≡ false → P) → P
-by_test true when unless = when refl
-by_test false when unless = unless refl
-
 pub record IsAt (k : ℕ) (members : List Member) (q : ℕ × Member) : Type 0 where
   pub place : ℕ
   pub number : q.0 ≡ k + place
@@ -155,7 +149,7 @@ found-at p k [] q is = absurd (cc)
 found-at p k (m ∷ members) q is = by_test (p (k, m))
     (λ hit.
     let one : find p (enumerate_from k (m ∷ members)) ≡ Some (k, m) = rw hit refl in
-    let same = inner (k, m) q (sym one ∙ is) in record {
+    let same = same_Some (k, m) q (sym one ∙ is) in record {
       place = 0;
       number = ap (λ (x : ℕ × Member). x.0) (sym same) ∙ let e : k ≡ k + 0 = omega arith in e;
       member = ap (λ (x : ℕ × Member). Some x.1) same;

@@ -1,5 +1,5 @@
 -- The parents of members, and the paths that they lead along.
-use Rattle.std.proofs.Common.{◌≡◌, ℕ, zero, suc, ◌+◌, ◌-◌, ◌<◌, ◌⊎◌, inl, inr, Bool, true, false, List, [], ◌∷◌, ◌++◌, Option, None, Some, refl, sym, ap, ◌∙◌, arith, subst, length, take, get_or, map, add-one, length-append}
+use Rattle.std.proofs.Common.{◌≡◌, ℕ, suc, ◌+◌, ◌-◌, ◌<◌, ◌⊎◌, inl, inr, Bool, true, false, List, [], ◌∷◌, ◌++◌, Option, None, Some, refl, sym, ap, ◌∙◌, arith, subst, length, take, get_or, map, add-one, length-append}
 use Rattle.std.specs.Prelude.{slice_get, nat_lt}
 use Rattle.std.proofs.Math.Seq.{take-suc, take-length, get_or-append_seam}
 use Rattle.std.proofs.Math.ListN.{get_or-append, get_or-map}
@@ -7,6 +7,7 @@ use Rattle.std.proofs.lemmas.Bool.Decides.{nat_tests}
 use Rattle.std.proofs.lemmas.Option.{slice_get-get_or}
 use Rattle.std.proofs.lemmas.List.{get_or-take, take-take, take-append-le, length-take, map-append, take-map, length-map}
 use Rattle.std.proofs.lemmas.List.FromFn.{length-enumerate_from, get_or-enumerate_from}
+use Rattle.key_types.proofs.SearchLemmas.{get_or-within}
 use Rattle.chain_model.specs.declared.member.Member.{Member}
 use Rattle.chain_model.specs.Chains.{numbered, path_from, path}
 use Rattle.context_map.specs.Paths.{nobody, member_at, numbered_at, parent_at, path_to_parent, IsBefore, AreParentsOf, AreParents}
@@ -160,12 +161,6 @@ climb-end members parents n all within is = all.way n within ∙ ap (λ o. path_
 
 pub climb-before : (members : List Member) (parents : List (Option ℕ)) (n p : ℕ) → AreParents members parents → n < length members → parent_at parents n ≡ Some p → p < n
 climb-before members parents n p all within is = subst (λ (o : Option ℕ). IsBefore o n) is (all.before n within)
-
--- what is read at a place within a list is no matter of what stands past its end
-pub get_or-within : {X : Type 0} (xs : List X) (k : ℕ) (d e : X) → k < length xs → get_or xs k d ≡ get_or xs k e
-get_or-within [] k d e within = absurd (omega (arith, within))
-get_or-within (x ∷ xs) zero d e within = refl
-get_or-within (x ∷ xs) (suc k) d e within = get_or-within xs k d e (omega (arith, within))
 
 pub member-is : (members : List Member) (n : ℕ) (m : Member) → n < length members → m ≡ get_or members n m → m ≡ member_at members n
 member-is members n m within is = is ∙ get_or-within members n m nobody within

@@ -1,5 +1,5 @@
 -- Segments of parts, put one behind the other.
-use Rattle.std.proofs.Common.{◌≡◌, ℕ, ◌<◌, ◌≤◌, Bool, true, false, List, [], ◌∷◌, ◌++◌, Option, None, Some, refl, sym, ap, ◌∙◌, arith, length, subst, inl, inr, Result, Ok, Err, OnOk}
+use Rattle.std.proofs.Common.{◌≡◌, ℕ, ◌<◌, ◌≤◌, Bool, true, false, List, [], ◌∷◌, ◌++◌, Option, None, Some, refl, sym, ap, ◌∙◌, arith, length, subst, inl, inr}
 use Rattle.std.specs.Prelude.{slice_get, ◌==◌, if◌then◌else◌}
 use Rattle.std.specs.Option.{option_map}
 use Rattle.std.proofs.lemmas.Bool.Decides.{nat_tests}
@@ -130,7 +130,3 @@ SoFar-all answer base named first hi most left lo row keys more all segments lon
     let cut = subst (λ (cuts : List ℕ). IsCutUp answer at hi cuts) none so_far.cut in
     Extends-then first lo hi (show answer base named) (shown base (Some named) (option_map line_and_disc row)) keys more all segments longer whole so_far.up (omega (arith, so_far.reached, cut.0)) so_far.extended
     (shows answer base named lo hi row (same_up answer lo at hi row so_far.same so_far.here cut.1)) part
-
-pub on_ok : {T E P Q : Type 0} (r : Result T E) → (P → Q) → OnOk r P → OnOk r Q
-on_ok (Ok x) f holds = f holds
-on_ok (Err e) f holds = holds

@@ -7,7 +7,8 @@ ghost use Rattle.context_map.specs.Parts.{factor_of, line_and_disc};
 use crate::named::Named;
 use crate::offset::{kept, line_offset};
 use crate::rules::Rules;
-use key_types::{Chain, Key, KeyId, Keys, split};
+use item_lists::Items;
+use key_types::{Key, KeyId, Keys, split};
 use refusal::NoMemory;
 use row_table::RowData;
 use std::alloc::Global;
@@ -36,7 +37,7 @@ pub(crate) fn key_of(
     }
     keys.add(Key {
         root: named.root,
-        calls: Chain::new(Vec::from_slice(alloc, &named.calls)?),
+        calls: Items::new(Vec::from_slice(alloc, &named.calls)?),
         offset: line_offset(named.start, u64::from(row.line)),
         disc: kept(rules.base, row.disc),
     })

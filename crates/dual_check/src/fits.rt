@@ -4,7 +4,7 @@ ghost use Rattle.flow_model.specs.Circulation.{IsAtMost, IsWithin, cost_on};
 ghost use Rattle.flow_model.specs.Prices.{FitsOn, IsBelow};
 ghost use Rattle.flow_network.specs.Flow.{price_of};
 
-use flow_network::{Arc, Prices};
+use flow_network::{Arc, Prices, is_below};
 
 /// Whether the way along the arc raises the price by at most what one unit more costs there, where
 /// one more may pass, and lowers it by at most what one unit less costs, where one less may pass.
@@ -52,16 +52,6 @@ fn cost_of_less(arc: &Arc, count: u64) -> i128
         i128::from(arc.down)
     } else {
         -i128::from(arc.up)
-    }
-}
-
-/// Whether a count is below an upper bound, or there is none.
-fn is_below(upper: Option<u64>, count: u64) -> bool
-    ensures { IsTrue result ↔ IsBelow upper count }
-{
-    match upper {
-        Some(upper) => count < upper,
-        None => true,
     }
 }
 

@@ -1,7 +1,10 @@
 ghost use Rattle.std.specs.Prelude.{◌≡◌};
+ghost use Rattle.dwarf_forms.specs.Meaning.{meaning_of};
 ghost use Rattle.dwarf_strings.specs.Meaning.{bases_of, sections_of};
 ghost use Rattle.tree_model.specs.Bases.{address_at as address_told, attribute as attribute_told};
+ghost use Rattle.tree_model.specs.Origin.{number_of as number_told};
 
+use dwarf_forms::Value;
 use dwarf_info::{Attributes, Found};
 use dwarf_strings::{Bases, Texts, address};
 use refusal::Place;
@@ -11,6 +14,16 @@ pub fn attribute<'a>(found: &Attributes<'a, '_>, name: u64) -> Option<Found<'a>>
     ensures { result ≡ attribute_told name found.now }
 {
     found.of_name(name)
+}
+
+/// The number that a value is, and 0 where it is none.
+pub fn number_of(value: Value<'_>) -> u64
+    ensures { result ≡ number_told (meaning_of value.entry) }
+{
+    match value {
+        Value::Const(number) => number,
+        _ => 0,
+    }
 }
 
 /// The address that an attribute means, by the sections and bases of its unit.

@@ -1,13 +1,12 @@
 // The attributes on a way that count.
 ghost use Rattle.std.specs.Prelude.{◌≡◌, ◌∷◌, [], List};
 ghost use Rattle.unit_model.specs.Entries.{Entry as entry_told};
-ghost use Rattle.dwarf_forms.specs.Meaning.{meaning_of};
 ghost use Rattle.tree_model.specs.Way.{way_from};
 ghost use Rattle.std.specs.Option.{option_map};
-ghost use Rattle.tree_model.specs.Origin.{first_on, line_on, naming, number_of as number_told};
+ghost use Rattle.tree_model.specs.Origin.{first_on, line_on, naming};
 ghost use Rattle.entry_facts.specs.Meaning.{AreFound, FindsOn, held_of, info_of};
 
-use crate::attributes::attribute;
+use crate::attributes::{attribute, number_of};
 use crate::info::Info;
 use crate::way::next_on_way;
 use dwarf_forms::Value;
@@ -120,15 +119,5 @@ fn held_in<'a>(entry: &Entry<'a, '_>, name: u64) -> Option<Held<'a>>
             value: found.value,
         }),
         None => None,
-    }
-}
-
-/// The number that a value is.
-fn number_of(value: Value<'_>) -> u64
-    ensures { result ≡ number_told (meaning_of value.entry) }
-{
-    match value {
-        Value::Const(number) => number,
-        _ => 0,
     }
 }

@@ -24,7 +24,7 @@ mod root;
 mod spelled;
 mod way;
 
-pub use attributes::{address_at, attribute};
+pub use attributes::{address_at, attribute, number_of};
 pub use bases::{base_address, bases_of, section_place};
 pub use in_unit::InUnit;
 pub use info::Info;

@@ -8,7 +8,7 @@ ghost use Rattle.path_search.specs.Search.{is_reached};
 ghost use Rattle.flow_balance.specs.Answer.{IsEveryOther, TellPrices, TellsReached};
 
 use flow_network::{Flow, Net, Nodes, Prices};
-use io_edge::Items;
+use item_lists::Items;
 use reached_sides::Marks;
 use refusal::NoMemory;
 use std::alloc::Global;

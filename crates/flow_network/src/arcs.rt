@@ -1,8 +1,9 @@
 // The arcs of a function's network, in their order.
-ghost use Rattle.std.specs.Prelude.{◌≡◌, ◌++◌, ◌∷◌, ◌<◌, ◌≤◌, [], length, IfOk, OnOk, if◌then◌else◌};
+ghost use Rattle.std.specs.Prelude.{◌≡◌, ◌↔◌, IsTrue, ◌++◌, ◌∷◌, ◌<◌, ◌≤◌, [], length, IfOk, OnOk, if◌then◌else◌};
 ghost use Rattle.std.specs.List.{All};
 ghost use Rattle.block_model.specs.Limits.{max_blocks};
 ghost use Rattle.flow_model.specs.Network as model;
+ghost use Rattle.flow_model.specs.Prices.{IsBelow};
 ghost use Rattle.flow_model.specs.Sound.{JoinsBlocks};
 
 use crate::sides::{ROOT, in_side, out_side};
@@ -33,6 +34,16 @@ pub(crate) fn arcs_by(
     push_edges(&mut arcs, edges, edge_weights)?;
     push_returns(&mut arcs, blocks)?;
     Ok(arcs)
+}
+
+/// Whether a count is below an upper bound, or there is none.
+pub fn is_below(upper: Option<u64>, count: u64) -> bool
+    ensures { IsTrue result ↔ IsBelow upper count }
+{
+    match upper {
+        Some(upper) => count < upper,
+        None => true,
+    }
 }
 
 /// An arc that costs nothing and lets any count from `lower` on through.

@@ -2,7 +2,7 @@
 ghost use Rattle.std.specs.Prelude.{◌≡◌, pos, slice_index_or};
 ghost use Rattle.flow_network.specs.Flow.{holds, price_of};
 
-use io_edge::Items;
+use item_lists::Items;
 
 /// How often each block ran and each edge was taken, in the order of the blocks and the edges.
 #[derive(Debug, Drop)]

@@ -18,7 +18,7 @@ mod rows;
 mod sides;
 mod units;
 
-pub use arcs::free_arc;
+pub use arcs::{free_arc, is_below};
 pub use costs::cost;
 pub use cut::cut_sums;
 pub use flow::{Flow, Nodes, Prices, Solved};

@@ -49,8 +49,9 @@ fn rise_on(arc: &Arc, prices: &[i64]) -> i64
     prices[arc.head as usize] - prices[arc.tail as usize]
 }
 
-/// A count set right by at most one unit: it is raised where it is below the lower bound, and
-/// lowered where it is above the upper bound or its last unit costs more than the price rises.
+/// A count set right by at most one unit: it is raised where it is below the lower bound. It is
+/// lowered where it is above the upper bound, and also above lower bound and weight where its last
+/// unit costs more than the price rises.
 fn set_right(arc: &Arc, prices: &[i64], count: u64) -> u64
     requires starts { arc.now.tail < length prices.now }
     requires leads { arc.now.head < length prices.now }

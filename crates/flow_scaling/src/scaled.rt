@@ -17,8 +17,11 @@ use std::alloc::Global;
 /// The ledger is told of each augmentation that led to it, `32 * (blocks + edges + 1)` at most for
 /// each binary digit of the greatest count to start from, and so many once more; also where memory
 /// is wanting. A count to start from is a weight, or 0 on the arcs of calls and returns, moved into
-/// the arc's bounds. They have to be below 2^36, which `fits` tells. The work of one augmentation
-/// is not bounded by it.
+/// the arc's bounds. They have to be below 2^36, which `fits` tells, and the ledger has to begin at
+/// 2^63 at most. The work of one augmentation is not bounded by it.
+///
+/// # Errors
+/// `NoMemory`.
 ///
 /// Source: "Network Flows", 3.3, 9.7 and 10.2.
 pub fn solve_scaled<L: Ledger>(

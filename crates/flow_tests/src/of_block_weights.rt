@@ -2,7 +2,7 @@ ghost use Rattle.std.specs.Prelude.{◌≡◌};
 
 use block_weights::weights;
 use cfg_text::{Block, Bound, Fun, Weight};
-use io_edge::Items;
+use item_lists::Items;
 use key_types::{KeyId, Seg};
 use std::test;
 

@@ -6,7 +6,7 @@ use crate::of_flow_scaling::scaled_cost;
 use cfg_text::{Block, Bound, Edge, Fun, Weight};
 use flow_network::{Net, Solved, cost, net_of};
 use flow_solver::solve;
-use io_edge::Items;
+use item_lists::Items;
 use refusal::NoMemory;
 use std::alloc::Global;
 

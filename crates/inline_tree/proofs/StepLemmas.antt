@@ -4,6 +4,7 @@ use Rattle.std.specs.List.{AllZip}
 use Rattle.refusal.specs.declared.place.Place.{Place}
 use Rattle.std.specs.Result.{IsErrAnd}
 use Rattle.std.proofs.lemmas.Bool.{ltb-false, ne_eqb}
+use Rattle.list_lemmas.proofs.Each.{all_zip_push}
 use Rattle.refusal.specs.declared.place.Stop.{Stop}
 use Rattle.refusal.specs.declared.place.Stop.TheVariants.{Refused, NoMemory}
 use Rattle.refusal.specs.declared.kind.Kind.TheVariants.{TooManyRanges}
@@ -32,12 +33,6 @@ AllZip-mono R S f [] (y ∷ ys) h = absurd h
 AllZip-mono R S f (x ∷ xs) [] h = absurd h
 AllZip-mono R S f (x ∷ xs) (y ∷ ys) h = (f x y h.0, AllZip-mono R S f xs ys h.1)
 
-pub AllZip-push : {A B : Type 0} (R : A → B → Type 0) (xs : List A) (ys : List B) (x : A) (y : B) → AllZip R xs ys → R x y → AllZip R (xs ++ x ∷ []) (ys ++ y ∷ [])
-AllZip-push R [] [] x y h k = (k, tt)
-AllZip-push R [] (b ∷ ys) x y h k = absurd h
-AllZip-push R (a ∷ xs) [] x y h k = absurd h
-AllZip-push R (a ∷ xs) (b ∷ ys) x y h k = (h.0, AllZip-push R xs ys x y h.1 k)
-
 pub AllZip-append : {A B : Type 0} (R : A → B → Type 0) (xs : List A) (ys : List B) (us : List A) (vs : List B) → AllZip R xs ys → AllZip R us vs → AllZip R (xs ++ us) (ys ++ vs)
 AllZip-append R [] [] us vs h k = k
 AllZip-append R [] (b ∷ ys) us vs h k = absurd h
@@ -56,7 +51,7 @@ AreTold-member : (names : List (List ℕ)) (number : ℕ) (told : Told) (call : 
 AreTold-member names number told call [] [] h k = tt
 AreTold-member names number told call [] (m ∷ mades) h k = absurd h
 AreTold-member names number told call (t ∷ tolds) [] h k = absurd h
-AreTold-member names zero told call (t ∷ tolds) (m ∷ mades) h k = (AllZip-push (IsTold names) t m told call h.0 k, h.1)
+AreTold-member names zero told call (t ∷ tolds) (m ∷ mades) h k = (all_zip_push (IsTold names) t m told call h.0 k, h.1)
 AreTold-member names (suc number) told call (t ∷ tolds) (m ∷ mades) h k = (h.0, AreTold-member names number told call tolds mades h.1 k)
 
 AreTold-call : (names : List (List ℕ)) (number : Option ℕ) (told : Told) (call : Member) (tolds : List (List Told)) (mades : List (List Member))
@@ -105,7 +100,7 @@ IsSoFar-function : (names : List (List ℕ)) (told : SoFar Told) (made : SoFar M
     → IsSoFar names told made → IsTold names function member
     → IsSoFar names (behind_function depth function count told) (behind_function depth member count made)
 IsSoFar-function names told made depth function member count is one = record {
-  functions_are = AllZip-push (AreTold names) told.functions made.functions (function ∷ []) (member ∷ []) is.functions_are (one, tt);
+  functions_are = all_zip_push (AreTold names) told.functions made.functions (function ∷ []) (member ∷ []) is.functions_are (one, tt);
   pieces_are = ap (λ n. n + count) is.pieces_are;
   frames_are = ap (λ n. frames_to depth (frame_of_function n) made.frames) (AllZip-length (AreTold names) told.functions made.functions is.functions_are)
       ∙ ap (λ fs. frames_to depth (frame_of_function (length told.functions)) fs) is.frames_are;

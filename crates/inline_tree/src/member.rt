@@ -1,25 +1,12 @@
 // An entry as a member.
 ghost use Rattle.std.specs.Prelude.{◌≡◌};
-ghost use Rattle.dwarf_forms.specs.Meaning.{meaning_of};
-ghost use Rattle.tree_model.specs.Origin.{number_of as number_told};
 ghost use Rattle.tree_model.specs.Members.{number_in as number_in_told};
 ghost use Rattle.inline_tree.specs.Told.{call_made, function_made};
 
 use chain_model::Member;
-use dwarf_forms::Value;
 use dwarf_info::{DW_AT_CALL_LINE, DW_AT_GNU_DISCRIMINATOR, Entry};
-use entry_facts::{Origin, attribute};
-use key_types::Chain;
-
-/// The number that a value is.
-fn number_of(value: Value<'_>) -> u64
-    ensures { result ≡ number_told (meaning_of value.entry) }
-{
-    match value {
-        Value::Const(number) => number,
-        _ => 0,
-    }
-}
+use entry_facts::{Origin, attribute, number_of};
+use item_lists::Items;
 
 /// The number that an attribute of an entry is, and 0 without the attribute.
 fn number_in(name: u64, entry: &Entry<'_, '_>) -> u64
@@ -42,7 +29,7 @@ pub(crate) fn function_of(entry: &Entry<'_, '_>, origin: Origin, pieces: Vec<(u6
         start: origin.line,
         line: 0,
         disc: 0,
-        pieces: Chain::new(pieces),
+        pieces: Items::new(pieces),
     }
 }
 
@@ -62,6 +49,6 @@ pub(crate) fn call_of(
         start: origin.line,
         line: number_in(DW_AT_CALL_LINE, entry),
         disc: (number_in(DW_AT_GNU_DISCRIMINATOR, entry) % (1 << 32)) as u32,
-        pieces: Chain::new(pieces),
+        pieces: Items::new(pieces),
     }
 }

@@ -38,7 +38,8 @@ pub struct InlineTree<'a> {
 pub struct Gathered<'a> {
     /// The names of functions and inlined calls, lent from the file.
     pub names: Names<'a>,
-    /// The functions, each with the calls inlined into it.
+    /// The functions so far, each with the calls inlined into it, and the entries that are open at
+    /// the last one read.
     pub members: SoFar,
 }
 

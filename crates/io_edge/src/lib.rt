@@ -4,12 +4,11 @@
 //! The program reads its files through `Inputs` and writes its output through `Sink`, by
 //! `read_whole` and `write_all`. `FileInputs` and `StdSink` are the files and writers of the
 //! system. `MemoryInputs` and `MemorySink` are their like in memory, which tell their bytes and
-//! fail at chosen calls. `Items` is a list in a field of a public type.
+//! fail at chosen calls.
 #![tactic(auto)]
 
 mod file_inputs;
 mod inputs;
-mod items;
 mod memory_inputs;
 mod memory_sink;
 mod sink;
@@ -18,7 +17,6 @@ mod whole;
 
 pub use file_inputs::FileInputs;
 pub use inputs::{Inputs, OpenFailed, ReadFailed};
-pub use items::Items;
 pub use memory_inputs::{Fail, MemoryInputs, StoredFile};
 pub use memory_sink::MemorySink;
 pub use sink::{Sink, WriteFailed};

@@ -5,7 +5,7 @@ ghost use Rattle.io_edge.specs.Inputs.{Opens};
 ghost use Rattle.io_edge.specs.MemoryInputs.{given_of, is_named, is_planned, rest_of, stored, GoesByPlan};
 
 use crate::inputs::{Inputs, OpenFailed, ReadFailed};
-use crate::items::Items;
+use item_lists::Items;
 use std::marker::Model;
 
 /// A file of a `MemoryInputs`.

@@ -7,7 +7,7 @@ use Rattle.std.specs.Bool.{Decides}
 use Rattle.std.specs.List.{list_any, IsDistinct, AllByRecursion}
 use Rattle.std.proofs.lemmas.Map.Keys.{any_passes_from_place, IsDistinct-cons, IsDistinct-head, IsDistinct-tail}
 use Rattle.std.proofs.lemmas.Map.Made.{AllPairs-from_IsDistinct}
-use Rattle.std.proofs.lemmas.Option.{slice_get_within, get_or_from_slice_get, slice_get-get_or}
+use Rattle.std.proofs.lemmas.Option.{slice_get_within, get_or_from_slice_get, slice_get-get_or, same_Some}
 use Rattle.indexmap.specs.IndexSet.{insert_key}
 use Rattle.indexmap.proofs.CallerLemmas.{Contains-list_any}
 use Rattle.key_types.specs.Numbers.{Adds, IsNumbered, OneNumberEach}
@@ -67,13 +67,10 @@ apart-at items m n x y apart at_m at_n before =
     λ equal. apart m n x before (slice_get_within items n y at_n)
     (get_or_from_slice_get items m x x at_m ∙ equal ∙ sym (get_or_from_slice_get items n y x at_n))
 
-Some-inner : {T : Type 0} (x y : T) → Some x ≡ Some y → x ≡ y
-Some-inner x y is = cc
-
 -- the same number, exactly where the items are equal
 pub one_number_each : {T : Type 0} → OneNumberEach T
 one_number_each {T} items m n x y apart at_m at_n = (
-  λ (same : m ≡ n). Some-inner x y (sym at_m ∙ ap (slice_get items) same ∙ at_n),
+  λ (same : m ≡ n). same_Some x y (sym at_m ∙ ap (slice_get items) same ∙ at_n),
   λ (equal : x ≡ y).
       let not_before : ¬ (m < n) = λ before. apart-at items m n x y apart at_m at_n before equal in
       let not_behind : ¬ (n < m) = λ behind. apart-at items n m y x apart at_n at_m behind (sym equal) in

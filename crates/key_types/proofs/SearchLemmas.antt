@@ -1,16 +1,13 @@
 -- The segment of an address, found by binary search.
-use Rattle.std.proofs.Common.{◌≡◌, ℕ, zero, suc, ◌<◌, ◌≤◌, Bool, true, false, List, [], ◌∷◌, None, Some, refl, sym, ap, ◌∙◌, arith, length, get_or, map, leb, leb-true, leb-false}
+use Rattle.std.proofs.Common.{◌≡◌, ℕ, zero, suc, ◌<◌, ◌≤◌, true, false, List, [], ◌∷◌, None, Some, refl, sym, ap, ◌∙◌, arith, length, get_or, map, leb, leb-true, leb-false}
 use Rattle.std.specs.Option.{option_map}
 use Rattle.std.specs.List.Sorted.{IsNonDecreasingBy, IsPartitionPoint}
+use Rattle.list_lemmas.proofs.Tests.{by_test}
 use Rattle.address_spans.specs.declared.span.Span.{Span}
 use Rattle.address_spans.specs.Spans.{holds, owner_at}
 use Rattle.address_spans.proofs.SearchLemmas.{ends-rise, IsFirstBehind, search-hit, search-miss, search-none}
 use Rattle.key_types.specs.declared.places.Seg.{Seg}
 use Rattle.key_types.specs.Segments.{span_of, AreSegments, key_told}
-
-by_test : {P : Type 0} (t : Bool) → (t ≡ true → P) → (t ≡ false → P) → P
-by_test true when unless = when refl
-by_test false when unless = unless refl
 
 -- the key told is the owner of the span
 pub key-owner : (segments : List Seg) (a : ℕ) → key_told segments a ≡ option_map (λ n. record { 0 = n }) (owner_at (map span_of segments) a)
@@ -28,7 +25,7 @@ get_or-spans [] k d = refl
 get_or-spans (s ∷ segments) zero d = refl
 get_or-spans (s ∷ segments) (suc k) d = get_or-spans segments k d
 
-get_or-within : {X : Type 0} (xs : List X) (k : ℕ) (d e : X) → k < length xs → get_or xs k d ≡ get_or xs k e
+pub get_or-within : {X : Type 0} (xs : List X) (k : ℕ) (d e : X) → k < length xs → get_or xs k d ≡ get_or xs k e
 get_or-within [] k d e within = absurd (omega (arith, within))
 get_or-within (x ∷ xs) zero d e within = refl
 get_or-within (x ∷ xs) (suc k) d e within = get_or-within xs k d e (omega (arith, within))

@@ -1,9 +1,10 @@
 -- Segments put one behind the other, and what they tell.
-use Rattle.std.proofs.Common.{◌≡◌, ℕ, ◌<◌, ◌≤◌, Bool, true, false, List, [], ◌∷◌, ◌++◌, Option, None, Some, refl, sym, ap, ◌∙◌, arith, map, subst, inl, inr}
+use Rattle.std.proofs.Common.{◌≡◌, ℕ, ◌<◌, ◌≤◌, List, [], ◌∷◌, ◌++◌, Option, None, Some, refl, sym, ap, ◌∙◌, arith, map, subst, inl, inr}
 use Rattle.std.specs.Prelude.{slice_get, option_and_then, IsSome}
 use Rattle.std.specs.Option.{option_map, option_or}
 use Rattle.std.specs.List.{AllByRecursion}
 use Rattle.std.proofs.lemmas.List.Folds.{find-append}
+use Rattle.list_lemmas.proofs.Tests.{by_test}
 use Rattle.address_spans.specs.declared.span.Span.{Span}
 use Rattle.address_spans.specs.Spans.{holds, AreBetween}
 use Rattle.address_spans.proofs.OverlayLemmas.{either}
@@ -12,10 +13,6 @@ use Rattle.key_types.specs.declared.ids.KeyId.{KeyId}
 use Rattle.key_types.specs.declared.key.Key.{Key}
 use Rattle.key_types.specs.declared.places.Seg.{Seg}
 use Rattle.key_types.specs.Segments.{IsGiven, Kept, TellBelow, span_of, segment_at, key_told, key_and_factor, told}
-
-by_test : {P : Type 0} (t : Bool) → (t ≡ true → P) → (t ≡ false → P) → P
-by_test true when unless = when refl
-by_test false when unless = unless refl
 
 pub TellBelow-start : (keys : List Key) (wanted : ℕ → Option (Key × ℕ)) → TellBelow 0 keys wanted []
 TellBelow-start keys wanted = record { ascend = omega arith; given = tt; tell = λ more kept a below. absurd (omega (arith, below)) }

@@ -1,6 +1,6 @@
 // A place in a program, as a profile names it.
-use crate::chain::Chain;
 use crate::ids::NameId;
+use item_lists::Items;
 
 /// A call that the compiler inlined.
 #[derive(Clone, Copy, Debug, PartialEq, Eq, Hash)]
@@ -19,7 +19,7 @@ pub struct Key {
     /// The function that was compiled.
     pub root: NameId,
     /// The inlined calls that lead to the place, the outermost first.
-    pub calls: Chain<Frame>,
+    pub calls: Items<Frame>,
     /// The line, counted from the first line of the innermost function, modulo 65,536.
     pub offset: u16,
     /// The discriminator of the line.

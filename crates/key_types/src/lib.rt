@@ -8,7 +8,6 @@
 //! have one key and one factor: `key_at` finds that of an address by binary search.
 #![tactic(auto)]
 
-mod chain;
 mod discriminator;
 mod ids;
 mod key;
@@ -20,7 +19,6 @@ mod places;
 mod search;
 mod split_laws;
 
-pub use chain::Chain;
 pub use discriminator::split;
 pub use ids::{KeyId, NameId};
 pub use key::{Frame, Key};

@@ -7,8 +7,8 @@ ghost use Rattle.path_search.specs.Search.{ComeNearer, IsLooking, LedAgainst, Le
 ghost use Rattle.path_search.specs.Ways.{MarksAtMost};
 
 use crate::offer::offer;
-use crate::steps::{cost_of_less, cost_of_more, is_below, reduced};
-use flow_network::Arc;
+use crate::steps::{cost_of_less, cost_of_more, reduced};
+use flow_network::{Arc, is_below};
 use reached_sides::{Frontier, Marks, Way};
 use refusal::NoMemory;
 

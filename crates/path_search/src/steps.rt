@@ -1,22 +1,12 @@
 // What a step costs.
 ghost use Rattle.std.specs.Prelude.{◌≡◌, ◌<◌, ◌↔◌, ◌^◌, ◌+ℤ◌, ◌≤ℤ◌, pos, IsTrue, length};
-ghost use Rattle.flow_model.specs.Prices.{FitsOn, IsBelow};
+ghost use Rattle.flow_model.specs.Prices.{FitsOn};
 ghost use Rattle.flow_network.specs.Cost.{IsCheap};
 ghost use Rattle.path_search.specs.Ground.{AreSmall, IsSmallCost, price_at};
 ghost use Rattle.path_search.specs.Tight.{IsTightAlong};
 ghost use Rattle.residual_model.specs.Residual as model;
 
-use flow_network::Arc;
-
-/// Whether a count is below an upper bound, or there is none.
-pub(crate) fn is_below(upper: Option<u64>, count: u64) -> bool
-    ensures { IsTrue result ↔ IsBelow upper count }
-{
-    match upper {
-        Some(upper) => count < upper,
-        None => true,
-    }
-}
+use flow_network::{Arc, is_below};
 
 /// What one unit more costs on an arc.
 pub(crate) fn cost_of_more(arc: &Arc, count: u64) -> i64

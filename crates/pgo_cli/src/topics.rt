@@ -176,6 +176,11 @@ totals are summed anew.
 
 Whether OUT was made of this program is not judged.
 
+Do not give this profile to clang. It makes programs slower than the plain one
+does: a program of sorts took 37% more branches than without any profile, since
+blocks before and behind a loop stand in the loop's lines. For clang take what
+`pgo profile` writes, with `pgo-cold` behind it.
+
 --base  where it was given to `pgo build`: for programs of clang and rustc
 
 example:

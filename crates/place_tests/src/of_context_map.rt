@@ -1,7 +1,8 @@
 use chain_model::Member;
 use context_map::{Map, make};
 use elf_sections::{Elf, read};
-use key_types::{Chain, Frame, Keys, NameId, Places, Seg, Where};
+use item_lists::Items;
+use key_types::{Frame, Keys, NameId, Places, Seg, Where};
 use line_model::Row;
 use refusal::{NoMemory, Stop};
 use row_table::RowTable;
@@ -39,7 +40,7 @@ fn member(
         start,
         line,
         disc: 0,
-        pieces: Chain::new(Vec::from_slice(alloc, pieces)?),
+        pieces: Items::new(Vec::from_slice(alloc, pieces)?),
     })
 }
 

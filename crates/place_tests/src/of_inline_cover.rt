@@ -1,6 +1,6 @@
 use address_spans::Span;
 use chain_model::Member;
-use key_types::Chain;
+use item_lists::Items;
 use refusal::NoMemory;
 use span_cover::cover;
 use std::alloc::Global;
@@ -15,7 +15,7 @@ fn member(alloc: Global, depth: u8, pieces: &[(u64, u64)]) -> Result<Member, NoM
         start: 0,
         line: 0,
         disc: 0,
-        pieces: Chain::new(Vec::from_slice(alloc, pieces)?),
+        pieces: Items::new(Vec::from_slice(alloc, pieces)?),
     })
 }
 

@@ -1,6 +1,7 @@
 use chain_model::Member;
 use context_map::{Context, context_of, parents};
-use key_types::{Chain, Frame, NameId};
+use item_lists::Items;
+use key_types::{Frame, NameId};
 use refusal::NoMemory;
 use std::alloc::Global;
 use std::test;
@@ -13,7 +14,7 @@ fn member(depth: u8, name: Option<u32>, start: u64, line: u64, disc: u32, alloc:
         start,
         line,
         disc,
-        pieces: Chain::new(Vec::new(alloc)),
+        pieces: Items::new(Vec::new(alloc)),
     }
 }
 

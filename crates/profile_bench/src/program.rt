@@ -6,7 +6,8 @@ ghost use Rattle.profile_bench.specs.Laid.{AreLaid};
 ghost use Rattle.profile_tree.specs.Known.{HasNames};
 
 use crate::hits::SEGMENT;
-use key_types::{Chain, Frame, Key, KeyId, Keys, NameId, Names, Seg};
+use item_lists::Items;
+use key_types::{Frame, Key, KeyId, Keys, NameId, Names, Seg};
 use refusal::NoMemory;
 use std::alloc::Global;
 
@@ -111,7 +112,7 @@ fn key_of(alloc: Global, number: u32, names: u32) -> Result<Key, NoMemory>
 {
     Ok(Key {
         root: NameId(number % names),
-        calls: Chain::new(calls_of(alloc, number, names)?),
+        calls: Items::new(calls_of(alloc, number, names)?),
         offset: (number / names % 1000) as u16,
         disc: number % 5,
     })

@@ -1,11 +1,12 @@
 -- Profiles that count the same have the same lines.
-use Rattle.std.proofs.Common.{◌≡◌, ◌⊎◌, ◌≤◌, ◌<◌, ℕ, ◌+◌, ◌-◌, nat_lt, Bool, true, false, cond, ◌&&◌, List, [], ◌∷◌, ◌++◌, map, filter, length, sum_by, refl, sym, ap, subst, ◌∙◌, inl, inr, arith, add-zero, zero-add}
+use Rattle.std.proofs.Common.{◌≡◌, ◌<◌, ℕ, ◌+◌, ◌-◌, nat_lt, Bool, true, false, cond, ◌&&◌, List, [], ◌∷◌, ◌++◌, map, filter, length, sum_by, refl, sym, ap, subst, ◌∙◌, inl, inr, arith, add-zero, zero-add}
 use Rattle.std.proofs.lemmas.Bool.Decides.{nat_tests}
 use Rattle.std.proofs.lemmas.List.Sums.{sum_by-cons}
 use Rattle.std.specs.Cmp.Lexicographic.{bytes_decides}
 use Rattle.std.specs.List.{flat_map}
 use Rattle.std.specs.List.Sorted.{IsStrictlySortedBy}
 use Rattle.std.specs.declared.cmp.Ordering.{Ordering}
+use Rattle.list_lemmas.proofs.Among.{among_left, among_right, among_map, among_flat, among_filter, among_either, among_map_back, among_filter_back, among_flat_back, part_of_sum}
 use Rattle.profile_model.specs.Laws.{TellsApart, has, IsInOrder}
 use Rattle.profile_model.specs.Orders.{ordered, way_cmp, target_cmp}
 use Rattle.profile_model.specs.Profile.{Profile, function_line, body_line, call_line, capped, count_of, target_of, head_of, total_of, total_of_function, targets_of, recorded, entered, written, line_by, line_at, lines_of}
@@ -13,7 +14,7 @@ use Rattle.profile_model.specs.Ways.{Kind, Step, Way, function, body, call, to_f
 use Rattle.profile_model.proofs.OrderLemmas.{ways_tell_apart, targets_tell_apart}
 use Rattle.profile_model.proofs.OrderedLemmas.{Above, ordered_is_in_order, only_ordered_is_in_order}
 use Rattle.profile_model.proofs.StepLemmas.{and_first, and_second, and_both, bool_same, same_ways, way_itself}
-use Rattle.profile_laws.proofs.TotalLemmas.{Among, among_append_left, among_append_right, among_map, among_flat, among_filter, has_from_among, among_from_has, not_among_above, sum_both, sum_none}
+use Rattle.profile_laws.proofs.TotalLemmas.{Among, has_from_among, among_from_has, not_among_above, sum_both, sum_none}
 use Rattle.profile_laws.specs.Counts.{CountTheSame, LinesAreByCounts}
 
 -- tests of names
@@ -24,50 +25,15 @@ name_itself x = (bytes_decides x x).1 refl
 unfoldable pub Inside : {T : Type 0} → List T → List T → Type 0
 Inside {T} xs ys = (x : T) → Among x xs → Among x ys
 
-pub append_from : {T : Type 0} (x : T) (xs ys : List T) → Among x (xs ++ ys) → Among x xs ⊎ Among x ys
-unfolding Among
-append_from x [] ys h = inr h
-append_from x (y ∷ xs) ys h = elim h as (λ _. ((x ≡ y) ⊎ Among x xs) ⊎ Among x ys) [
-  | inl e ↦ inl (inl e)
-  | inr r ↦ elim (append_from x xs ys r) as (λ _. ((x ≡ y) ⊎ Among x xs) ⊎ Among x ys) [ inl l ↦ inl (inr l) | inr m ↦ inr m ]
-]
-
-pub map_from : {S T : Type 0} (f : S → T) (y : T) (xs : List S) → Among y (map f xs) → (x : S) × Among x xs × (y ≡ f x)
-unfolding Among
-map_from f y [] h = absurd h
-map_from {S} f y (x ∷ xs) h = elim h as (λ _. (z : S) × Among z (x ∷ xs) × (y ≡ f z)) [
-  | inl e ↦ (x, inl refl, e)
-  | inr r ↦ let found = map_from f y xs r in (found.0, inr found.1, found.2)
-]
-
-pub filter_from : {T : Type 0} (p : T → Bool) (x : T) (xs : List T) → Among x (filter p xs) → (p x ≡ true) × Among x xs
-unfolding Among
-filter_from p x [] h = absurd h
-filter_from {T} p x (y ∷ xs) h = elim (p y) as (λ b. p y ≡ b → Among x (cond b (y ∷ filter p xs) (filter p xs)) → (p x ≡ true) × Among x (y ∷ xs)) [
-  | true ↦ λ t g. elim g as (λ _. (p x ≡ true) × Among x (y ∷ xs)) [
-    | inl e ↦ (ap p e ∙ t, inl e)
-    | inr r ↦ let found = filter_from p x xs r in (found.0, inr found.1)
-  ]
-  | false ↦ λ _ g. let found = filter_from p x xs g in (found.0, inr found.1)
-] refl h
-
-pub flat_from : {S T : Type 0} (f : S → List T) (x : T) (ys : List S) → Among x (flat_map f ys) → (y : S) × Among y ys × Among x (f y)
-unfolding Among
-flat_from f x [] h = absurd h
-flat_from {S} f x (z ∷ ys) h = elim (append_from x (f z) (flat_map f ys) h) as (λ _. (y : S) × Among y (z ∷ ys) × Among x (f y)) [
-  | inl l ↦ (z, inl refl, l)
-  | inr r ↦ let found = flat_from f x ys r in (found.0, inr found.1, found.2)
-]
-
 pub flat_inside : {S T : Type 0} (f : S → List T) (xs ys : List S) → Inside xs ys → Inside (flat_map f xs) (flat_map f ys)
 unfolding Inside
-flat_inside f xs ys inside x h = let found = flat_from f x xs h in among_flat f x found.0 ys (inside found.0 found.1) found.2
+flat_inside f xs ys inside x h = let found = among_flat_back f x xs h in among_flat f x found.0 ys (inside found.0 found.1) found.2
 
 pub append_inside : {T : Type 0} (xs ys vs ws : List T) → Inside xs vs → Inside ys ws → Inside (xs ++ ys) (vs ++ ws)
 unfolding Inside
-append_inside xs ys vs ws first second x h = elim (append_from x xs ys h) as (λ _. Among x (vs ++ ws)) [
-  | inl l ↦ among_append_left x vs ws (first x l)
-  | inr r ↦ among_append_right x vs ws (second x r)
+append_inside xs ys vs ws first second x h = elim (among_either x xs ys h) as (λ _. Among x (vs ++ ws)) [
+  | inl l ↦ among_left x vs ws (first x l)
+  | inr r ↦ among_right x vs ws (second x r)
 ]
 
 -- lists with the same items are the same in order
@@ -92,18 +58,7 @@ kept_is_parts {T} test weight (x ∷ xs) =
     part : T → ℕ
     part y = cond (test y) (weight y) 0
 
-weighed : {T : Type 0} (weight : T → ℕ) (x : T) (xs : List T) → Among x xs → weight x ≤ sum_by weight xs
-unfolding Among
-weighed weight x [] h = absurd h
-weighed weight x (y ∷ xs) h =
-    let e = sum_by-cons weight y xs in
-    elim h as (λ _. weight x ≤ sum_by weight (y ∷ xs)) [
-      | inl q ↦ let w = ap weight q in omega arith
-      | inr r ↦ let rest = weighed weight x xs r in omega arith
-    ]
-
 heavy : {T : Type 0} (weight : T → ℕ) (xs : List T) → 0 < sum_by weight xs → (x : T) × Among x xs × (0 < weight x)
-unfolding Among
 heavy weight [] h = absurd (omega arith)
 heavy {T} weight (x ∷ xs) h =
     let e = sum_by-cons weight x xs in
@@ -117,15 +72,15 @@ heavy {T} weight (x ∷ xs) h =
 -- an item that counts is one of its own sum, and such a sum is that of an item
 counts_in : {T : Type 0} (test : T → Bool) (weight : T → ℕ) (x : T) (xs : List T) → Among x (filter (λ y. nat_lt 0 (weight y)) xs) → test x ≡ true → 0 < sum_by weight (filter test xs)
 counts_in test weight x xs h t =
-    let found = filter_from (λ y. nat_lt 0 (weight y)) x xs h in
+    let found = among_filter_back (λ y. nat_lt 0 (weight y)) x xs h in
     let some : 0 < weight x = let q = found.0 in grind (arith, nat_tests) in
-    let least = weighed weight x (filter test xs) (among_filter test x xs t found.1) in
+    let least = part_of_sum weight x (filter test xs) (among_filter test x xs t found.1) in
     omega arith
 
 pub counted : {T : Type 0} (test : T → Bool) (weight : T → ℕ) (xs : List T) → 0 < sum_by weight (filter test xs) → (x : T) × Among x (filter (λ y. nat_lt 0 (weight y)) xs) × (test x ≡ true)
 counted test weight xs h =
     let found = heavy weight (filter test xs) h in
-    let kept = filter_from test found.0 xs found.1 in
+    let kept = among_filter_back test found.0 xs found.1 in
     let some : nat_lt 0 (weight found.0) ≡ true = let q = found.2 in grind (arith, nat_tests) in
     (found.0, among_filter (λ y. nat_lt 0 (weight y)) found.0 xs some kept.1, kept.0)
 
@@ -155,14 +110,13 @@ other_way f w k n apart =
     ] refl
 
 no_way : (f : Way → Bool) (k : Way) (n : ℕ) (ws : List Way) → (Among k ws → ⊥) → sum_by (λ w. kept (f w) (mine w (k, n))) ws ≡ 0
-unfolding Among
 no_way f k n [] lacks = refl
 no_way f k n (w ∷ ws) lacks =
     sum_by-cons (λ v. kept (f v) (mine v (k, n))) w ws
     ∙ (λ i. other_way f w k n (λ e. lacks (inl (sym e))) i + no_way f k n ws (λ r. lacks (inr r)) i)
 
 one_way : (cmp : Way → Way → Ordering) → TellsApart cmp → (f : Way → Bool) (k : Way) (n : ℕ) (ws : List Way) → IsStrictlySortedBy cmp ws → Among k ws → sum_by (λ w. kept (f w) (mine w (k, n))) ws ≡ kept (f k) n
-unfolding Among IsStrictlySortedBy
+unfolding IsStrictlySortedBy
 one_way cmp t f k n [] sorted h = absurd h
 one_way cmp t f k n (w ∷ ws) sorted h =
     sum_by-cons (λ v. kept (f v) (mine v (k, n))) w ws
@@ -179,7 +133,6 @@ one_way cmp t f k n (w ∷ ws) sorted h =
     ]
 
 by_ways : (cmp : Way → Way → Ordering) → TellsApart cmp → (f : Way → Bool) (ws : List Way) → IsStrictlySortedBy cmp ws → (cs : List (Way × ℕ)) → ((c : Way × ℕ) → Among c cs → Among c.0 ws) → sum_by (tested f) cs ≡ sum_by (λ w. kept (f w) (sum_by (mine w) cs)) ws
-unfolding Among
 by_ways cmp t f ws sorted [] inside = sym (ap (λ g. sum_by g ws) (λ i w. kept_none (f w) i) ∙ sum_none ws)
 by_ways cmp t f ws sorted (c ∷ cs) inside =
     sum_by-cons (tested f) c cs
@@ -193,9 +146,9 @@ by_ways cmp t f ws sorted (c ∷ cs) inside =
 -- counts that are the same way by way are the same over the ways that pass a test
 tested_alike : (cs ds : List (Way × ℕ)) → ((w : Way) → sum_by (λ c. c.1) (filter (λ c. same_way w c.0) cs) ≡ sum_by (λ c. c.1) (filter (λ c. same_way w c.0) ds)) → (f : Way → Bool) → sum_by (λ c. c.1) (filter (λ c. f c.0) cs) ≡ sum_by (λ c. c.1) (filter (λ c. f c.0) ds)
 tested_alike cs ds alike f =
-    parts cs ∙ by_ways cmp t f ws in_order.ascending cs (λ c h. there c (among_append_left c cs ds h))
+    parts cs ∙ by_ways cmp t f ws in_order.ascending cs (λ c h. there c (among_left c cs ds h))
     ∙ ap (λ g. sum_by g ws) (λ i w. kept (f w) (each w i))
-    ∙ sym (by_ways cmp t f ws in_order.ascending ds (λ c h. there c (among_append_right c cs ds h))) ∙ sym (parts ds)
+    ∙ sym (by_ways cmp t f ws in_order.ascending ds (λ c h. there c (among_right c cs ds h))) ∙ sym (parts ds)
   where
     cmp : Way → Way → Ordering
     cmp = way_cmp (λ _. 0)
@@ -252,7 +205,7 @@ totals_alike p q same way = ap capped (tested_alike p.counts q.counts same.keys 
 keys_inside : (p q : Profile) → CountTheSame p q → Inside (counted_keys p) (counted_keys q)
 unfolding Inside
 keys_inside p q same k h =
-    let from = map_from (λ c. c.0) k (filter (λ c. nat_lt 0 c.1) p.counts) h in
+    let from = among_map_back (λ c. c.0) k (filter (λ c. nat_lt 0 c.1) p.counts) h in
     let way = from.0.0 in
     let some : 0 < count_of q way = subst (λ n. 0 < n) (same.keys way) (counts_in (λ c. same_way way c.0) (λ c. c.1) from.0 p.counts from.1 (way_itself way)) in
     let other = counted (λ c. same_way way c.0) (λ c. c.1) q.counts some in
@@ -262,7 +215,7 @@ keys_inside p q same k h =
 callers_inside : (p q : Profile) → CountTheSame p q → Inside (callers p) (callers q)
 unfolding Inside
 callers_inside p q same k h =
-    let from = map_from (λ c. c.0) k (filter (λ c. nat_lt 0 c.2) p.calls) h in
+    let from = among_map_back (λ c. c.0) k (filter (λ c. nat_lt 0 c.2) p.calls) h in
     let other = called p q same from.0 from.1 in
     subst (λ w. Among w (callers q)) (sym (from.2 ∙ other.2)) (among_map (λ c. c.0) other.0 (filter (λ c. nat_lt 0 c.2) q.calls) other.1)
 
@@ -272,7 +225,7 @@ recorded_inside p q same = append_inside (counted_keys p) (callers p) (counted_k
 pub entered_inside : (p q : Profile) → CountTheSame p q → Inside (entered p) (entered q)
 unfolding Inside
 entered_inside p q same k h =
-    let from = map_from (λ e. to_function e.0 ∷ []) k (filter (λ e. nat_lt 0 e.1) p.heads) h in
+    let from = among_map_back (λ e. to_function e.0 ∷ []) k (filter (λ e. nat_lt 0 e.1) p.heads) h in
     let name = from.0.0 in
     let some : 0 < head_of q name = subst (λ n. 0 < n) (same.heads name) (counts_in (λ e. same_name name e.0) (λ e. e.1) from.0 p.heads from.1 (name_itself name)) in
     let other = counted (λ e. same_name name e.0) (λ e. e.1) q.heads some in
@@ -294,13 +247,13 @@ written_alike p q same =
 targets_inside : (p q : Profile) → CountTheSame p q → (way : Way) → Inside (called_from p way) (called_from q way)
 unfolding Inside
 targets_inside p q same way t h =
-    let from = map_from (λ c. (c.1, target_of p way c.1)) t (filter (λ c. same_way way c.0 && nat_lt 0 c.2) p.calls) h in
+    let from = among_map_back (λ c. (c.1, target_of p way c.1)) t (filter (λ c. same_way way c.0 && nat_lt 0 c.2) p.calls) h in
     let c = from.0 in
-    let here = filter_from (λ d. same_way way d.0 && nat_lt 0 d.2) c p.calls from.1 in
+    let here = among_filter_back (λ d. same_way way d.0 && nat_lt 0 d.2) c p.calls from.1 in
     let some : nat_lt 0 c.2 ≡ true = and_second (same_way way c.0) (nat_lt 0 c.2) here.0 in
     let other = called p q same c (among_filter (λ d. nat_lt 0 d.2) c p.calls some here.1) in
     let d = other.0 in
-    let there = filter_from (λ e. nat_lt 0 e.2) d q.calls other.1 in
+    let there = among_filter_back (λ e. nat_lt 0 e.2) d q.calls other.1 in
     let at_way : same_way way d.0 ≡ true = subst (λ w. same_way way w ≡ true) other.2 (and_first (same_way way c.0) (nat_lt 0 c.2) here.0) in
     let one : t ≡ (d.1, target_of q way d.1) = from.2 ∙ (λ i. (other.3 i, same.targets way (other.3 i) i)) in
     subst (λ u. Among u (called_from q way)) (sym one)

@@ -1,12 +1,13 @@
 -- A text without a bad place tells each of its numbers once.
-use Rattle.std.proofs.Common.{◌≡◌, ◌≢◌, ℕ, Bool, true, false, ◌||◌, List, [], ◌∷◌, ◌++◌, map, Some, None, Option, refl, sym, ap, ◌∙◌, arith}
-use Rattle.std.proofs.lemmas.Bool.{true≢false, le-ltb}
+use Rattle.std.proofs.Common.{◌≡◌, ◌≢◌, ℕ, Bool, true, false, List, [], ◌∷◌, ◌++◌, map, Some, None, Option, refl, sym, ap, ◌∙◌, arith}
+use Rattle.std.proofs.lemmas.Bool.{true≢false, le-ltb, or_parts, or_left, or_right}
 use Rattle.std.proofs.ByRecursion.{All-append}
 use Rattle.std.proofs.lemmas.List.Elements.{All-from_recursion}
 use Rattle.std.proofs.lemmas.List.Kept.{AllPairs-cons}
 use Rattle.std.specs.Prelude.{⊤}
 use Rattle.std.specs.Cmp.Lexicographic.{bytes_decides}
 use Rattle.std.specs.List.{AllByRecursion, list_any}
+use Rattle.list_lemmas.proofs.Each.{all_then}
 use Rattle.refusal.specs.declared.kind.Kind.{Kind}
 use Rattle.refusal.specs.declared.kind.Kind.TheVariants.{TooDeep, BadIndent, KeyTwice}
 use Rattle.refusal.specs.Place.{first_bad, first_cause}
@@ -30,10 +31,6 @@ apart_once tell [] apart = λ i j d less within. absurd (omega arith)
 apart_once tell (x ∷ items) apart =
     AllPairs-cons (λ x y. tell x ≢ tell y) x items (All-from_recursion (λ y. tell x ≢ tell y) items apart.0) (apart_once tell items apart.1)
 
-all_of : {T : Type 0} (P Q : T → Type 0) → ((x : T) → P x → Q x) → (items : List T) → AllByRecursion P items → AllByRecursion Q items
-all_of P Q gives [] all = tt
-all_of P Q gives (x ∷ items) all = (gives x all.0, all_of P Q gives items all.1)
-
 apart_both : {T U : Type 0} (tell : T → U) (items more : List T) → Apart tell items → Apart tell more
     → AllByRecursion (λ x. AllByRecursion (λ y. tell x ≢ tell y) more) items → Apart tell (items ++ more)
 apart_both tell [] more apart behind all = behind
@@ -41,18 +38,6 @@ apart_both tell (x ∷ items) more apart behind all =
     (All-append (λ y. tell x ≢ tell y) items more apart.0 all.0, apart_both tell items more apart.1 behind all.1)
 
 -- ---- the targets of a line
-
-pub or_neither : (a b : Bool) → (a || b) ≡ false → (a ≡ false) × (b ≡ false)
-or_neither true b none = absurd (true≢false none)
-or_neither false b none = (refl, none)
-
-or_second : (a b : Bool) → b ≡ true → (a || b) ≡ true
-or_second true b is = refl
-or_second false b is = is
-
-or_first : (a b : Bool) → a ≡ true → (a || b) ≡ true
-or_first true b is = refl
-or_first false b is = absurd (true≢false (sym is))
 
 name_itself : (name : List ℕ) → same_name name name ≡ true
 name_itself name = (bytes_decides name name).1 refl
@@ -66,9 +51,9 @@ none_again : (name : List ℕ) (before : List (List ℕ)) (targets : List (List 
 unfolding again_among
 none_again name before [] stood none = tt
 none_again name before (called ∷ targets) stood none =
-    let neither = or_neither (list_any (same_name called.0) before) (again_among (called.0 ∷ before) (names targets)) none in (
+    let neither = or_parts (list_any (same_name called.0) before) (again_among (called.0 ∷ before) (names targets)) none in (
       λ same. true≢false (sym stood ∙ ap (λ n. list_any (same_name n) before) same ∙ neither.0),
-      none_again name (called.0 ∷ before) targets (or_second (same_name name called.0) (list_any (same_name name) before) stood) neither.1,
+      none_again name (called.0 ∷ before) targets (or_right (same_name name called.0) (list_any (same_name name) before) stood) neither.1,
     )
 
 targets_apart : (before : List (List ℕ)) (targets : List (List ℕ × ℕ)) → again_among before (names targets) ≡ false
@@ -76,8 +61,8 @@ targets_apart : (before : List (List ℕ)) (targets : List (List ℕ × ℕ)) �
 unfolding again_among
 targets_apart before [] none = tt
 targets_apart before (called ∷ targets) none =
-    let neither = or_neither (list_any (same_name called.0) before) (again_among (called.0 ∷ before) (names targets)) none in (
-      none_again called.0 (called.0 ∷ before) targets (or_first (same_name called.0 called.0) (list_any (same_name called.0) before) (name_itself called.0)) neither.1,
+    let neither = or_parts (list_any (same_name called.0) before) (again_among (called.0 ∷ before) (names targets)) none in (
+      none_again called.0 (called.0 ∷ before) targets (or_left (same_name called.0 called.0) (list_any (same_name called.0) before) (name_itself called.0)) neither.1,
       targets_apart (called.0 ∷ before) targets neither.1,
     )
 
@@ -135,7 +120,7 @@ line_way at before (call_line depth offset disc name total) = tt
 first_time : (way : Way) (ways : List Way) → list_any (same_way way) ways ≡ false → AllByRecursion (λ other. way ≢ other) ways
 first_time way [] none = tt
 first_time way (other ∷ ways) none =
-    let neither = or_neither (same_way way other) (list_any (same_way way) ways) none in (
+    let neither = or_parts (same_way way other) (list_any (same_way way) ways) none in (
       λ same. true≢false (sym (way_itself way) ∙ ap (same_way way) same ∙ neither.0),
       first_time way ways neither.1,
     )
@@ -152,13 +137,13 @@ fresh_both : (way : Way) (ways : List Way) (numbers more : List Number) → Apar
     → Fresh (way ∷ ways) more → Fresh ways (numbers ++ more)
 fresh_both way ways numbers more apart here first fresh = record {
   apart = apart_both (λ (number : Number). number.what) numbers more apart fresh.apart
-      (all_of (λ (number : Number). way_told number.what ≡ way) (λ (number : Number). AllByRecursion (λ (other : Number). number.what ≢ other.what) more)
-      (λ number is. all_of (λ (other : Number). AllByRecursion (λ w. way_told other.what ≢ w) (way ∷ ways)) (λ (other : Number). number.what ≢ other.what)
+      (all_then (λ (number : Number). way_told number.what ≡ way) (λ (number : Number). AllByRecursion (λ (other : Number). number.what ≢ other.what) more)
+      (λ number is. all_then (λ (other : Number). AllByRecursion (λ w. way_told other.what ≢ w) (way ∷ ways)) (λ (other : Number). number.what ≢ other.what)
       (λ other news same. news.0 (ap way_told (sym same) ∙ is)) more fresh.new) numbers here);
   new = All-append (λ (number : Number). AllByRecursion (λ w. way_told number.what ≢ w) ways) numbers more
-      (all_of (λ (number : Number). way_told number.what ≡ way) (λ (number : Number). AllByRecursion (λ w. way_told number.what ≢ w) ways)
-      (λ number is. all_of (λ (w : Way). way ≢ w) (λ (w : Way). way_told number.what ≢ w) (λ w differs same. differs (sym is ∙ same)) ways first) numbers here)
-      (all_of (λ (number : Number). AllByRecursion (λ w. way_told number.what ≢ w) (way ∷ ways)) (λ (number : Number). AllByRecursion (λ w. way_told number.what ≢ w) ways)
+      (all_then (λ (number : Number). way_told number.what ≡ way) (λ (number : Number). AllByRecursion (λ w. way_told number.what ≢ w) ways)
+      (λ number is. all_then (λ (w : Way). way ≢ w) (λ (w : Way). way_told number.what ≢ w) (λ w differs same. differs (sym is ∙ same)) ways first) numbers here)
+      (all_then (λ (number : Number). AllByRecursion (λ w. way_told number.what ≢ w) (way ∷ ways)) (λ (number : Number). AllByRecursion (λ w. way_told number.what ≢ w) ways)
       (λ number news. news.1) more fresh.new);
 }
 
@@ -176,7 +161,7 @@ line_fresh : (at : ℕ) (before : List Line) (line : Line) (more : List Number) 
     → Fresh (ways_of (line ∷ before)) more → Fresh (ways_of before) (numbers_on at (way_of before line) line ++ more)
 unfolding tells_again ways_of
 line_fresh at before line more free fresh =
-    let neither = or_neither (list_any (same_way (way_of before line)) (ways_of before)) (has_twice (names (targets_on line))) (not_again before line free) in
+    let neither = or_parts (list_any (same_way (way_of before line)) (ways_of before)) (has_twice (names (targets_on line))) (not_again before line free) in
     fresh_both (way_of before line) (ways_of before) (numbers_on at (way_of before line) line) more
     (line_apart at (way_of before line) line neither.1) (line_way at before line) (first_time (way_of before line) (ways_of before) neither.0) fresh
 

@@ -9,6 +9,9 @@ use Rattle.std.specs.List.Sorted.{IsStrictlySortedBy}
 use Rattle.std.specs.Ordering.{is_eq, eq_by_cmp}
 use Rattle.std.specs.declared.cmp.Ordering.{Ordering}
 use Rattle.std.specs.declared.cmp.Ordering.TheVariants.{Less, Equal, Greater}
+use Rattle.list_lemmas.proofs.Among.{among_left, among_map, among_flat, among_filter}
+use Rattle.list_lemmas.proofs.Sums.{sum_same}
+use Rattle.list_lemmas.proofs.Each.{all_then}
 use Rattle.profile_model.specs.Laws.{TellsApart, has}
 use Rattle.profile_model.specs.Orders.{way_cmp}
 use Rattle.profile_model.specs.Profile.{Profile, capped, count_of, total_of_function, recorded, entered, written}
@@ -17,6 +20,7 @@ use Rattle.profile_model.proofs.OrderLemmas.{ways_tell_apart}
 use Rattle.profile_model.proofs.OrderedLemmas.{Above, ordered_is_in_order, has-head}
 use Rattle.profile_model.proofs.StepLemmas.{and_first, and_second, and_both, nat_refl, nat_same, same_steps, step_itself}
 use Rattle.profile_laws.specs.Totals.{EndsInBody, IsKeyWay, HasKeyWays, is_next, right_below, number_by, number_of, IsAbove, TotalsAddUp}
+pub use Rattle.list_lemmas.proofs.Among.{Among}
 
 -- fronts
 front_is_take : (x k : Way) → leads_to x k ≡ true → x ≡ take (length x) k
@@ -54,50 +58,12 @@ take_length zero k h = refl
 take_length (suc n) [] h = absurd (omega arith)
 take_length (suc n) (t ∷ k) h = ap suc (take_length n k (omega arith))
 
--- membership in a list, item by item
-unfoldable pub Among : {T : Type 0} → T → List T → Type 0
-Among x [] = ⊥
-Among x (y ∷ ys) = (x ≡ y) ⊎ Among x ys
-
-pub among_append_left : {T : Type 0} (x : T) (xs ys : List T) → Among x xs → Among x (xs ++ ys)
-unfolding Among
-among_append_left x [] ys h = absurd h
-among_append_left x (y ∷ xs) ys h = elim h as (λ _. (x ≡ y) ⊎ Among x (xs ++ ys)) [ inl e ↦ inl e | inr r ↦ inr (among_append_left x xs ys r) ]
-
-pub among_append_right : {T : Type 0} (x : T) (xs ys : List T) → Among x ys → Among x (xs ++ ys)
-unfolding Among
-among_append_right x [] ys h = h
-among_append_right x (y ∷ xs) ys h = inr (among_append_right x xs ys h)
-
-pub among_map : {S T : Type 0} (f : S → T) (x : S) (xs : List S) → Among x xs → Among (f x) (map f xs)
-unfolding Among
-among_map f x [] h = absurd h
-among_map f x (y ∷ xs) h = elim h as (λ _. (f x ≡ f y) ⊎ Among (f x) (map f xs)) [ inl e ↦ inl (ap f e) | inr r ↦ inr (among_map f x xs r) ]
-
-pub among_flat : {S T : Type 0} (f : S → List T) (x : T) (y : S) (ys : List S) → Among y ys → Among x (f y) → Among x (flat_map f ys)
-unfolding Among
-among_flat f x y [] h g = absurd h
-among_flat f x y (z ∷ ys) h g = elim h as (λ _. Among x (f z ++ flat_map f ys)) [
-  | inl e ↦ among_append_left x (f z) (flat_map f ys) (subst (λ w. Among x (f w)) e g)
-  | inr r ↦ among_append_right x (f z) (flat_map f ys) (among_flat f x y ys r g)
-]
-
-pub among_filter : {T : Type 0} (p : T → Bool) (x : T) (xs : List T) → p x ≡ true → Among x xs → Among x (filter p xs)
-unfolding Among
-among_filter p x [] t h = absurd h
-among_filter {T} p x (y ∷ xs) t h = elim h as (λ _. Among x (cond (p y) (y ∷ filter p xs) (filter p xs))) [
-  | inl e ↦ subst (λ b. Among x (cond b (y ∷ filter p xs) (filter p xs))) (sym t ∙ ap p e) (inl e)
-  | inr r ↦ elim (p y) as (λ b. Among x (cond b (y ∷ filter p xs) (filter p xs))) [ true ↦ inr (among_filter p x xs t r) | false ↦ among_filter p x xs t r ]
-]
-
 among_beginnings : (n : ℕ) (k : Way) → n < length k → Among (take (suc n) k) (beginnings k)
-unfolding Among
 among_beginnings n [] h = absurd (omega arith)
 among_beginnings zero (t ∷ k) h = inl refl
 among_beginnings (suc n) (t ∷ k) h = inr (among_map (λ x. t ∷ x) (take (suc n) k) (beginnings k) (among_beginnings n k (omega arith)))
 
 pub has_from_among : {T : Type 0} (cmp : T → T → Ordering) → TellsApart cmp → (x : T) (xs : List T) → Among x xs → has cmp x xs ≡ true
-unfolding Among
 has_from_among cmp t x [] h = absurd h
 has_from_among cmp t x (y ∷ xs) h = elim h as (λ _. (eq_by_cmp cmp x y || has cmp x xs) ≡ true) [
   | inl e ↦ subst (λ z. has cmp x (z ∷ xs) ≡ true) e (has-head cmp t.total x xs)
@@ -109,7 +75,6 @@ has_from_among cmp t x (y ∷ xs) h = elim h as (λ _. (eq_by_cmp cmp x y || has
     or_right false b e = e
 
 pub among_from_has : {T : Type 0} (cmp : T → T → Ordering) → TellsApart cmp → (x : T) (xs : List T) → has cmp x xs ≡ true → Among x xs
-unfolding Among
 among_from_has cmp t x [] h = absurd (true≢false (sym h))
 among_from_has cmp t x (y ∷ xs) h =
     elim (cmp x y) as (λ r. cmp x y ≡ r → (is_eq r || has cmp x xs) ≡ true → (x ≡ y) ⊎ Among x xs) [
@@ -117,11 +82,6 @@ among_from_has cmp t x (y ∷ xs) h =
       | Equal ↦ λ e _. inl (t.apart x y e)
       | Greater ↦ λ _ g. inr (among_from_has cmp t x xs g)
     ] refl h
-
--- sums
-pub sum_same : {T : Type 0} (f g : T → ℕ) (xs : List T) → AllByRecursion (λ x. f x ≡ g x) xs → sum_by f xs ≡ sum_by g xs
-sum_same f g [] all = refl
-sum_same f g (x ∷ xs) all = sum_by-cons f x xs ∙ (λ i. all.0 i + sum_same f g xs all.1 i) ∙ sym (sum_by-cons g x xs)
 
 pub sum_both : {T : Type 0} (f g : T → ℕ) (xs : List T) → sum_by (λ x. f x + g x) xs ≡ sum_by f xs + sum_by g xs
 sum_both f g [] = refl
@@ -154,7 +114,6 @@ below_is_parts way (c ∷ cs) =
 
 -- ways of one length that a way begins with are one
 all_lack : (x k : Way) (xs : List Way) → AllByRecursion (λ w. (length w ≡ length x)) xs → (Among x xs → ⊥) → leads_to x k ≡ true → (n : ℕ) → sum_by (λ w. cond (leads_to w k) n 0) xs ≡ 0
-unfolding Among
 all_lack x k [] all lacks e n = refl
 all_lack x k (w ∷ xs) all lacks e n =
     let rest : sum_by (λ v. cond (leads_to v k) n 0) xs ≡ 0 = all_lack x k xs all.1 (λ r. lacks (inr r)) e n in
@@ -166,7 +125,6 @@ all_lack x k (w ∷ xs) all lacks e n =
     sum_by-cons (λ v. cond (leads_to v k) n 0) w xs ∙ (λ i. none i + rest i)
 
 pub not_among_above : {T : Type 0} (cmp : T → T → Ordering) → TellsApart cmp → (x : T) (xs : List T) → Above cmp x xs → Among x xs → ⊥
-unfolding Among
 not_among_above cmp t x [] above h = h
 not_among_above cmp t x (y ∷ xs) above h = elim h as (λ _. ⊥) [
   | inl e ↦
@@ -177,7 +135,7 @@ not_among_above cmp t x (y ∷ xs) above h = elim h as (λ _. ⊥) [
 ]
 
 exactly_one : (cmp : Way → Way → Ordering) → TellsApart cmp → (x k : Way) (xs : List Way) (n : ℕ) → IsStrictlySortedBy cmp xs → AllByRecursion (λ w. length w ≡ length x) xs → Among x xs → leads_to x k ≡ true → sum_by (λ w. cond (leads_to w k) n 0) xs ≡ n
-unfolding Among IsStrictlySortedBy
+unfolding IsStrictlySortedBy
 exactly_one cmp t x k [] n sorted all h e = absurd h
 exactly_one cmp t x k (w ∷ xs) n sorted all h e = elim h as (λ _. sum_by (λ v. cond (leads_to v k) n 0) (w ∷ xs) ≡ n) [
   | inl q ↦
@@ -218,12 +176,12 @@ recorded_is_written p k x h g =
     let cmp = way_cmp (total_of_function p) in
     let t : TellsApart cmp = ways_tell_apart (total_of_function p) in
     let items = flat_map beginnings (recorded p ++ entered p) in
-    let there : Among x items = among_flat beginnings x k (recorded p ++ entered p) (among_append_left k (recorded p) (entered p) h) g in
+    let there : Among x items = among_flat beginnings x k (recorded p ++ entered p) (among_left k (recorded p) (entered p) h) g in
     among_from_has cmp t x (written p) ((ordered_is_in_order cmp t items).same x ∙ has_from_among cmp t x items there)
 
 counted_is_recorded : (p : Profile) (c : Way × ℕ) → Among c p.counts → nat_lt 0 c.1 ≡ true → Among c.0 (recorded p)
 counted_is_recorded p c h e =
-    among_append_left c.0 (map (λ d. d.0) (filter (λ d. nat_lt 0 d.1) p.counts)) (map (λ d. d.0) (filter (λ d. nat_lt 0 d.2) p.calls))
+    among_left c.0 (map (λ d. d.0) (filter (λ d. nat_lt 0 d.1) p.counts)) (map (λ d. d.0) (filter (λ d. nat_lt 0 d.2) p.calls))
     (among_map (λ d. d.0) c (filter (λ d. nat_lt 0 d.1) p.counts) (among_filter (λ d. nat_lt 0 d.1) c p.counts e h))
 
 -- the last step of a way
@@ -304,7 +262,6 @@ one_count p way c h key above =
 
 -- what counts add right below a way
 sum_swapped : (p : Profile) (way : Way) (cs : List (Way × ℕ)) → ((c : Way × ℕ) → Among c cs → Among c p.counts) → AllByRecursion (λ c. IsKeyWay c.0) cs → IsAbove way → sum_by (λ w. sum_by (part w) cs) (right_below p way) ≡ sum_by (part way) cs
-unfolding Among
 sum_swapped p way [] inside keys above = sum_none (right_below p way)
 sum_swapped p way (c ∷ cs) inside keys above =
     sum_same (λ w. sum_by (part w) (c ∷ cs)) (λ w. part w c + sum_by (part w) cs) (right_below p way) (all_filter (is_next way) (λ w. sum_by (part w) (c ∷ cs) ≡ part w c + sum_by (part w) cs) (λ w _. sum_by-cons (part w) c cs) (written p))
@@ -343,10 +300,6 @@ body_is_key s (v ∷ x) (t ∷ k) b key = ap (λ e. same_step s t && e) (body_st
 filter_same : {T : Type 0} (p q : T → Bool) (xs : List T) → AllByRecursion (λ x. p x ≡ q x) xs → filter p xs ≡ filter q xs
 filter_same p q [] all = refl
 filter_same p q (x ∷ xs) all = λ i. cond (all.0 i) (x ∷ filter_same p q xs all.1 i) (filter_same p q xs all.1 i)
-
-all_then : {T : Type 0} (P Q : T → Type 0) → ((x : T) → P x → Q x) → (xs : List T) → AllByRecursion P xs → AllByRecursion Q xs
-all_then P Q f [] all = tt
-all_then P Q f (x ∷ xs) all = (f x all.0, all_then P Q f xs all.1)
 
 count_is_below : (p : Profile) (s : Step) (x : Way) → HasKeyWays p → (last_step s x).kind ≡ body → count_of p (s ∷ x) ≡ sum_by (part (s ∷ x)) p.counts
 count_is_below p s x keys b =

@@ -9,6 +9,8 @@ use Rattle.std.specs.declared.cmp.Ordering.TheVariants.{Less, Equal, Greater}
 use Rattle.std.specs.Ordering.{is_eq, is_gt, eq_by_cmp, ordering_then, ordering_reverse}
 use Rattle.std.proofs.lemmas.Bool.{true≢false}
 use Rattle.std.proofs.lemmas.Cmp.{tied_itself}
+use Rattle.profile_model.proofs.StepLemmas.{and_first, and_second}
+use Rattle.list_lemmas.proofs.Each.{all_append, all_then}
 use Rattle.profile_model.specs.Laws.{TellsApart, has}
 use Rattle.profile_model.specs.Orders.{ordered}
 use Rattle.profile_model.specs.Ways.{beginnings, is_front}
@@ -24,14 +26,6 @@ pub equal_from_same : (r : Ordering) → is_eq r ≡ true → r ≡ Equal
 equal_from_same Less e = absurd (true≢false (sym e))
 equal_from_same Equal e = refl
 equal_from_same Greater e = absurd (true≢false (sym e))
-
-pub and_first : (a b : Bool) → (a && b) ≡ true → a ≡ true
-and_first true b e = refl
-and_first false b e = e
-
-pub and_second : (a b : Bool) → (a && b) ≡ true → b ≡ true
-and_second true b e = e
-and_second false b e = absurd (true≢false (sym e))
 
 -- what is not behind y, which is before z, is before z
 pub before_next : {T : Type 0} (cmp : T → T → Ordering) → IsTotalOrder cmp → (x y z : T) → is_gt (cmp x y) ≡ false → cmp y z ≡ Less → cmp x z ≡ Less
@@ -79,14 +73,6 @@ fresh_is_drop same (s ∷ a) (t ∷ b) =
 pub all_map : {S T : Type 0} (P : T → Type 0) (f : S → T) (xs : List S) → AllByRecursion (λ x. P (f x)) xs → AllByRecursion P (map f xs)
 all_map P f [] all = tt
 all_map P f (x ∷ xs) all = (all.0, all_map P f xs all.1)
-
-pub all_then : {T : Type 0} (P Q : T → Type 0) → ((x : T) → P x → Q x) → (xs : List T) → AllByRecursion P xs → AllByRecursion Q xs
-all_then P Q f [] all = tt
-all_then P Q f (x ∷ xs) all = (f x all.0, all_then P Q f xs all.1)
-
-pub all_append : {T : Type 0} (P : T → Type 0) (xs ys : List T) → AllByRecursion P xs → AllByRecursion P ys → AllByRecursion P (xs ++ ys)
-all_append P [] ys all others = others
-all_append P (x ∷ xs) ys all others = (all.0, all_append P xs ys all.1 others)
 
 -- beginnings have a first item
 pub beginnings_behind_none : {T : Type 0} (cmp : T → T → Ordering) (w : List T) → Above (slice_cmp cmp) [] (beginnings w)

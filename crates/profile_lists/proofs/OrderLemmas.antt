@@ -1,19 +1,14 @@
 -- The order of steps is total and tells apart.
-use Rattle.std.proofs.Common.{◌≡◌, ℕ, refl, arith}
+use Rattle.std.proofs.Common.{◌≡◌, refl, arith}
 use Rattle.std.specs.Cmp.{IsTotalOrder}
 use Rattle.std.specs.declared.cmp.Ordering.TheVariants.{Equal}
-use Rattle.std.specs.Ordering.{nat_cmp}
-use Rattle.std.proofs.lemmas.Bool.Decides.{nat_tests}
 use Rattle.std.proofs.lemmas.Cmp.{nat_cmp_total, on_total, then_total}
 use Rattle.profile_model.specs.Laws.{TellsApart}
-use Rattle.profile_model.proofs.OrderLemmas.{then_first, then_second}
+use Rattle.profile_model.proofs.OrderLemmas.{then_first, then_second, nat_apart}
 use Rattle.profile_lists.specs.Ways.{kind_rank, step_cmp}
 use Rattle.profile_lists.specs.declared.item.Kind.{Kind}
 use Rattle.profile_lists.specs.declared.item.Kind.TheVariants.{Function, Body, Call}
 use Rattle.profile_lists.specs.declared.item.Step.{Step}
-
-nat_apart : (x y : ℕ) → nat_cmp x y ≡ Equal → x ≡ y
-nat_apart x y e = grind (arith, nat_tests)
 
 kinds_apart : (k l : Kind) → kind_rank k ≡ kind_rank l → k ≡ l
 kinds_apart Function Function e = refl

@@ -11,9 +11,10 @@ use Rattle.std.specs.Cmp.{IsTotalOrder}
 use Rattle.std.specs.Cmp.Lexicographic.{slice_cmp}
 use Rattle.std.specs.List.{IsDistinct, range_with_len}
 use Rattle.std.specs.List.Sorted.{IsSortedByKey, IsStrictlySortedBy}
-use Rattle.std.specs.Ordering.{is_lt, nat_cmp, ordering_then, ordering_reverse}
-use Rattle.std.specs.declared.cmp.Ordering.{Ordering}
+use Rattle.std.specs.Ordering.{is_lt, nat_cmp, ordering_reverse}
 use Rattle.std.specs.declared.cmp.Ordering.TheVariants.{Less, Equal, Greater}
+use Rattle.profile_model.proofs.OrderLemmas.{nat_apart, then_second}
+use Rattle.list_lemmas.proofs.Sums.{map_map}
 use Rattle.profile_lists.specs.Ranks.{entry_cmp, entry_of, number_cmp, AreRanks}
 use Rattle.profile_lists.specs.Told.{told}
 use Rattle.profile_lists.specs.declared.ranks.Entry.{Entry}
@@ -22,10 +23,6 @@ get_map : {S T : Type 0} (f : S → T) (xs : List S) (k : ℕ) (d : T) (e : S) �
 get_map f [] k d e h = absurd (omega arith)
 get_map f (x ∷ xs) zero d e h = refl
 get_map f (x ∷ xs) (suc k) d e h = get_map f xs k d e (omega arith)
-
-map_map : {R S T : Type 0} (f : S → T) (g : R → S) (xs : List R) → map f (map g xs) ≡ map (λ x. f (g x)) xs
-map_map f g [] = refl
-map_map f g (x ∷ xs) = ap (λ ys. f (g x) ∷ ys) (map_map f g xs)
 
 map_itself : (xs : List ℕ) → map (λ x. x) xs ≡ xs
 map_itself [] = refl
@@ -36,14 +33,6 @@ entry_total = then_total (on_total (λ e. e.0) nat_cmp_total) (then_total (on_to
 
 number_total : (names : List (List ℕ)) (weights : List ℕ) → IsTotalOrder (number_cmp names weights)
 number_total names weights = on_total (entry_of names weights) entry_total
-
-then_second : (r s : Ordering) → ordering_then r s ≡ Equal → s ≡ Equal
-then_second Less s e = cc
-then_second Equal s e = e
-then_second Greater s e = cc
-
-nat_apart : (x y : ℕ) → nat_cmp x y ≡ Equal → x ≡ y
-nat_apart x y e = grind (arith, nat_tests)
 
 flips : (x y : ℕ) → nat_eq x y ≡ nat_eq y x
 flips x y = grind (arith, nat_tests)

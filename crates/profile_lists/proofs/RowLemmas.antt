@@ -8,10 +8,12 @@ use Rattle.std.proofs.lemmas.List.{length-map, map-append}
 use Rattle.std.proofs.lemmas.List.Sums.{sum_by-cons}
 use Rattle.std.specs.declared.cmp.Ordering.{Ordering}
 use Rattle.std.specs.declared.cmp.Ordering.TheVariants.{Less, Equal, Greater}
+use Rattle.list_lemmas.proofs.Sums.{map_map, map_same}
+use Rattle.list_lemmas.proofs.Each.{all_then}
 use Rattle.profile_model.specs.Laws.{TellsApart}
 use Rattle.profile_model.specs.Profile.{capped}
 use Rattle.profile_model.specs.Ways.{beginnings, is_front}
-use Rattle.profile_lists.proofs.FrontLemmas.{lists_tell_apart, front_not_behind, fresh, fresh_is_drop, fresh_are_fronts, fresh_are_no_fronts, beginnings_are_fronts, fronts, fronts_above, fronts_are_ordered, Ascending, all_then, between_has_front}
+use Rattle.profile_lists.proofs.FrontLemmas.{lists_tell_apart, front_not_behind, fresh, fresh_is_drop, fresh_are_fronts, fresh_are_no_fronts, beginnings_are_fronts, fronts, fronts_above, fronts_are_ordered, Ascending, between_has_front}
 use Rattle.profile_lists.proofs.OrderLemmas.{steps_tell_apart}
 use Rattle.profile_lists.specs.Rows.{shared, same_step, leads_to, count_below, total_of, sums_of, rows_along, rows_behind, first_way, padded, raised, IsRowOf, ways_of, AreRowsOf}
 use Rattle.profile_lists.specs.Ways.{step_cmp, way_cmp}
@@ -37,14 +39,6 @@ cap_twice m c s = omega arith
 
 cap_zero : (m : ℕ) → min 0 m ≡ 0
 cap_zero m = omega arith
-
-map_same : {S T : Type 0} (f g : S → T) (xs : List S) → AllByRecursion (λ x. f x ≡ g x) xs → map f xs ≡ map g xs
-map_same f g [] same = refl
-map_same f g (x ∷ xs) same = λ i. same.0 i ∷ map_same f g xs same.1 i
-
-map_map : {R S T : Type 0} (f : S → T) (g : R → S) (xs : List R) → map f (map g xs) ≡ map (λ x. f (g x)) xs
-map_map f g [] = refl
-map_map f g (x ∷ xs) = ap (λ ys. f (g x) ∷ ys) (map_map f g xs)
 
 zeros : {S : Type 0} (f : S → ℕ) (xs : List S) → AllByRecursion (λ x. f x ≡ 0) xs → map f xs ≡ replicate (length xs) 0
 zeros f [] all = refl

@@ -5,7 +5,8 @@ ghost use Rattle.std.specs.List.Sorted.{IsSortedByKey};
 ghost use Rattle.profile_lists.specs.Ranks.{AreRanks, entry_cmp, entry_of};
 ghost use Rattle.profile_lists.specs.Told.{told};
 
-use key_types::{Chain, NameId, Names};
+use item_lists::Items;
+use key_types::{NameId, Names};
 use refusal::NoMemory;
 use std::alloc::{AllocError, Global};
 
@@ -13,9 +14,9 @@ use std::alloc::{AllocError, Global};
 #[derive(Debug, Drop)]
 pub struct Ranks {
     /// The rank of each name: how many stand before it.
-    pub ranks: Chain<u32>,
+    pub ranks: Items<u32>,
     /// The number of the name of each rank.
-    pub ids: Chain<u32>,
+    pub ids: Items<u32>,
 }
 
 /// A name with its weight and its number.
@@ -41,8 +42,8 @@ pub fn ranks_of(alloc: Global, names: &Names, weights: &[u64]) -> Result<Ranks, 
     let ids = ids_of(alloc, &entries)?;
     let ranks = inverse(alloc, &ids)?;
     Ok(Ranks {
-        ranks: Chain::new(ranks),
-        ids: Chain::new(ids),
+        ranks: Items::new(ranks),
+        ids: Items::new(ids),
     })
 }
 

@@ -11,7 +11,7 @@ use Rattle.profile_model.specs.Laws.{TellsApart, OrdersTellApart}
 use Rattle.profile_model.specs.Orders.{name_cmp, function_total, step_cmp, way_cmp, target_cmp}
 use Rattle.profile_model.specs.Ways.{Kind, Step, kind_rank, function, body, call}
 
-nat_apart : (x y : ℕ) → nat_cmp x y ≡ Equal → x ≡ y
+pub nat_apart : (x y : ℕ) → nat_cmp x y ≡ Equal → x ≡ y
 nat_apart x y e = grind (arith, nat_tests)
 
 pub then_first : (r s : Ordering) → ordering_then r s ≡ Equal → r ≡ Equal

@@ -1,5 +1,5 @@
 -- Lists in an order, each item once.
-use Rattle.std.proofs.Common.{◌≡◌, Bool, true, false, ◌||◌, List, [], ◌∷◌, refl, sym, ap, subst, ◌∙◌}
+use Rattle.std.proofs.Common.{◌≡◌, true, false, ◌||◌, List, [], ◌∷◌, refl, sym, ap, subst, ◌∙◌}
 use Rattle.std.specs.List.{AllByRecursion}
 use Rattle.std.specs.List.Sorted.{IsStrictlySortedBy}
 use Rattle.std.specs.Cmp.{IsTotalOrder}
@@ -8,6 +8,7 @@ use Rattle.std.specs.declared.cmp.Ordering.TheVariants.{Less, Equal, Greater}
 use Rattle.std.specs.Ordering.{is_eq, eq_by_cmp, ordering_reverse}
 use Rattle.std.proofs.lemmas.Bool.{true≢false}
 use Rattle.std.proofs.lemmas.Cmp.{tied_itself, alike_right}
+use Rattle.list_lemmas.proofs.Tests.{or_swap, or_same}
 use Rattle.profile_model.specs.Orders.{placed, with_item, ordered}
 use Rattle.profile_model.specs.Laws.{TellsApart, has, OrderedIsInOrder, OnlyOrderedIsInOrder}
 
@@ -45,15 +46,6 @@ sorted-with_item cmp o x (y ∷ items) sorted =
       | Equal ↦ λ _. sorted
       | Greater ↦ λ e. (above-with_item cmp y x items (turned cmp o x y e) sorted.0, sorted-with_item cmp o x items sorted.1)
     ] refl
-
-or_swap : (a b c : Bool) → (b || (a || c)) ≡ (a || (b || c))
-or_swap true true c = refl
-or_swap true false c = refl
-or_swap false b c = refl
-
-or_same : (a c : Bool) → (a || c) ≡ (a || (a || c))
-or_same true c = refl
-or_same false c = refl
 
 has-with_item : {T : Type 0} (cmp : T → T → Ordering) → IsTotalOrder cmp → (z x : T) (items : List T) → has cmp z (with_item cmp x items) ≡ (eq_by_cmp cmp z x || has cmp z items)
 has-with_item cmp o z x [] = refl

@@ -4,8 +4,8 @@ use Rattle.std.specs.List.{flat_map}
 use Rattle.profile_model.specs.Orders.{ordered, way_cmp, target_cmp}
 use Rattle.profile_model.specs.Ways.{Way, Step, Kind, function, body, call, to_function, same_name, same_way, leads_to, beginnings, last_step}
 
--- What was counted: the way of each key with its count, each way once; calls of a function from a key, with how often;
--- entries of a function, with how often. A call or a function may stand several times.
+-- What was counted: the way of each key with its count; calls of a function from a key, with how often; entries of a
+-- function, with how often. A call or a function may stand several times; so may a way, where profiles are merged.
 pub record Profile : Type 0 where
   pub counts : List (Way × ℕ)
   pub calls : List (Way × List ℕ × ℕ)

@@ -5,19 +5,11 @@ use Rattle.std.specs.List.{prefix_len, slice_split, starts_with}
 use Rattle.std.specs.Option.{option_map}
 use Rattle.text_model.specs.LineTests.{is_blank_line}
 use Rattle.text_model.specs.Numbers.{decimal_of}
+pub use Rattle.text_model.specs.Numbers.{◌>>=◌, within_bits}
 use Rattle.profile_model.specs.Names.{is_name}
 use Rattle.profile_model.specs.Profile.{Line, function_line, body_line, call_line}
 
--- What the function gives of the value, if there is one: what `do` below chains by.
-infixl 10 ◌>>=◌
-abbrev pub ◌>>=◌ : {A B : Type 0} → Option A → (A → Option B) → Option B
-None >>= f = None
-(Some x) >>= f = f x
-
 -- The number that decimal digits spell, if it fits so many bits.
-abbrev pub within_bits : ℕ → ℕ → Option ℕ
-within_bits bits n = if nat_lt n (2 ^ bits) then Some n else None
-
 unfoldable pub number_within : ℕ → List ℕ → Option ℕ
 number_within bits digits = decimal_of digits >>= within_bits bits
 

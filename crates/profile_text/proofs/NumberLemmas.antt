@@ -22,6 +22,7 @@ use Rattle.profile_tree.specs.Steps.{name_at}
 use Rattle.profile_tree.specs.declared.head.Head.{Head as Entries}
 use Rattle.profile_tree.specs.declared.key_count.KeyCount.{KeyCount}
 use Rattle.profile_text.specs.Numbers.{AreNumbersOf, HasKey, call_by, call_in, count_by, count_in, counted, head_by, head_in, root_at, root_of, root_of_given}
+pub use Rattle.list_lemmas.proofs.Each.{all_then as all_weaker}
 
 -- ---- what is kept of a list
 
@@ -33,10 +34,6 @@ kept_all {S} {T} f P (x ∷ xs) all = by (f x) all.0 (kept_all f P xs all.1)
     by : (o : Option T) → ((y : T) → o ≡ Some y → P y) → AllByRecursion P (filter_map f xs) → AllByRecursion P (cons_option o (filter_map f xs))
     by None here rest = rest
     by (Some y) here rest = (here y refl, rest)
-
-pub all_weaker : {T : Type 0} (P Q : T → Type 0) → ((x : T) → P x → Q x) → (xs : List T) → AllByRecursion P xs → AllByRecursion Q xs
-all_weaker P Q f [] all = tt
-all_weaker P Q f (x ∷ xs) all = (f x all.0, all_weaker P Q f xs all.1)
 
 -- where what was told of two items is the same only where the items tell of the same, each stands once
 kept_once : {S T U V : Type 0} (f : S → Option T) (what : S → U) (tell : T → V)

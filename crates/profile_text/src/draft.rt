@@ -10,7 +10,8 @@ use crate::item::{Item, Profile, What};
 use crate::path::Path;
 use crate::said::{Location, Named};
 use crate::stamps::Stamps;
-use key_types::{Chain, Frame, KeyId, Keys, Names};
+use item_lists::Items;
+use key_types::{Frame, KeyId, Keys, Names};
 use refusal::{Kind, NoMemory};
 use std::alloc::{AllocFailed, Global};
 
@@ -69,7 +70,7 @@ impl Draft {
         ensures { result.items ≡ self.items.items }
     {
         Profile {
-            items: Chain::new(self.items),
+            items: Items::new(self.items),
         }
     }
 

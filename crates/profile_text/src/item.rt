@@ -1,5 +1,6 @@
 // The numbers of a profile text.
-use key_types::{Chain, KeyId, NameId};
+use item_lists::Items;
+use key_types::{KeyId, NameId};
 
 /// What a number is of.
 #[derive(Clone, Copy, Debug, PartialEq, Eq)]
@@ -24,5 +25,5 @@ pub struct Item {
 /// What a profile text says: its numbers, in the order of the text.
 #[derive(Debug, Drop)]
 pub struct Profile {
-    pub items: Chain<Item>,
+    pub items: Items<Item>,
 }

@@ -4,7 +4,8 @@ ghost use Rattle.profile_tree.specs.Steps.{at_function, frame_step};
 ghost use Rattle.profile_text.specs.Path.{IsKeyAt};
 
 use crate::said::Location;
-use key_types::{Chain, Frame, Key, NameId};
+use item_lists::Items;
+use key_types::{Frame, Key, NameId};
 use refusal::NoMemory;
 use std::alloc::Global;
 use std::marker::Model;
@@ -80,7 +81,7 @@ impl Path {
     {
         Ok(Key {
             root: self.root,
-            calls: Chain::new(Vec::from_slice(alloc, &self.frames)?),
+            calls: Items::new(Vec::from_slice(alloc, &self.frames)?),
             offset: location.offset,
             disc: location.disc,
         })

@@ -1,5 +1,5 @@
 -- Items, function by function, and the ways that they are made of.
-use Rattle.std.proofs.Common.{◌≡◌, ◌<◌, ◌≤◌, ℕ, ◌+◌, Bool, true, false, cond, List, [], ◌∷◌, ◌++◌, map, filter, take, length, get_or, refl, sym, ap, subst, ◌∙◌, arith, All, IsPermutation, Result, Ok, Err, OnOk}
+use Rattle.std.proofs.Common.{◌≡◌, ◌<◌, ◌≤◌, ℕ, ◌+◌, Bool, true, false, cond, List, [], ◌∷◌, ◌++◌, map, filter, take, length, get_or, refl, sym, ap, subst, ◌∙◌, arith, All, IsPermutation}
 use Rattle.std.specs.Prelude.{swap}
 use Rattle.std.specs.List.{AllByRecursion, range_with_len}
 use Rattle.std.specs.List.Sorted.{SwapsInRange, apply_swaps}
@@ -134,7 +134,3 @@ module _ (keys : List Key) (counts tr nr : List ℕ) (ws : List Written) (was : 
       subst (λ xs. IsPermutation (map told_item more) (was ++ map (ranked_source tr nr) (map (of_count keys counts) (map (λ w. w.id) xs)))) (take_all i ws high)
       (IsPermutation-trans (map told_item more) (map told_item (items ++ group)) (was ++ map (ranked_source tr nr) (map (of_count keys counts) (map (λ w. w.id) (take i ws))))
       (IsPermutation-sym (map told_item (items ++ group)) (map told_item more) (IsPermutation-map told_item (items ++ group) more p)) far)
-
-pub on_ok : {T E P Q : Type 0} (r : Result T E) → (P → Q) → OnOk r P → OnOk r Q
-on_ok (Ok x) f holds = f holds
-on_ok (Err e) f holds = holds

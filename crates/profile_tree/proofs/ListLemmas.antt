@@ -2,7 +2,6 @@
 use Rattle.std.proofs.Common.{◌≡◌, ◌⊎◌, ◌≤◌, ◌<◌, ℕ, zero, suc, ◌+◌, ◌==◌, Bool, true, false, cond, ◌||◌, List, [], ◌∷◌, ◌++◌, map, filter, length, get_or, sum_by, Option, None, Some, refl, sym, ap, subst, ◌∙◌, inl, inr, arith, add-zero, zero-add, IsPermutation, Contains}
 use Rattle.std.proofs.lemmas.Bool.{true≢false}
 use Rattle.std.proofs.lemmas.Bool.Decides.{nat_tests}
-use Rattle.std.proofs.lemmas.Cmp.{tied_itself}
 use Rattle.std.proofs.lemmas.List.{map-append}
 use Rattle.std.proofs.lemmas.List.Folds.{list_any-append}
 use Rattle.std.proofs.lemmas.List.Sorted.{Contains-permutation, IsPermutation-sym}
@@ -10,21 +9,16 @@ use Rattle.std.proofs.lemmas.List.Sums.{sum_by-cons}
 use Rattle.std.specs.List.{AllByRecursion, cons_option, filter_map as kept_of, flat_map, list_any, range_with_len}
 use Rattle.std.specs.declared.cmp.Ordering.{Ordering}
 use Rattle.std.specs.declared.cmp.Ordering.TheVariants.{Less, Equal, Greater}
-use Rattle.std.specs.Ordering.{is_eq, eq_by_cmp}
 use Rattle.profile_model.specs.Laws.{TellsApart, has}
 use Rattle.profile_model.specs.Orders.{ordered, placed, with_item}
 use Rattle.profile_model.specs.Ways.{beginnings}
 pub use Rattle.profile_model.proofs.StepLemmas.{and_first, and_second, and_both, bool_same, nat_same, nat_refl}
-use Rattle.profile_model.proofs.OrderedLemmas.{Above, has-head, ordered_is_in_order, only_ordered_is_in_order}
-
--- tests
-pub or_left : (a b : Bool) → a ≡ true → (a || b) ≡ true
-or_left true b e = refl
-or_left false b e = absurd (true≢false (sym e))
-
-pub or_right : (a b : Bool) → b ≡ true → (a || b) ≡ true
-or_right true b e = refl
-or_right false b e = e
+use Rattle.profile_model.proofs.OrderedLemmas.{ordered_is_in_order, only_ordered_is_in_order}
+pub use Rattle.list_lemmas.proofs.Each.{all_append}
+pub use Rattle.list_lemmas.proofs.Sums.{sum_passing as sum_filter, sum_same, map_same, map_map}
+pub use Rattle.list_lemmas.proofs.Among.{Among, among_right, among_left, among_either, among_map, among_map_back, among_filter, among_filter_back, all_among, among_all, part_of_sum}
+pub use Rattle.std.proofs.lemmas.Bool.{or_left, or_right}
+pub use Rattle.profile_laws.proofs.TotalLemmas.{among_from_has as has_among, has_from_among as among_has, not_among_above}
 
 -- where neither holds the first does not
 pub or_first : (a b : Bool) → (a || b) ≡ false → a ≡ false
@@ -40,67 +34,10 @@ pub bool_cases : (b : Bool) {P : Type 0} → (b ≡ true → P) → (b ≡ false
 bool_cases true f g = f refl
 bool_cases false f g = g refl
 
--- what stands in a list
-abbrev pub Among : {T : Type 0} → T → List T → Type 0
-Among x [] = ⊥
-Among x (y ∷ ys) = (x ≡ y) ⊎ Among x ys
-
-pub among_right : {T : Type 0} (x : T) (xs ys : List T) → Among x ys → Among x (xs ++ ys)
-among_right x [] ys h = h
-among_right x (y ∷ xs) ys h = inr (among_right x xs ys h)
-
-pub among_left : {T : Type 0} (x : T) (xs ys : List T) → Among x xs → Among x (xs ++ ys)
-among_left x [] ys h = absurd h
-among_left x (y ∷ xs) ys h = elim h as (λ _. (x ≡ y) ⊎ Among x (xs ++ ys)) [ inl e ↦ inl e | inr r ↦ inr (among_left x xs ys r) ]
-
-pub among_either : {T : Type 0} (x : T) (xs ys : List T) → Among x (xs ++ ys) → Among x xs ⊎ Among x ys
-among_either x [] ys h = inr h
-among_either x (y ∷ xs) ys h = elim h as (λ _. Among x (y ∷ xs) ⊎ Among x ys) [
-  | inl e ↦ inl (inl e)
-  | inr r ↦ elim (among_either x xs ys r) as (λ _. Among x (y ∷ xs) ⊎ Among x ys) [ inl l ↦ inl (inr l) | inr q ↦ inr q ]
-]
-
-pub among_map : {S T : Type 0} (f : S → T) (x : S) (xs : List S) → Among x xs → Among (f x) (map f xs)
-among_map f x [] h = absurd h
-among_map f x (y ∷ xs) h = elim h as (λ _. (f x ≡ f y) ⊎ Among (f x) (map f xs)) [ inl e ↦ inl (ap f e) | inr r ↦ inr (among_map f x xs r) ]
-
-pub among_map_back : {S T : Type 0} (f : S → T) (y : T) (xs : List S) → Among y (map f xs) → (x : S) × (Among x xs) × (y ≡ f x)
-among_map_back f y [] h = absurd h
-among_map_back {S} f y (x ∷ xs) h = elim h as (λ _. (z : S) × (Among z (x ∷ xs)) × (y ≡ f z)) [
-  | inl e ↦ (x, inl refl, e)
-  | inr r ↦ let b = among_map_back f y xs r in (b.0, inr b.1, b.2)
-]
-
-pub among_filter : {T : Type 0} (p : T → Bool) (x : T) (xs : List T) → p x ≡ true → Among x xs → Among x (filter p xs)
-among_filter p x [] t h = absurd h
-among_filter {T} p x (y ∷ xs) t h = elim h as (λ _. Among x (cond (p y) (y ∷ filter p xs) (filter p xs))) [
-  | inl e ↦ subst (λ b. Among x (cond b (y ∷ filter p xs) (filter p xs))) (sym t ∙ ap p e) (inl e)
-  | inr r ↦ elim (p y) as (λ b. Among x (cond b (y ∷ filter p xs) (filter p xs))) [ true ↦ inr (among_filter p x xs t r) | false ↦ among_filter p x xs t r ]
-]
-
-pub among_filter_back : {T : Type 0} (p : T → Bool) (x : T) (xs : List T) → Among x (filter p xs) → (p x ≡ true) × Among x xs
-among_filter_back p x [] h = absurd h
-among_filter_back p x (y ∷ xs) h =
-    elim (p y) as (λ b. p y ≡ b → Among x (cond b (y ∷ filter p xs) (filter p xs)) → (p x ≡ true) × Among x (y ∷ xs)) [
-      | true ↦ λ e g. elim g as (λ _. (p x ≡ true) × Among x (y ∷ xs)) [
-        | inl q ↦ (ap p q ∙ e, inl q)
-        | inr r ↦ let b = among_filter_back p x xs r in (b.0, inr b.1)
-      ]
-      | false ↦ λ _ g. let b = among_filter_back p x xs g in (b.0, inr b.1)
-    ] refl h
-
-pub all_among : {T : Type 0} (P : T → Type 0) (xs : List T) → ((x : T) → Among x xs → P x) → AllByRecursion P xs
-all_among P [] f = tt
-all_among P (x ∷ xs) f = (f x (inl refl), all_among P xs (λ y h. f y (inr h)))
-
 pub all_places : {T : Type 0} (P : T → Type 0) (xs : List T) → AllByRecursion P xs → (k : ℕ) (d : T) → k < length xs → P (get_or xs k d)
 all_places P [] all k d h = absurd (omega arith)
 all_places P (x ∷ xs) all zero d h = all.0
 all_places P (x ∷ xs) all (suc k) d h = all_places P xs all.1 k d (omega arith)
-
-pub among_all : {T : Type 0} (P : T → Type 0) (x : T) (xs : List T) → AllByRecursion P xs → Among x xs → P x
-among_all P x [] all h = absurd h
-among_all P x (y ∷ xs) all h = elim h as (λ _. P x) [ inl e ↦ subst P (sym e) all.0 | inr r ↦ among_all P x xs all.1 r ]
 
 among_place : {T : Type 0} (x : T) (xs : List T) → Among x xs → Contains xs x
 among_place x [] h = absurd h
@@ -161,15 +98,6 @@ range_among a (suc n) x h g = elim (here_or_further a x h) as (λ _. (x ≡ a) �
     here_or_further : (a x : ℕ) → a ≤ x → (x ≡ a) ⊎ (a + 1 ≤ x)
     here_or_further a x h = grind arith
 
--- sums
-pub map_map : {R S T : Type 0} (f : S → T) (g : R → S) (xs : List R) → map f (map g xs) ≡ map (λ x. f (g x)) xs
-map_map f g [] = refl
-map_map f g (x ∷ xs) = ap (λ ys. f (g x) ∷ ys) (map_map f g xs)
-
-pub map_same : {S T : Type 0} (f g : S → T) (xs : List S) → AllByRecursion (λ x. f x ≡ g x) xs → map f xs ≡ map g xs
-map_same f g [] same = refl
-map_same f g (x ∷ xs) same = λ i. same.0 i ∷ map_same f g xs same.1 i
-
 pub filter_map : {S T : Type 0} (p : T → Bool) (f : S → T) (xs : List S) → filter p (map f xs) ≡ map f (filter (λ x. p (f x)) xs)
 filter_map p f [] = refl
 filter_map p f (x ∷ xs) =
@@ -182,19 +110,6 @@ pub sum_map : {S T : Type 0} (f : T → ℕ) (g : S → T) (xs : List S) → sum
 sum_map f g [] = refl
 sum_map f g (x ∷ xs) = sum_by-cons f (g x) (map g xs) ∙ ap (λ n. f (g x) + n) (sum_map f g xs) ∙ sym (sum_by-cons (λ y. f (g y)) x xs)
 
-pub sum_filter : {T : Type 0} (f : T → ℕ) (p : T → Bool) (xs : List T) → sum_by f (filter p xs) ≡ sum_by (λ x. cond (p x) (f x) 0) xs
-sum_filter f p [] = refl
-sum_filter f p (x ∷ xs) =
-    elim (p x) as (λ b. sum_by f (cond b (x ∷ filter p xs) (filter p xs)) ≡ cond b (f x) 0 + sum_by (λ y. cond (p y) (f y) 0) xs) [
-      | true ↦ sum_by-cons f x (filter p xs) ∙ ap (λ n. f x + n) (sum_filter f p xs)
-      | false ↦ sum_filter f p xs ∙ sym (zero-add _)
-    ]
-    ∙ sym (sum_by-cons (λ y. cond (p y) (f y) 0) x xs)
-
-pub sum_same : {T : Type 0} (f g : T → ℕ) (xs : List T) → AllByRecursion (λ x. f x ≡ g x) xs → sum_by f xs ≡ sum_by g xs
-sum_same f g [] all = refl
-sum_same f g (x ∷ xs) all = sum_by-cons f x xs ∙ (λ i. all.0 i + sum_same f g xs all.1 i) ∙ sym (sum_by-cons g x xs)
-
 pub sum_none : {T : Type 0} (f : T → ℕ) (xs : List T) → AllByRecursion (λ x. f x ≡ 0) xs → sum_by f xs ≡ 0
 sum_none f [] all = refl
 sum_none f (x ∷ xs) all = sum_by-cons f x xs ∙ (λ i. all.0 i + sum_none f xs all.1 i)
@@ -202,13 +117,6 @@ sum_none f (x ∷ xs) all = sum_by-cons f x xs ∙ (λ i. all.0 i + sum_none f x
 pub sum_at_most : {T : Type 0} (f g : T → ℕ) (xs : List T) → AllByRecursion (λ x. f x ≤ g x) xs → sum_by f xs ≤ sum_by g xs
 sum_at_most f g [] all = omega arith
 sum_at_most f g (x ∷ xs) all = omega (arith, sum_by-cons f x xs, sum_by-cons g x xs, all.0, sum_at_most f g xs all.1)
-
-pub part_of_sum : {T : Type 0} (f : T → ℕ) (x : T) (xs : List T) → Among x xs → f x ≤ sum_by f xs
-part_of_sum f x [] h = absurd h
-part_of_sum f x (y ∷ xs) h = elim h as (λ _. f x ≤ sum_by f (y ∷ xs)) [
-  | inl e ↦ omega (arith, sum_by-cons f y xs, ap f e)
-  | inr r ↦ omega (arith, sum_by-cons f y xs, part_of_sum f x xs r)
-]
 
 pub some_in_sum : {T : Type 0} (f : T → ℕ) (xs : List T) → 0 < sum_by f xs → (x : T) × (Among x xs) × (0 < f x)
 some_in_sum f [] h = absurd (omega arith)
@@ -283,32 +191,6 @@ ordered_alike cmp t xs ys same =
     let is = ordered_is_in_order cmp t xs in
     only_ordered_is_in_order cmp t ys (ordered cmp xs) (record { ascending = is.ascending; same = λ z. is.same z ∙ same z })
 
-pub has_among : {T : Type 0} (cmp : T → T → Ordering) → TellsApart cmp → (x : T) (xs : List T) → has cmp x xs ≡ true → Among x xs
-has_among cmp t x [] e = true≢false (sym e)
-has_among cmp t x (y ∷ xs) e =
-    elim (cmp x y) as (λ r. cmp x y ≡ r → (is_eq r || has cmp x xs) ≡ true → Among x (y ∷ xs)) [
-      | Less ↦ λ _ g. inr (has_among cmp t x xs g)
-      | Equal ↦ λ q _. inl (t.apart x y q)
-      | Greater ↦ λ _ g. inr (has_among cmp t x xs g)
-    ] refl e
-
-pub among_has : {T : Type 0} (cmp : T → T → Ordering) → TellsApart cmp → (x : T) (xs : List T) → Among x xs → has cmp x xs ≡ true
-among_has cmp t x [] h = absurd h
-among_has cmp t x (y ∷ xs) h = elim h as (λ _. (eq_by_cmp cmp x y || has cmp x xs) ≡ true) [
-  | inl e ↦ ap (λ r. is_eq r || has cmp x xs) (ap (cmp x) (sym e) ∙ tied_itself t.total x)
-  | inr r ↦ elim (eq_by_cmp cmp x y) as (λ b. (b || has cmp x xs) ≡ true) [ true ↦ refl | false ↦ among_has cmp t x xs r ]
-]
-
-pub not_among_above : {T : Type 0} (cmp : T → T → Ordering) → TellsApart cmp → (x : T) (xs : List T) → Above cmp x xs → Among x xs → ⊥
-not_among_above cmp t x [] above h = h
-not_among_above cmp t x (y ∷ xs) above h = elim h as (λ _. ⊥) [
-  | inl e ↦
-      let itself : has cmp x (x ∷ []) ≡ true = has-head cmp t.total x [] in
-      let less : cmp x x ≡ Less = ap (cmp x) e ∙ above.0 in
-      true≢false (sym itself ∙ ap (λ r. is_eq r || false) less)
-  | inr r ↦ not_among_above cmp t x xs above.1 r
-]
-
 pub any_flat : {S T : Type 0} (p : T → Bool) (f : S → List T) (xs : List S) → list_any p (flat_map f xs) ≡ list_any (λ x. list_any p (f x)) xs
 any_flat p f [] = refl
 any_flat p f (x ∷ xs) = list_any-append p (f x) (flat_map f xs) ∙ ap (λ b. list_any p (f x) || b) (any_flat p f xs)
@@ -364,10 +246,6 @@ SomeAll P (x ∷ xs) = P x × AllByRecursion P xs
 some_all : {T : Type 0} (P : T → Type 0) (xs : List T) → SomeAll P xs → AllByRecursion P xs
 some_all P [] h = absurd h
 some_all P (x ∷ xs) h = h
-
-pub all_append : {T : Type 0} (P : T → Type 0) (xs ys : List T) → AllByRecursion P xs → AllByRecursion P ys → AllByRecursion P (xs ++ ys)
-all_append P [] ys all others = others
-all_append P (x ∷ xs) ys all others = (all.0, all_append P xs ys all.1 others)
 
 consed : {T : Type 0} (P : T → Type 0) (s : T) (xs : List (List T)) → P s → AllByRecursion (SomeAll P) xs → AllByRecursion (SomeAll P) (map (λ x. s ∷ x) xs)
 consed P s [] ps all = tt

@@ -20,7 +20,8 @@ use crate::lines::{Parts, lines_of};
 use crate::order::{by_name, by_total};
 use crate::sums::{heads_of, stated_of, totals_of};
 use crate::tree::Tree;
-use key_types::{Chain, KeyId, Keys, Names, Seg};
+use item_lists::Items;
+use key_types::{KeyId, Keys, Names, Seg};
 use profile_lists::{Call, counts_of, rows_of, sort_items, targets_of};
 use range_counts::Hits;
 use refusal::NoMemory;
@@ -65,8 +66,8 @@ pub fn build(
     let counts = counts_of(alloc, segments, hits, keys.len())?;
     let lines = lines_of_counts(alloc, &counts, calls, &[], heads, keys, names)?;
     Ok(Tree {
-        lines: Chain::new(lines),
-        counts: Chain::new(counts),
+        lines: Items::new(lines),
+        counts: Items::new(counts),
     })
 }
 
@@ -126,8 +127,8 @@ pub fn from_counts_with(
     let counts = stated_of(alloc, keys.len(), counts)?;
     let lines = lines_of_counts(alloc, &counts, calls, besides, heads, keys, names)?;
     Ok(Tree {
-        lines: Chain::new(lines),
-        counts: Chain::new(counts),
+        lines: Items::new(lines),
+        counts: Items::new(counts),
     })
 }
 
@@ -160,8 +161,8 @@ pub fn from_all_counts(
     heads_fit(heads);
     let lines = lines_of_counts(alloc, &counts, calls, &[], heads, keys, names)?;
     Ok(Tree {
-        lines: Chain::new(lines),
-        counts: Chain::new(counts),
+        lines: Items::new(lines),
+        counts: Items::new(counts),
     })
 }
 

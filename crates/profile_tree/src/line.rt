@@ -1,5 +1,6 @@
 // The lines of a profile.
-use key_types::{Chain, NameId};
+use item_lists::Items;
+use key_types::NameId;
 
 /// A function that was called from a line, and how often.
 #[derive(Clone, Copy, Debug, PartialEq, Eq)]
@@ -31,7 +32,7 @@ pub enum Line {
         disc: u32,
         count: u64,
         /// The functions that were called from it, those that were called most often first.
-        targets: Chain<Target>,
+        targets: Items<Target>,
     },
     /// A call in the function above that was inlined.
     Call {

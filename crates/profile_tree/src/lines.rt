@@ -3,7 +3,8 @@ ghost use Rattle.std.specs.Prelude.{◌≡◌, ◌<◌, ◌==◌, All, IfOk, fil
 ghost use Rattle.profile_tree.specs.Rows.{IsKnown, line_of, target_of};
 
 use crate::line::{Line, Target};
-use key_types::{Chain, NameId};
+use item_lists::Items;
+use key_types::NameId;
 use profile_lists::{Kind, Ranks, Row, Targets};
 use refusal::NoMemory;
 use std::alloc::Global;
@@ -59,7 +60,7 @@ fn line_of(alloc: Global, parts: &Parts, row: &Row) -> Result<Line, NoMemory>
             offset: step.offset,
             disc: step.disc,
             count: parts.counts[row.key as usize],
-            targets: Chain::new(targets_of(alloc, parts, row.key)?),
+            targets: Items::new(targets_of(alloc, parts, row.key)?),
         },
         Kind::Call => Line::Call {
             depth: row.depth,

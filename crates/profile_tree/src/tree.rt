@@ -3,14 +3,15 @@ ghost use Rattle.std.specs.Prelude.{◌≡◌, ◌∷◌, unwrap_or};
 ghost use Rattle.std.specs.List.{slice_get};
 
 use crate::line::Line;
-use key_types::{Chain, KeyId};
+use item_lists::Items;
+use key_types::KeyId;
 
 /// A profile: its lines in the order in which they are written, and the count of each key.
 #[derive(Debug, Drop)]
 pub struct Tree {
-    pub lines: Chain<Line>,
+    pub lines: Items<Line>,
     /// The count of each key, in the order of the keys' numbers.
-    pub counts: Chain<u64>,
+    pub counts: Items<u64>,
 }
 
 impl Tree {

@@ -4,30 +4,15 @@ use Rattle.std.specs.Prelude.{filter, flat_map, sum_by, IsPermutation}
 use Rattle.std.proofs.lemmas.Bool.{cases_lt, le-ltb}
 use Rattle.std.proofs.lemmas.Bool.Decides.{nat_tests}
 use Rattle.std.proofs.lemmas.List.{flat_map_more, take_more}
-use Rattle.std.proofs.lemmas.List.Elements.{All-head, All-tail, filter-append}
+use Rattle.std.proofs.lemmas.List.Elements.{All-head, All-tail}
 use Rattle.std.proofs.lemmas.List.Sorted.{sum_by-IsPermutation}
 use Rattle.std.proofs.lemmas.List.Sums.{sum_by-append, sum_by-cons}
+use Rattle.list_lemmas.proofs.Sums.{sum_passing-append, sum_passing}
 use Rattle.profile_model.specs.declared.ran_range.RanRange.{RanRange}
 use Rattle.profile_model.specs.Hits.{AreRanges, hits_at, times_of}
 use Rattle.profile_model.proofs.HitLemmas.{hits-cons, share}
 use Rattle.range_counts.specs.declared.changes.Change.{Change}
 use Rattle.range_counts.specs.Changes.{AreSound, begun_by, changes_at, ended_by, running_at}
-
--- a sum over those that pass, one by one
-sum_passing-cons : {X : Type 0} (f : X → ℕ) (p : X → Bool) (x : X) (xs : List X) → sum_by f (filter p (x ∷ xs)) ≡ cond (p x) (f x) 0 + sum_by f (filter p xs)
-sum_passing-cons {X} f p x xs = by_test (p x)
-  where
-    by_test : (t : Bool) → sum_by f (cond t (x ∷ filter p xs) (filter p xs)) ≡ cond t (f x) 0 + sum_by f (filter p xs)
-    by_test true = sum_by-cons f x (filter p xs)
-    by_test false = omega arith
-
-sum_passing : {X : Type 0} (f : X → ℕ) (p : X → Bool) (xs : List X) → sum_by f (filter p xs) ≡ sum_by (λ x. cond (p x) (f x) 0) xs
-sum_passing f p [] = refl
-sum_passing f p (x ∷ xs) =
-    sum_passing-cons f p x xs ∙ ap (λ n. cond (p x) (f x) 0 + n) (sum_passing f p xs) ∙ sym (sum_by-cons (λ x. cond (p x) (f x) 0) x xs)
-
-sum_passing-append : {X : Type 0} (f : X → ℕ) (p : X → Bool) (xs ys : List X) → sum_by f (filter p (xs ++ ys)) ≡ sum_by f (filter p xs) + sum_by f (filter p ys)
-sum_passing-append f p xs ys = ap (sum_by f) (filter-append p xs ys) ∙ sum_by-append f (filter p xs) (filter p ys)
 
 -- Of what began at an address or before it all has ended before it but the hits.
 pub record Tell (hits : ℕ → ℕ) (changes : List Change) : Type 0 where

@@ -3,8 +3,7 @@ ghost use Rattle.refusal.specs.Kind.{word_of};
 
 /// Why an input is refused: one name for each cause, the same in the program's messages.
 ///
-/// docs/FORMATS.md says of each file that is read so far which of them it can have, and where each
-/// stands. The others belong to files that are to come.
+/// docs/FORMATS.md says of each file that is read which of them it can have, and where each stands.
 #[derive(Clone, Copy, Debug, PartialEq, Eq)]
 pub enum Kind {
     // The file and its headers.

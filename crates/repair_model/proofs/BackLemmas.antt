@@ -12,6 +12,7 @@ use Rattle.std.proofs.lemmas.Grind.{flat_map-append}
 use Rattle.std.proofs.lemmas.List.{append-nil, map-append, length-append, length-map, length-drop, length-take-le, drop-drop, take_more, take_all}
 use Rattle.std.proofs.lemmas.Slice.Eq.{bytes_eq-Decides}
 use Rattle.std.proofs.lemmas.List.Folds.{list_any-append}
+use Rattle.list_lemmas.proofs.Each.{all_append}
 use Rattle.refusal.specs.Place.{first_bad}
 use Rattle.text_model.specs.Laws.{ended, HasNoLineFeed}
 use Rattle.text_model.specs.Lines.{is_line_feed, lines_of}
@@ -32,10 +33,6 @@ use Rattle.repair_model.specs.Text.{Course, Open, begun, begun_by, closed_by, co
 use Rattle.repair_model.proofs.LineLemmas.{written_lines_are_read, digit_is_no}
 
 -- ---- lists
-
-all_both : {X : Type 0} (P : X → Type 0) (xs ys : List X) → AllByRecursion P xs → AllByRecursion P ys → AllByRecursion P (xs ++ ys)
-all_both P [] ys one other = other
-all_both P (x ∷ xs) ys one other = (one.0, all_both P xs ys one.1 other)
 
 all_split : {X : Type 0} (P : X → Type 0) (xs ys : List X) → AllByRecursion P (xs ++ ys) → AllByRecursion P xs × AllByRecursion P ys
 all_split P [] ys all = (tt, all)
@@ -106,13 +103,13 @@ repair_clean : (weighed : Bool) (fun : Function) (weights edge_weights : List We
 unfolding lines_of_repair
 repair_clean weighed fun weights edge_weights (flow counts ins outs) first second clean = (
   clean,
-  all_both IsCleanName _ _
+  all_append IsCleanName _ _
       (all_mapped IsCleanName _ (numbers 0 (length fun.blocks)) (λ number. tt))
-      (all_both IsCleanName _ (ends_flow first ∷ []) (all_mapped IsCleanName _ (enumerate_from 0 fun.edges) (λ edge. tt)) (tt, tt)),
+      (all_append IsCleanName _ (ends_flow first ∷ []) (all_mapped IsCleanName _ (enumerate_from 0 fun.edges) (λ edge. tt)) (tt, tt)),
 )
 repair_clean weighed fun weights edge_weights (cut root ins outs) first second clean = (
   clean,
-  all_both IsCleanName _ (ends_cut first second ∷ []) (all_mapped IsCleanName _ (numbers 0 (length fun.blocks)) (λ number. tt)) (tt, tt),
+  all_append IsCleanName _ (ends_cut first second ∷ []) (all_mapped IsCleanName _ (numbers 0 (length fun.blocks)) (λ number. tt)) (tt, tt),
 )
 
 -- ---- the course of lines
@@ -518,7 +515,7 @@ repairs_clean weighed [] [] named are = tt
 repairs_clean weighed [] (repair ∷ repairs) named are = absurd are
 repairs_clean weighed (fun ∷ funs) [] named are = absurd are
 repairs_clean weighed (fun ∷ funs) (repair ∷ repairs) named are =
-    all_both HasNoLineFeed (map line_text (lines_of_repair weighed fun repair)) (lines_of_repairs weighed funs repairs)
+    all_append HasNoLineFeed (map line_text (lines_of_repair weighed fun repair)) (lines_of_repairs weighed funs repairs)
     (lines_clean (lines_of_repair weighed fun repair) are.0.told
     (repair_clean weighed fun repair.weights repair.edge_weights repair.solution repair.first repair.second named.0))
     (repairs_clean weighed funs repairs named.1 are.1)
@@ -558,8 +555,8 @@ written_repairs_are_read file weighed funs repairs before behind text named are 
     is ∙ ap (λ (t : List ℕ). flat_map ended before ++ (t ++ flat_map ended behind)) (repairs_joined weighed funs repairs)
     ∙ ap (λ (t : List ℕ). flat_map ended before ++ t) (sym (flat_map-append ended told behind))
     ∙ sym (flat_map-append ended before (told ++ behind)) in
-    let clean = all_both HasNoLineFeed before (told ++ behind) (passed_clean before passed)
-    (all_both HasNoLineFeed told behind (repairs_clean weighed funs repairs named are) (passed_clean behind also)) in
+    let clean = all_append HasNoLineFeed before (told ++ behind) (passed_clean before passed)
+    (all_append HasNoLineFeed told behind (repairs_clean weighed funs repairs named are) (passed_clean behind also)) in
     let same : lines_of text ≡ lines ++ [] = ap lines_of joined ∙ lines_back lines clean ∙ sym (append-nil lines) in
     let number : 1 + length before ≡ length before + 1 = omega arith in
     let numbered = numbered_repairs weighed (1 + length before) funs repairs in

@@ -1,12 +1,12 @@
 -- What is written is read.
-use Rattle.std.proofs.Common.{◌≡◌, ℕ, zero, suc, ◌<◌, ◌^◌, ◌||◌, Bool, true, false, List, [], ◌∷◌, refl, arith, ◌∙◌, ap, length, append_assoc, Some, None, All, inl, inr, subst}
+use Rattle.std.proofs.Common.{◌≡◌, ℕ, zero, suc, ◌<◌, ◌^◌, Bool, true, false, List, [], ◌∷◌, refl, arith, ◌∙◌, ap, length, append_assoc, Some, None, All, inl, inr, subst}
 use Rattle.std.specs.Prelude.{ℤ, pos, negsuc, codes, nat_lt, nat_eq, unsigned_abs}
 use Rattle.std.specs.Char.{digit_value}
 use Rattle.std.specs.Fmt.{decimal}
 use Rattle.std.specs.List.{AllByRecursion, list_any}
 use Rattle.std.specs.Str.{bytes_eq}
 use Rattle.std.specs.Str.Parse.{AllDigits, IsNumeral}
-use Rattle.std.proofs.lemmas.Bool.{lt-ltb, ltb-true, ne_eqb, cases_eq}
+use Rattle.std.proofs.lemmas.Bool.{lt-ltb, ltb-true, ne_eqb, cases_eq, or_parts}
 use Rattle.std.proofs.lemmas.Fmt.{decimal_is_IsNumeral_wide}
 use Rattle.text_model.specs.Fields.{fields_of, is_blank, is_filled}
 use Rattle.text_model.specs.Numbers.{decimal_text, number_of, signed_text}
@@ -22,14 +22,10 @@ use Rattle.repair_model.specs.Line.{begins_flow, begins_cut, tells_count, tells_
 
 -- ---- fields with one space between them
 
-either_false : (a b : Bool) → (a || b) ≡ false → (a ≡ false) × (b ≡ false)
-either_false true b e = cc
-either_false false b e = (refl, e)
-
 all_clean : (xs : List ℕ) → list_any is_blank xs ≡ false → All (λ b. is_blank b ≡ false) xs
 all_clean [] none k d within = absurd (omega (arith, within))
-all_clean (x ∷ xs) none zero d within = (either_false (is_blank x) (list_any is_blank xs) none).0
-all_clean (x ∷ xs) none (suc k) d within = all_clean xs (either_false (is_blank x) (list_any is_blank xs) none).1 k d (omega (arith, within))
+all_clean (x ∷ xs) none zero d within = (or_parts (is_blank x) (list_any is_blank xs) none).0
+all_clean (x ∷ xs) none (suc k) d within = all_clean xs (or_parts (is_blank x) (list_any is_blank xs) none).1 k d (omega (arith, within))
 
 spaced_read : (fields : List (List ℕ)) → AllByRecursion IsName fields → fields_of (spaced fields) ≡ fields
 spaced_read [] names = fields_of-nil

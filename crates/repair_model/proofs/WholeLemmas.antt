@@ -1,20 +1,18 @@
 -- Where no line of a repair text is bad, it tells all of each function.
 use Rattle.std.proofs.Common.{◌≡◌, ℕ, suc, ◌+◌, ◌^◌, ◌<◌, ◌≤◌, Bool, true, false, List, [], ◌∷◌, ◌++◌, length, map, refl, arith, ap, ◌∙◌, subst, Option, Some, None, All}
-use Rattle.std.specs.Prelude.{◌||◌, not, nat_lt, ⊤, ℤ, codes, filter, if◌then◌else◌}
+use Rattle.std.specs.Prelude.{◌||◌, not, nat_lt, ⊤, ℤ, codes, if◌then◌else◌}
 use Rattle.std.specs.Str.{bytes_eq}
-use Rattle.std.specs.List.{AllZip, flat_map}
+use Rattle.std.specs.List.{AllZip}
 use Rattle.std.specs.Option.{option_map, unwrap_or}
-use Rattle.std.proofs.lemmas.Bool.{ltb-false, ltb-true, lt-ltb}
+use Rattle.std.proofs.lemmas.Bool.{ltb-false, ltb-true, lt-ltb, or_parts, not-false}
 use Rattle.std.proofs.lemmas.List.{length-append}
 use Rattle.std.proofs.lemmas.List.Elements.{All-push, All-cons}
 use Rattle.refusal.specs.declared.kind.Kind.{Kind}
 use Rattle.refusal.specs.declared.kind.Kind.TheVariants.{BadLine, Extra, Missing}
 use Rattle.refusal.specs.declared.place.Place.{Place}
 use Rattle.refusal.specs.Place.{first_bad}
-use Rattle.text_model.specs.Lines.{lines_of, ended_lines_of}
-use Rattle.text_model.specs.Laws.{ended}
-use Rattle.text_model.proofs.LawLemmas.{lines_join}
-use Rattle.text_model.specs.Fields.{fields_of, is_filled}
+use Rattle.text_model.specs.Lines.{lines_of}
+use Rattle.text_model.specs.Fields.{fields_of}
 use Rattle.text_model.specs.Numbers.{decimal_of}
 use Rattle.block_model.specs.declared.parts.Edge.{Edge}
 use Rattle.block_model.specs.declared.parts.Weight.{Weight}
@@ -31,6 +29,7 @@ use Rattle.repair_model.specs.Line.{Line, line_of, weight_of, counted_of, sided_
 use Rattle.repair_model.specs.Line.{begins_flow, begins_cut, tells_count, tells_sides, tells_edge, ends_flow, ends_cut}
 use Rattle.repair_model.specs.Repair.{Repair, Solution, flow, cut, has_counts, told_edges}
 use Rattle.repair_model.specs.Text.{Course, Open, begun, course_behind, closed_by, ended_by, inside, opened_at, begun_by, repairs_from, with_count, with_sides, with_edge}
+pub use Rattle.text_model.proofs.LawLemmas.{lines_fewer}
 
 -- ---- the weights that lines tell are small
 
@@ -190,14 +189,6 @@ no_cause : (holds : Bool) (kind : Kind) (more : Option Kind) → (if holds then 
 no_cause true kind more none = absurd (cc)
 no_cause false kind more none = (refl, none)
 
-not_false : (b : Bool) → not b ≡ false → b ≡ true
-not_false true is = refl
-not_false false is = absurd (cc)
-
-either_false : (a b : Bool) → (a || b) ≡ false → (a ≡ false) × (b ≡ false)
-either_false true b e = cc
-either_false false b e = (refl, e)
-
 length-push : {A : Type 0} (xs : List A) (x : A) → length (xs ++ x ∷ []) ≡ suc (length xs)
 length-push xs x = omega (arith, length-append xs (x ∷ []))
 
@@ -224,7 +215,7 @@ unfolding cause_of_block
 block_due fun told number has_form none =
     let one = no_cause (not has_form) BadLine _ none in
     let two = no_cause (not (is_block_due fun told)) Extra _ one.1 in
-    (not_false has_form one.0, ltb-true (length told.weights) (length fun.blocks) (not_false (is_block_due fun told) two.0))
+    (not-false has_form one.0, ltb-true (length told.weights) (length fun.blocks) (not-false (is_block_due fun told) two.0))
 
 edge_due : (fun : Function) (told : Repair) (from to : ℕ) → cause_of_edge fun told from to ≡ None
     → length told.edge_weights < length (told_edges fun told.solution)
@@ -232,7 +223,7 @@ unfolding cause_of_edge
 edge_due fun told from to none =
     let one = no_cause (is_block_due fun told) Missing _ none in
     let two = no_cause (not (is_edge_due fun told)) Extra _ one.1 in
-    ltb-true (length told.edge_weights) (length (told_edges fun told.solution)) (not_false (is_edge_due fun told) two.0)
+    ltb-true (length told.edge_weights) (length (told_edges fun told.solution)) (not-false (is_edge_due fun told) two.0)
 
 nothing_due : (fun : Function) (told : Repair) (has_form : Bool) → cause_of_end has_form fun told ≡ None
     → (has_form ≡ true) × (length fun.blocks ≤ length told.weights) × (length (told_edges fun told.solution) ≤ length told.edge_weights)
@@ -240,8 +231,8 @@ unfolding cause_of_end
 nothing_due fun told has_form none =
     let one = no_cause (not has_form) BadLine _ none in
     let two = no_cause (is_block_due fun told || is_edge_due fun told) Missing _ one.1 in
-    let both = either_false (is_block_due fun told) (is_edge_due fun told) two.0 in
-    (not_false has_form one.0, ltb-false (length told.weights) (length fun.blocks) both.0, ltb-false (length told.edge_weights) (length (told_edges fun told.solution)) both.1)
+    let both = or_parts (is_block_due fun told) (is_edge_due fun told) two.0 in
+    (not-false has_form one.0, ltb-false (length told.weights) (length fun.blocks) both.0, ltb-false (length told.edge_weights) (length (told_edges fun told.solution)) both.1)
 
 count_more : (fun : Function) (weights edge_weights : List Weight) (solution : Solution) (first second : ℕ) (number : ℕ) (weight : Weight) (count : ℕ) (enter leave : ℤ)
     → IsSoFar fun (told_repair weights edge_weights solution first second) → IsLight weight
@@ -439,29 +430,6 @@ lines_tell file (line ∷ lines) number few left (Some opened) held good =
     (lines_tell file lines (number + 1) (omega (arith, few))) held.0 held.1 (line_light line) parts.0 parts.1
 
 -- ---- a text has no more lines than bytes
-
-length-ended : (lines : List (List ℕ)) → length lines ≤ length (flat_map ended lines)
-length-ended [] = omega arith
-length-ended (line ∷ lines) =
-    let more = length-ended lines in
-    omega (arith, more, length-append (ended line) (flat_map ended lines), length-append line (10 ∷ []))
-
-length-filled : (rest : List ℕ) → length (filter is_filled (rest ∷ [])) ≤ length rest
-length-filled [] = omega arith
-length-filled (b ∷ rest) = rw (lt-ltb 0 (length (b ∷ rest)) (omega arith)) (omega arith)
-
-pub lines_fewer : (text : List ℕ) → length (lines_of text) ≤ length text
-lines_fewer text =
-    let (rest, made) = lines_join text in
-    omega (
-      arith,
-      ap length made.joined,
-      ap length made.all,
-      length-append (flat_map ended (ended_lines_of text)) rest,
-      length-append (ended_lines_of text) (filter is_filled (rest ∷ [])),
-      length-ended (ended_lines_of text),
-      length-filled rest,
-    )
 
 pub good_repairs_are_whole : GoodRepairsAreWhole
 good_repairs_are_whole file funs text few good =

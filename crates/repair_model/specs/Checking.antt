@@ -1,4 +1,5 @@
--- Whether repairs keep what they promise: each line of a repair behind its first has a test.
+-- Whether repairs keep what they promise: each line of a repair behind its first has a test. Those of blocks and edges
+-- are the facts of `Passing` in the flow's model, as Booleans; that both agree is the law `passing_lines_repair`.
 use Rattle.std.specs.Prelude.{ℕ, ◌+◌, ◌-◌, ◌==◌, nat_le, nat_lt, Bool, true, false, not, ◌&&◌, ◌||◌, List, [], ◌∷◌, ◌++◌, map, Option, None, Some, ℤ, pos, ◌-ℤ◌, int_le, if◌then◌else◌}
 use Rattle.std.specs.Option.{option_or}
 use Rattle.block_model.specs.declared.parts.Edge.{Edge}

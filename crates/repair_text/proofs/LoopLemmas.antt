@@ -10,6 +10,7 @@ use Rattle.text_model.specs.Laws.{ended}
 use Rattle.repair_model.specs.Line.{Line, line_text, fits_price}
 use Rattle.std.specs.Prelude.{Bool, Option, None, Some, ℤ, pos, negsuc, neg_ℤ, ◌≤ℤ◌, ◌<ℤ◌, slice_index_or, if◌then◌else◌}
 use Rattle.std.specs.Option.{option_map, unwrap_or}
+use Rattle.list_lemmas.proofs.Each.{all_append}
 use Rattle.block_model.specs.declared.parts.Edge.{Edge}
 use Rattle.block_model.specs.declared.parts.Weight.{Weight}
 use Rattle.block_model.specs.declared.parts.Weight.TheVariants.{Unknown, Known}
@@ -158,10 +159,6 @@ first_fits : (name : List ℕ) (solution : Solution) → FitsBits (first_line na
 first_fits name (flow counts ins outs) = tt
 first_fits name (cut root ins outs) = tt
 
-all_both : {X : Type 0} (P : X → Type 0) (xs ys : List X) → AllByRecursion P xs → AllByRecursion P ys → AllByRecursion P (xs ++ ys)
-all_both P [] ys one other = other
-all_both P (x ∷ xs) ys one other = (one.0, all_both P xs ys one.1 other)
-
 -- the numbers in all lines of a repair fit, where those of its blocks, its edges and its end do
 pub repair_fits : (weighed : Bool) (fun : Function) (repair : Repair)
     → AllByRecursion FitsBits (lines_of_blocks (length fun.blocks) repair.weights repair.solution)
@@ -170,7 +167,7 @@ pub repair_fits : (weighed : Bool) (fun : Function) (repair : Repair)
     → AllByRecursion FitsBits (lines_of_repair weighed fun repair)
 unfolding lines_of_repair
 repair_fits weighed fun repair blocks edges last =
-    (first_fits fun.name repair.solution, all_both FitsBits _ _ blocks (all_both FitsBits _ _ edges (last, tt)))
+    (first_fits fun.name repair.solution, all_append FitsBits _ _ blocks (all_append FitsBits _ _ edges (last, tt)))
 
 -- ---- the parts of a repair's text
 

@@ -13,7 +13,7 @@ use crate::repair::Repair;
 use crate::said::Said;
 use cfg_text::{Edge, Fun, Weight};
 use flow_network::{Flow, Nodes, Prices, Solved};
-use io_edge::Items;
+use item_lists::Items;
 use refusal::{Kind, NoMemory};
 use std::alloc::Global;
 

@@ -1,6 +1,6 @@
 use cfg_text::Weight;
 use flow_network::Solved;
-use io_edge::Items;
+use item_lists::Items;
 
 /// What a text tells of a function of a block text.
 #[derive(Debug, Drop)]

@@ -170,7 +170,7 @@ fn binary(alloc: Global, functions: u64) -> Result<Vec<u8>, CaseStop> {
 }
 
 #[test]
-fn what_is_written_of_a_generated_case(rt: HostRuntime) -> Result<(), test::Fail> {
+fn good_words_are_done(rt: HostRuntime) -> Result<(), test::Fail> {
     let alloc = rt.alloc();
     let bin = binary(alloc, 1)?;
     let cases: [(&[&[u8]], &[u8]); 4] = [

@@ -1,8 +1,9 @@
 -- Pairs of numbers in their order, and ascending lists of them.
-use Rattle.std.proofs.Common.{◌≡◌, ℕ, Bool, true, false, ◌||◌, cond, List, [], ◌∷◌, refl, sym, ap, subst, ◌∙◌, arith}
+use Rattle.std.proofs.Common.{◌≡◌, ℕ, true, false, ◌||◌, cond, List, [], ◌∷◌, refl, sym, ap, subst, ◌∙◌, arith}
 use Rattle.std.specs.List.{AllByRecursion}
 use Rattle.std.proofs.lemmas.Bool.{true≢false}
 use Rattle.std.proofs.lemmas.Bool.Decides.{nat_tests}
+use Rattle.list_lemmas.proofs.Tests.{or_swap, or_same}
 use Rattle.sample_model.specs.Pairs.{same_pair, pair_lt, with_pair, distinct_pairs}
 use Rattle.sample_model.specs.Laws.{IsAscending, has_pair, HaveSamePairs, DistinctPairsAscend, DistinctPairsAreUnique}
 
@@ -53,15 +54,6 @@ IsAscending-with_pair p (q ∷ pairs) ascending =
         | false ↦ λ not_same. (above-with_pair q p pairs (pair_lt-else p q not_below not_same) ascending.0, IsAscending-with_pair p pairs ascending.1)
       ] refl
     ] refl
-
-or_swap : (a b c : Bool) → (b || (a || c)) ≡ (a || (b || c))
-or_swap true true c = refl
-or_swap true false c = refl
-or_swap false b c = refl
-
-or_same : (a c : Bool) → (a || c) ≡ (a || (a || c))
-or_same true c = refl
-or_same false c = refl
 
 has_pair-with_pair : (r p : ℕ × ℕ) (pairs : List (ℕ × ℕ)) → has_pair r (with_pair p pairs) ≡ (same_pair r p || has_pair r pairs)
 has_pair-with_pair r p [] = refl

@@ -4,12 +4,7 @@ use Rattle.std.specs.List.{list_all, filter_map, before_first, after_first}
 use Rattle.text_model.specs.Fields.{fields_of}
 use Rattle.text_model.specs.LineTests.{contains, is_blank_line, is_comment}
 use Rattle.text_model.specs.Numbers.{hex_of, prefixed_of}
-
--- What the function gives of the value, if there is one: what `do` below chains by.
-infixl 10 ◌>>=◌
-abbrev pub ◌>>=◌ : {A B : Type 0} → Option A → (A → Option B) → Option B
-None >>= f = None
-(Some x) >>= f = f x
+pub use Rattle.text_model.specs.Numbers.{◌>>=◌}
 
 -- The number, if it fits 64 bits.
 abbrev pub within_64_bits : ℕ → Option ℕ

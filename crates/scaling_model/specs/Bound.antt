@@ -4,7 +4,7 @@ use Rattle.std.specs.List.{All}
 use Rattle.flow_model.specs.Network.{Network, arcs_of}
 use Rattle.residual_model.specs.Residual.{starting}
 
--- With the greatest counts to start from, all counts on the way are numbers of 64 bits.
+-- The most binary digits of a count to start from: with so many, all counts on the way are numbers of 64 bits.
 abbrev pub most_digits : ℕ
 most_digits = 36
 
@@ -12,7 +12,7 @@ most_digits = 36
 abbrev pub StartWithin : ℕ → Network → Type 0
 StartWithin digits net = All (λ arc. starting arc < 2 ^ digits) (arcs_of net)
 
--- What the augmentations of a network are counted by: it has at most twice as many arcs.
+-- The size by which the augmentations of a network are bounded. It has at most twice as many arcs.
 abbrev pub size_of : Network → ℕ
 size_of net = length net.blocks + length net.edges + 1
 

@@ -55,7 +55,8 @@ IsHalfOf half arc =
     (half ≡ halved_arc arc)
     ⊎ ((lower : ℕ) × (lower ≤ 1) × (half ≡ free_arc arc.tail arc.head lower) × (arc ≡ free_arc arc.tail arc.head lower))
 
--- A count is within the bounds and prices fit it, and it is at most one unit away from the double of another.
+-- A count m is within the bounds and prices fit it, and the double of n, a count in coarse units, is at most one unit
+-- away from it.
 pub record IsRefined (price : ℕ → ℤ) (arc : Arc) (n m : ℕ) : Type 0 where
   pub within : IsWithin arc m
   pub fits : FitsOn price arc m

@@ -8,8 +8,8 @@ abbrev pub rise_on : (ℕ → ℤ) → Arc → ℤ
 rise_on price arc = price arc.head -ℤ price arc.tail
 
 -- A count set right by at most one unit, where the price rises by so much on the arc: it is raised where it is below
--- the lower bound; and lowered where it is above the upper bound, or where it is above the lower bound and the weight
--- and its last unit costs more than the price rises.
+-- the lower bound. It is lowered where it is above the upper bound, and also above lower bound and weight where its
+-- last unit costs more than the price rises.
 abbrev pub set_right : ℤ → Arc → ℕ → ℕ
 set_right rise arc n =
     if nat_lt n arc.lower then n + 1

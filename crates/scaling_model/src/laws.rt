@@ -25,8 +25,8 @@ pub fn coarse_starts_are_small()
     ensures { CoarseStartsAreSmall }
 {}
 
-/// What is within the bounds of an arc in units of twice the size, and fits prices, is at most one
-/// unit away from what does so here.
+/// Where a count is within the bounds of an arc in units of twice the size, and prices fit it, its
+/// double is at most one unit away from a count of which both hold here.
 ///
 /// Source: "Network Flows", 10.2.
 pub fn refined_counts_fit()

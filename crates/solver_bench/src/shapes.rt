@@ -7,7 +7,7 @@ ghost use Rattle.solver_bench.specs.Edges.{AreEdges};
 
 use cfg_text::{Block, Bound, Edge, Fun, Weight};
 use flow_network::{Net, net_of};
-use io_edge::Items;
+use item_lists::Items;
 use refusal::NoMemory;
 use std::alloc::Global;
 

@@ -7,6 +7,7 @@ use Rattle.std.proofs.lemmas.List.{length_push, nil_from_length}
 use Rattle.std.proofs.lemmas.Bool.Decides.{nat_tests}
 use Rattle.std.proofs.lemmas.List.Elements.{All-from_recursion}
 use Rattle.std.proofs.lemmas.List.Quantifiers.{all_pairs_push}
+use Rattle.list_lemmas.proofs.Each.{all_append, all_push}
 use Rattle.refusal.specs.declared.kind.Kind.{Kind}
 use Rattle.refusal.specs.declared.kind.Kind.TheVariants.{BadLine, TooManyBlocks, BlockOrder, BlockEmpty, BlockOverlap, TooManyEdges, EdgeEnd, EdgeTwice, NoBlocks, BadBound}
 use Rattle.refusal.specs.declared.place.Place.{Place}
@@ -41,14 +42,6 @@ Keeps (Some fun) = IsOpen fun
 
 abbrev Sound : Function → Type 0
 Sound fun = IsSound fun.blocks fun.edges × AreApart fun.blocks fun.edges
-
-all_push : {A : Type 0} (P : A → Type 0) (xs : List A) (x : A) → AllByRecursion P xs → P x → AllByRecursion P (xs ++ x ∷ [])
-all_push P [] x all here = (here, tt)
-all_push P (y ∷ xs) x all here = (all.0, all_push P xs x all.1 here)
-
-all_append : {A : Type 0} (P : A → Type 0) (xs ys : List A) → AllByRecursion P xs → AllByRecursion P ys → AllByRecursion P (xs ++ ys)
-all_append P [] ys all also = also
-all_append P (x ∷ xs) ys all also = (all.0, all_append P xs ys all.1 also)
 
 none_at : {A : Type 0} (p : A → Bool) (xs : List A) (k : ℕ) (d : A) → list_any p xs ≡ false → k < length xs → p (get_or xs k d) ≡ false
 none_at p [] k d none within = absurd (omega (arith, within))

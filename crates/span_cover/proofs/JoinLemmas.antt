@@ -1,7 +1,8 @@
 -- Spans with those that touch made one.
-use Rattle.std.proofs.Common.{◌≡◌, ℕ, ◌-◌, ◌^◌, ◌<◌, ◌≤◌, Bool, true, false, List, [], ◌∷◌, Some, refl, sym, ap, ◌∙◌, arith}
+use Rattle.std.proofs.Common.{◌≡◌, ℕ, ◌-◌, ◌^◌, ◌<◌, ◌≤◌, true, false, List, [], ◌∷◌, Some, refl, sym, ap, ◌∙◌, arith}
 use Rattle.std.specs.Prelude.{nat_lt, nat_le}
 use Rattle.std.proofs.lemmas.Bool.Decides.{nat_tests}
+use Rattle.list_lemmas.proofs.Tests.{by_test}
 use Rattle.address_spans.specs.declared.span.Span.{Span}
 use Rattle.address_spans.specs.Spans.{holds, owner_at, AreBetween, AreDisjoint}
 use Rattle.address_spans.proofs.SpanLemmas.{held, owner-hit, owner-miss}
@@ -26,10 +27,6 @@ goes_on-cons x y ys filled before apart rest =
 
 pub goes_on-end : (x : Span) → x.lo < x.hi → x.hi ≤ 2 ^ 64 - 1 → goes_on x [] ≡ true
 goes_on-end x filled below = grind (arith, nat_tests)
-
-by_test : {P : Type 0} (t : Bool) → (t ≡ true → P) → (t ≡ false → P) → P
-by_test true when unless = when refl
-by_test false when unless = unless refl
 
 -- a joined list behind a stretch
 joined-follows : (p x : Span) (xs : List Span) → p.lo < p.hi → p.hi ≤ x.lo → touch p x ≡ false → x.lo < x.hi → AreBetween x.hi (2 ^ 64 - 1) xs

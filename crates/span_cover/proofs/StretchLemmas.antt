@@ -2,6 +2,7 @@
 use Rattle.std.proofs.Common.{◌≡◌, ◌≢◌, ◌↔◌, ℕ, suc, ◌+◌, ◌-◌, ◌^◌, ◌<◌, ◌≤◌, Bool, true, false, List, [], ◌∷◌, Option, None, Some, IsSome, refl, sym, ◌∙◌, arith, length}
 use Rattle.std.specs.Prelude.{◌&&◌, not, nat_lt, nat_le}
 use Rattle.std.proofs.lemmas.Bool.Decides.{nat_tests}
+use Rattle.list_lemmas.proofs.Tests.{by_test}
 use Rattle.address_spans.specs.declared.span.Span.{Span}
 use Rattle.address_spans.specs.Spans.{holds, owner_at, AreBetween, AreDisjoint}
 use Rattle.address_spans.proofs.SpanLemmas.{held, missed-behind, owner-hit, owner-miss, owner-before}
@@ -39,10 +40,6 @@ between x (y ∷ ys) from low on = let s = step x y ys on in (low, s.filled, bet
 pub stretches-disjoint : (xs : List Span) → are_stretches xs ≡ true → AreDisjoint xs
 stretches-disjoint [] are = omega arith
 stretches-disjoint (x ∷ xs) are = between x xs 0 (omega arith) are
-
-by_test : {P : Type 0} (t : Bool) → (t ≡ true → P) → (t ≡ false → P) → P
-by_test true when unless = when refl
-by_test false when unless = unless refl
 
 -- where a stretch ends none of its function begins
 ends : (x : Span) (xs : List Span) → goes_on x xs ≡ true → owner_at xs x.hi ≡ Some x.owner → ⊥

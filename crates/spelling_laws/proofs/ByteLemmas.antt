@@ -5,12 +5,11 @@ use Rattle.std.specs.Char.{digit_value}
 use Rattle.std.specs.List.{AllByRecursion, list_any}
 use Rattle.std.specs.Str.Parse.{AllDigits, IsNumeral}
 use Rattle.std.proofs.ByRecursion.{All-append}
-use Rattle.std.proofs.lemmas.Bool.{true≢false}
+use Rattle.std.proofs.lemmas.Bool.{true≢false, or_parts}
 use Rattle.std.proofs.lemmas.Bool.Decides.{nat_tests}
 use Rattle.std.proofs.lemmas.Fmt.{decimal_is_IsNumeral_wide}
 use Rattle.std.proofs.lemmas.List.Elements.{All-from_recursion}
 use Rattle.std.proofs.lemmas.List.Splits.{slice_split_at, slice_split_none}
-use Rattle.profile_laws.proofs.OnceLemmas.{or_neither}
 use Rattle.profile_model.specs.Names.{begins_no_name, is_name, parts_names}
 use Rattle.profile_model.specs.Reading.{parts_at}
 
@@ -39,7 +38,7 @@ decimal_lacks c n none small = digits_lack c none (decimal n) (numeral_of n smal
 name_parts : (c : ℕ) → parts_names c ≡ true → (bytes : List ℕ) → list_any parts_names bytes ≡ false → Lacks c bytes
 name_parts c is [] none = tt
 name_parts c is (b ∷ bytes) none =
-    let neither = or_neither (parts_names b) (list_any parts_names bytes) none in
+    let neither = or_parts (parts_names b) (list_any parts_names bytes) none in
     (other_byte b c (λ e. true≢false (sym is ∙ ap parts_names (sym e) ∙ neither.0)), name_parts c is bytes neither.1)
 
 -- What is known of a name.

@@ -5,6 +5,7 @@ use Rattle.std.specs.List.{AllByRecursion}
 use Rattle.std.specs.List.Sorted.{IsStrictlySortedBy}
 use Rattle.std.proofs.lemmas.Bool.{true≢false, cases_lt}
 use Rattle.std.proofs.lemmas.List.Elements.{filter_map-append}
+use Rattle.list_lemmas.proofs.Among.{among_left, among_right, among_map, among_flat, among_filter, among_filter_back, among_all}
 use Rattle.merge_laws.proofs.SumLemmas.{kept_sum, kept_more, number_in-both}
 use Rattle.profile_model.proofs.OrderLemmas.{targets_tell_apart}
 use Rattle.profile_model.proofs.OrderedLemmas.{Above, ordered_is_in_order}
@@ -15,11 +16,10 @@ use Rattle.profile_model.specs.Orders.{target_cmp}
 use Rattle.profile_model.specs.Profile.{Profile, function_line, body_line, call_line, count_of, target_of, head_of, total_of, targets_of, recorded, entered, written, line_at}
 use Rattle.profile_model.specs.Spelled.{What, head, count, target, Number, as_call, as_count, as_head, number_in, numbers_on, profile_by}
 use Rattle.profile_model.specs.Ways.{Step, Way, body, call, to_function, same_name, same_way, beginnings, last_step}
-use Rattle.profile_laws.proofs.CountLemmas.{counted, filter_from, name_itself}
+use Rattle.profile_laws.proofs.CountLemmas.{counted, name_itself}
 use Rattle.profile_laws.proofs.OnceLemmas.{of_targets, way_told}
-use Rattle.profile_laws.proofs.TotalLemmas.{Among, among_append_left, among_append_right, among_filter, among_flat, among_from_has, among_map, has_from_among, not_among_above}
+use Rattle.profile_laws.proofs.TotalLemmas.{Among, among_from_has, has_from_among, not_among_above}
 use Rattle.spelling_laws.specs.Told.{CanBeWritten, EndInBody, IsToldWay, IsBodyStep, IsCallStep}
-use Rattle.spelling_laws.proofs.PathLemmas.{all_among}
 use Rattle.spelling_laws.proofs.OrderLemmas.{cmp_of, tells_of, written_is}
 use Rattle.spelling_laws.proofs.LineLemmas.{numbers_told, target_times, targets_ascend}
 use Rattle.spelling_laws.proofs.WayLemmas.{IsLineWay, LineOf, a_function, a_body, a_call, line_of_way}
@@ -50,7 +50,6 @@ abbrev share : Profile → ℕ → Way → What → ℕ
 share p n way what = number_of (numbers_on n way (line_at p way)) what
 
 none_told : (p : Profile) (what : What) (n : ℕ) (ways : List Way) → ((way : Way) → Among way ways → (m : ℕ) → share p m way what ≡ 0) → number_of (numbers_told p n ways) what ≡ 0
-unfolding Among
 none_told p what n [] none = none_of what
 none_told p what n (way ∷ ways) none =
     numbers_both (numbers_on n way (line_at p way)) (numbers_told p (n + 1) ways) what
@@ -59,7 +58,7 @@ none_told p what n (way ∷ ways) none =
 one_told : (p : Profile) (what : What) (x : Way) (number n : ℕ) (ways : List Way) → IsStrictlySortedBy (cmp_of p) ways → Among x ways
     → ((way : Way) → Among way ways → (way ≡ x → ⊥) → (m : ℕ) → share p m way what ≡ 0) → ((m : ℕ) → share p m x what ≡ number)
     → number_of (numbers_told p n ways) what ≡ number
-unfolding Among IsStrictlySortedBy
+unfolding IsStrictlySortedBy
 one_told p what x number n [] up there none is = absurd there
 one_told p what x number n (way ∷ ways) up there none is =
     numbers_both (numbers_on n way (line_at p way)) (numbers_told p (n + 1) ways) what
@@ -179,7 +178,6 @@ zero_either_way false n e = refl
 -- a name that no target has, and one that a target has
 none_named : (way : Way) (name : List ℕ) (targets : List (List ℕ × ℕ)) → ((t : List ℕ × ℕ) → Among t targets → same_name name t.0 ≡ true → t.1 ≡ 0)
     → kept_sum (λ (c : Way × List ℕ × ℕ). same_way way c.0 && same_name name c.1) (λ c. c.2) (map (λ (t : List ℕ × ℕ). (way, t.0, t.1)) targets) ≡ 0
-unfolding Among
 none_named way name [] none = refl
 none_named way name (t ∷ targets) none =
     kept_more (λ (c : Way × List ℕ × ℕ). same_way way c.0 && same_name name c.1) (λ c. c.2) (way, t.0, t.1) (map (λ (t : List ℕ × ℕ). (way, t.0, t.1)) targets)
@@ -196,7 +194,7 @@ none_named way name (t ∷ targets) none =
 one_named : (way : Way) (name : List ℕ) (x : List ℕ × ℕ) (targets : List (List ℕ × ℕ)) → IsStrictlySortedBy target_cmp targets → Among x targets → same_name name x.0 ≡ true
     → ((t : List ℕ × ℕ) → Among t targets → same_name name t.0 ≡ true → t ≡ x)
     → kept_sum (λ (c : Way × List ℕ × ℕ). same_way way c.0 && same_name name c.1) (λ c. c.2) (map (λ (t : List ℕ × ℕ). (way, t.0, t.1)) targets) ≡ x.1
-unfolding Among IsStrictlySortedBy
+unfolding IsStrictlySortedBy
 one_named way name x [] up there is only = absurd there
 one_named way name x (t ∷ targets) up there is only =
     kept_more (λ (c : Way × List ℕ × ℕ). same_way way c.0 && same_name name c.1) (λ c. c.2) (way, t.0, t.1) rest
@@ -230,19 +228,18 @@ one_named way name x (t ∷ targets) up there is only =
 -- ---- what is counted is written
 
 itself_begins : (s : Step) (way : Way) → Among (s ∷ way) (beginnings (s ∷ way))
-unfolding Among
 itself_begins s [] = inl refl
 itself_begins s (t ∷ way) = inr (among_map (λ front. s ∷ front) (t ∷ way) (beginnings (t ∷ way)) (itself_begins t way))
 
 recorded_written : (p : Profile) (way : Way) → CanBeWritten p → Among way (recorded p) → Among way (written p)
-recorded_written p [] can there = absurd (all_among IsToldWay [] (recorded p) can.keys there)
+recorded_written p [] can there = absurd (among_all IsToldWay [] (recorded p) can.keys there)
 recorded_written p (s ∷ way) can there =
-    written_is p (s ∷ way) (among_flat beginnings (s ∷ way) (s ∷ way) (recorded p ++ entered p) (among_append_left (s ∷ way) (recorded p) (entered p) there) (itself_begins s way))
+    written_is p (s ∷ way) (among_flat beginnings (s ∷ way) (s ∷ way) (recorded p ++ entered p) (among_left (s ∷ way) (recorded p) (entered p) there) (itself_begins s way))
 
 counted_recorded : (p : Profile) (way : Way) → 0 < count_of p way → Among way (recorded p)
 counted_recorded p way some =
     let from = counted (λ (c : Way × ℕ). same_way way c.0) (λ c. c.1) p.counts some in
-    among_append_left way (map (λ c. c.0) (filter (λ c. nat_lt 0 c.1) p.counts)) (map (λ c. c.0) (filter (λ c. nat_lt 0 c.2) p.calls))
+    among_left way (map (λ c. c.0) (filter (λ c. nat_lt 0 c.1) p.counts)) (map (λ c. c.0) (filter (λ c. nat_lt 0 c.2) p.calls))
     (subst (λ w. Among w (map (λ c. c.0) (filter (λ c. nat_lt 0 c.1) p.counts))) (sym (same_ways way from.0.0 from.2))
     (among_map (λ (c : Way × ℕ). c.0) from.0 (filter (λ c. nat_lt 0 c.1) p.counts) from.1))
 
@@ -266,12 +263,11 @@ is_called p way name some =
 called_recorded : (p : Profile) (way : Way) (name : List ℕ) → 0 < target_of p way name → Among way (recorded p)
 called_recorded p way name some =
     let from = is_called p way name some in
-    among_append_right way (map (λ c. c.0) (filter (λ c. nat_lt 0 c.1) p.counts)) (map (λ c. c.0) (filter (λ c. nat_lt 0 c.2) p.calls))
+    among_right way (map (λ c. c.0) (filter (λ c. nat_lt 0 c.1) p.counts)) (map (λ c. c.0) (filter (λ c. nat_lt 0 c.2) p.calls))
     (subst (λ w. Among w (map (λ c. c.0) (filter (λ c. nat_lt 0 c.2) p.calls))) (sym from.way_is)
     (among_map (λ (c : Way × List ℕ × ℕ). c.0) from.call (filter (λ c. nat_lt 0 c.2) p.calls) from.there))
 
 entered_written : (p : Profile) (name : List ℕ) → 0 < head_of p name → Among (to_function name ∷ []) (written p)
-unfolding Among
 entered_written p name some =
     let from = counted (λ (h : List ℕ × ℕ). same_name name h.0) (λ h. h.1) p.heads some in
     let same : name ≡ from.0.0 = (bytes_decides name from.0.0).0 from.2 in
@@ -279,7 +275,7 @@ entered_written p name some =
     subst (λ n. Among (to_function n ∷ []) (written p)) (sym same)
     (written_is p (to_function from.0.0 ∷ [])
     (among_flat beginnings (to_function from.0.0 ∷ []) (to_function from.0.0 ∷ []) (recorded p ++ entered p)
-    (among_append_right (to_function from.0.0 ∷ []) (recorded p) (entered p) there) (inl refl)))
+    (among_right (to_function from.0.0 ∷ []) (recorded p) (entered p) there) (inl refl)))
 
 -- What has a number above 0 is on the line of its way.
 counted_is_written : (p : Profile) (what : What) → CanBeWritten p → 0 < number_in p what → Among (way_told what) (written p)
@@ -313,14 +309,14 @@ zero_or_more : (n : ℕ) → (0 < n → ⊥) → n ≡ 0
 zero_or_more n none = elim (cases_lt 0 n) as (λ _. n ≡ 0) [ inl some ↦ absurd (none some) | inr least ↦ omega arith ]
 
 told_key : (p : Profile) (way : Way) → CanBeWritten p → Among way (recorded p) → IsToldWay way
-told_key p way can there = all_among IsToldWay way (recorded p) can.keys there
+told_key p way can there = among_all IsToldWay way (recorded p) can.keys there
 
 -- the targets of a body line
 target_there : (p : Profile) (way : Way) (name : List ℕ) → 0 < target_of p way name → Among (name, target_of p way name) (targets_of p way)
 target_there p way name some =
     let from = is_called p way name some in
     let c = from.call in
-    let kept = filter_from (λ (d : Way × List ℕ × ℕ). nat_lt 0 d.2) c p.calls from.there in
+    let kept = among_filter_back (λ (d : Way × List ℕ × ℕ). nat_lt 0 d.2) c p.calls from.there in
     let items : List (List ℕ × ℕ) = map (λ c. (c.1, target_of p way c.1)) (filter (λ c. same_way way c.0 && nat_lt 0 c.2) p.calls) in
     let here : Among c (filter (λ c. same_way way c.0 && nat_lt 0 c.2) p.calls) =
     among_filter (λ (d : Way × List ℕ × ℕ). same_way way d.0 && nat_lt 0 d.2) c p.calls
@@ -375,10 +371,10 @@ numbers_are_own p what n can all up =
       | true ↦ λ e.
           let there = among_from_has (cmp_of p) (tells_of p) (way_told what) (written p) e in
           one_told p what (way_told what) (number_in p what) n (written p) up there
-          (λ way h differs m. nothing_elsewhere p what way (all_among IsLineWay way (written p) all h) differs m)
-          (λ m. its_own p what can (all_among IsLineWay (way_told what) (written p) all there) m)
+          (λ way h differs m. nothing_elsewhere p what way (among_all IsLineWay way (written p) all h) differs m)
+          (λ m. its_own p what can (among_all IsLineWay (way_told what) (written p) all there) m)
       | false ↦ λ e.
           let lacks : Among (way_told what) (written p) → ⊥ = λ h. true≢false (sym (has_from_among (cmp_of p) (tells_of p) (way_told what) (written p) h) ∙ e) in
-          none_told p what n (written p) (λ way h m. nothing_elsewhere p what way (all_among IsLineWay way (written p) all h) (λ same. lacks (subst (λ w. Among w (written p)) same h)) m)
+          none_told p what n (written p) (λ way h m. nothing_elsewhere p what way (among_all IsLineWay way (written p) all h) (λ same. lacks (subst (λ w. Among w (written p)) same h)) m)
           ∙ sym (zero_or_more (number_in p what) (λ some. lacks (counted_is_written p what can some)))
     ] refl

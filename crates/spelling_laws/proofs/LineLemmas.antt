@@ -6,6 +6,7 @@ use Rattle.std.specs.List.Sorted.{IsStrictlySortedBy}
 use Rattle.std.specs.declared.cmp.Ordering.TheVariants.{Less, Equal}
 use Rattle.std.proofs.lemmas.Bool.{true≢false, le-ltb}
 use Rattle.std.proofs.lemmas.Cmp.{tied_itself}
+use Rattle.list_lemmas.proofs.Among.{among_filter, among_map_back, among_filter_back, all_among, among_all}
 use Rattle.refusal.specs.Place.{first_bad}
 use Rattle.profile_model.proofs.OrderLemmas.{targets_tell_apart}
 use Rattle.profile_model.proofs.OrderedLemmas.{ordered_is_in_order}
@@ -17,14 +18,13 @@ use Rattle.profile_model.specs.Spelled.{Number, numbers_on, numbers_of_line, num
 use Rattle.profile_model.specs.Standing.{depth_of, targets_on, again_among, has_twice, tells_again}
 use Rattle.profile_model.specs.Names.{is_name}
 use Rattle.profile_model.specs.Ways.{Way, same_name, same_way}
-use Rattle.profile_laws.proofs.CountLemmas.{filter_from, map_from}
-use Rattle.profile_laws.proofs.TotalLemmas.{Among, among_filter, among_from_has, has_from_among}
+use Rattle.profile_laws.proofs.TotalLemmas.{Among, among_from_has, has_from_among}
 use Rattle.spelling_laws.specs.Lines.{CanBeTold, IsNamed}
 use Rattle.spelling_laws.specs.Told.{CanBeWritten}
 use Rattle.spelling_laws.proofs.ReadLemmas.{line_text_is_read}
 use Rattle.spelling_laws.proofs.TextLemmas.{texts_of}
-use Rattle.spelling_laws.proofs.PathLemmas.{all_among, lines, stands, way_is, ways_are}
-use Rattle.spelling_laws.proofs.OrderLemmas.{Stand, all_by, cmp_of, has_open, one_on, tells_of}
+use Rattle.spelling_laws.proofs.PathLemmas.{lines, stands, way_is, ways_are}
+use Rattle.spelling_laws.proofs.OrderLemmas.{Stand, cmp_of, has_open, one_on, tells_of}
 use Rattle.spelling_laws.proofs.WayLemmas.{IsLineWay, LineOf, a_function, a_body, a_call, depth_is, line_of_way}
 
 -- ---- targets
@@ -35,7 +35,7 @@ called_of p way = map (λ c. (c.1, target_of p way c.1)) (filter (λ c. same_way
 pub target_from : (p : Profile) (way : Way) (t : List ℕ × ℕ) → Among t (targets_of p way)
     → (c : Way × List ℕ × ℕ) × Among c (filter (λ c. same_way way c.0 && nat_lt 0 c.2) p.calls) × (t ≡ (c.1, target_of p way c.1))
 target_from p way t there =
-    map_from (λ c. (c.1, target_of p way c.1)) t (filter (λ c. same_way way c.0 && nat_lt 0 c.2) p.calls)
+    among_map_back (λ c. (c.1, target_of p way c.1)) t (filter (λ c. same_way way c.0 && nat_lt 0 c.2) p.calls)
     (among_from_has target_cmp targets_tell_apart t (called_of p way)
     (sym ((ordered_is_in_order target_cmp targets_tell_apart (called_of p way)).same t) ∙ has_from_among target_cmp targets_tell_apart t (targets_of p way) there))
 
@@ -48,15 +48,15 @@ target_times p way t there =
     ap (λ (u : List ℕ × ℕ). u.1) from.2 ∙ ap (λ (u : List ℕ × ℕ). target_of p way u.0) (sym from.2)
 
 targets_named : (p : Profile) (way : Way) → CanBeWritten p → AllByRecursion IsNamed (targets_of p way)
-targets_named p way can = all_by IsNamed (targets_of p way) each
+targets_named p way can = all_among IsNamed (targets_of p way) each
   where
     each : (t : List ℕ × ℕ) → Among t (targets_of p way) → IsNamed t
     each t there =
         let from = target_from p way t there in
         let c = from.0 in
-        let kept = filter_from (λ c. same_way way c.0 && nat_lt 0 c.2) c p.calls from.1 in
+        let kept = among_filter_back (λ c. same_way way c.0 && nat_lt 0 c.2) c p.calls from.1 in
         let called = among_filter (λ (d : Way × List ℕ × ℕ). nat_lt 0 d.2) c p.calls (and_second (same_way way c.0) (nat_lt 0 c.2) kept.0) kept.1 in
-        let name : is_name c.1 ≡ true = all_among (λ (d : Way × List ℕ × ℕ). is_name d.1 ≡ true) c (filter (λ d. nat_lt 0 d.2) p.calls) can.callees called in
+        let name : is_name c.1 ≡ true = among_all (λ (d : Way × List ℕ × ℕ). is_name d.1 ≡ true) c (filter (λ d. nat_lt 0 d.2) p.calls) can.callees called in
         subst IsNamed (sym from.2) (name, can.targets_fit way c.1)
 
 -- ---- each line can be told
@@ -97,25 +97,25 @@ names targets = map (λ target. target.0) targets
 
 new_names : (before : List (List ℕ)) (targets : List (List ℕ × ℕ)) → ((t u : List ℕ × ℕ) → Among t targets → Among u targets → target_cmp t u ≡ Less → same_name t.0 u.0 ≡ false)
     → IsStrictlySortedBy target_cmp targets → AllByRecursion (λ t. list_any (same_name t.0) before ≡ false) targets → again_among before (names targets) ≡ false
-unfolding again_among IsStrictlySortedBy Among
+unfolding again_among IsStrictlySortedBy
 new_names before [] differ up new = refl
 new_names before (t ∷ targets) differ up new =
     ap (λ b. b || again_among (t.0 ∷ before) (names targets)) new.0
     ∙ new_names (t.0 ∷ before) targets (λ u v h g. differ u v (inr h) (inr g)) up.1
-    (all_by (λ u. list_any (same_name u.0) (t.0 ∷ before) ≡ false) targets
-    (λ u h. ap (λ b. b || list_any (same_name u.0) before) (turned u h) ∙ all_among (λ v. list_any (same_name v.0) before ≡ false) u targets new.1 h))
+    (all_among (λ u. list_any (same_name u.0) (t.0 ∷ before) ≡ false) targets
+    (λ u h. ap (λ b. b || list_any (same_name u.0) before) (turned u h) ∙ among_all (λ v. list_any (same_name v.0) before ≡ false) u targets new.1 h))
   where
     turned : (u : List ℕ × ℕ) → Among u targets → same_name u.0 t.0 ≡ false
     turned u h =
         elim (same_name u.0 t.0) as (λ b. same_name u.0 t.0 ≡ b → b ≡ false) [
           | true ↦ λ e.
               absurd (true≢false (sym ((bytes_decides t.0 u.0).1 (sym ((bytes_decides u.0 t.0).0 e)))
-              ∙ differ t u (inl refl) (inr h) (all_among (λ v. target_cmp t v ≡ Less) u targets up.0 h)))
+              ∙ differ t u (inl refl) (inr h) (among_all (λ v. target_cmp t v ≡ Less) u targets up.0 h)))
           | false ↦ λ _. refl
         ] refl
 
 once_told : (p : Profile) (way : Way) → has_twice (names (targets_of p way)) ≡ false
-once_told p way = new_names [] (targets_of p way) (names_differ p way) (targets_ascend p way) (all_by (λ t. list_any (same_name t.0) [] ≡ false) (targets_of p way) (λ t h. refl))
+once_told p way = new_names [] (targets_of p way) (names_differ p way) (targets_ascend p way) (all_among (λ t. list_any (same_name t.0) [] ≡ false) (targets_of p way) (λ t h. refl))
 
 once_on : (p : Profile) (way : Way) → IsLineWay way → has_twice (names (targets_on (line_at p way))) ≡ false
 unfolding again_among

@@ -5,16 +5,16 @@ use Rattle.std.specs.List.Sorted.{IsStrictlySortedBy}
 use Rattle.std.specs.Ordering.{ordering_reverse}
 use Rattle.std.specs.declared.cmp.Ordering.{Ordering}
 use Rattle.std.specs.declared.cmp.Ordering.TheVariants.{Less, Greater}
+use Rattle.list_lemmas.proofs.Among.{among_map, among_flat, among_either, among_map_back, among_flat_back, all_among, among_all}
 use Rattle.profile_model.proofs.OrderLemmas.{step_total, ways_tell_apart}
 use Rattle.profile_model.proofs.OrderedLemmas.{ordered_is_in_order}
 use Rattle.profile_model.specs.Laws.{TellsApart}
 use Rattle.profile_model.specs.Orders.{step_cmp, way_cmp}
 use Rattle.profile_model.specs.Profile.{Profile, total_of_function, recorded, entered, written}
 use Rattle.profile_model.specs.Ways.{Step, Way, beginnings, last_step}
-use Rattle.profile_laws.proofs.CountLemmas.{append_from, flat_from, map_from}
-use Rattle.profile_laws.proofs.TotalLemmas.{Among, among_flat, among_from_has, among_map, has_from_among, written_ascends}
+use Rattle.profile_laws.proofs.TotalLemmas.{Among, among_from_has, has_from_among, written_ascends}
 use Rattle.spelling_laws.specs.Told.{CanBeWritten, IsToldWay, IsFunctionWay}
-use Rattle.spelling_laws.proofs.PathLemmas.{Descend, HasOpen, ArePathed, all_among, front_is_less, opens}
+use Rattle.spelling_laws.proofs.PathLemmas.{Descend, HasOpen, ArePathed, front_is_less, opens}
 use Rattle.spelling_laws.proofs.WayLemmas.{IsLineWay, but_last, but_last_length, function_lines, joined, key_lines}
 
 abbrev pub cmp_of : Profile → Way → Way → Ordering
@@ -22,11 +22,6 @@ cmp_of p = way_cmp (total_of_function p)
 
 pub tells_of : (p : Profile) → TellsApart (cmp_of p)
 tells_of p = ways_tell_apart (total_of_function p)
-
-pub all_by : {T : Type 0} (P : T → Type 0) (xs : List T) → ((x : T) → Among x xs → P x) → AllByRecursion P xs
-unfolding Among
-all_by P [] each = tt
-all_by P (x ∷ xs) each = (each x (inl refl), all_by P xs (λ y h. each y (inr h)))
 
 -- ---- which ways are written
 
@@ -44,14 +39,14 @@ written_is p way there =
     ((ordered_is_in_order (cmp_of p) (tells_of p) (items_of p)).same way ∙ has_from_among (cmp_of p) (tells_of p) way (items_of p) there)
 
 pub written_lines : (p : Profile) → CanBeWritten p → AllByRecursion IsLineWay (written p)
-written_lines p can = all_by IsLineWay (written p) each
+written_lines p can = all_among IsLineWay (written p) each
   where
     each : (way : Way) → Among way (written p) → IsLineWay way
     each way there =
-        let from = flat_from beginnings way (recorded p ++ entered p) (written_from p way there) in
-        elim (append_from from.0 (recorded p) (entered p) from.1) as (λ _. IsLineWay way) [
-          | inl key ↦ key_lines from.0 (all_among IsToldWay from.0 (recorded p) can.keys key) way from.2
-          | inr name ↦ function_lines from.0 (all_among IsFunctionWay from.0 (entered p) can.functions name) way from.2
+        let from = among_flat_back beginnings way (recorded p ++ entered p) (written_from p way there) in
+        elim (among_either from.0 (recorded p) (entered p) from.1) as (λ _. IsLineWay way) [
+          | inl key ↦ key_lines from.0 (among_all IsToldWay from.0 (recorded p) can.keys key) way from.2
+          | inr name ↦ function_lines from.0 (among_all IsFunctionWay from.0 (entered p) can.functions name) way from.2
         ]
 
 no_rest : (s t : Step) (way : Way) (u : Step) → s ∷ t ∷ way ≡ u ∷ [] → ⊥
@@ -67,12 +62,11 @@ rest_of_way (s ∷ way) = way
 
 -- a beginning without its last step is one too
 shorter_begins : (key : Way) (s t : Step) (way : Way) → Among (s ∷ t ∷ way) (beginnings key) → Among (s ∷ but_last t way) (beginnings key)
-unfolding Among
 shorter_begins [] s t way there = absurd there
 shorter_begins (u ∷ key) s t way there = elim there as (λ _. Among (s ∷ but_last t way) (beginnings (u ∷ key))) [
   | inl e ↦ absurd (no_rest s t way u e)
   | inr r ↦
-      let from = map_from (λ front. u ∷ front) (s ∷ t ∷ way) (beginnings key) r in
+      let from = among_map_back (λ front. u ∷ front) (s ∷ t ∷ way) (beginnings key) r in
       let first : s ≡ u = ap (head_of_way u) from.2 in
       let behind : t ∷ way ≡ from.0 = ap rest_of_way from.2 in
       subst (λ v. Among (v ∷ but_last t way) (beginnings (u ∷ key))) (sym first)
@@ -86,7 +80,7 @@ shorter_begins (u ∷ key) s t way there = elim there as (λ _. Among (s ∷ but
 
 pub written_closed : (p : Profile) (s t : Step) (way : Way) → Among (s ∷ t ∷ way) (written p) → Among (s ∷ but_last t way) (written p)
 written_closed p s t way there =
-    let from = flat_from beginnings (s ∷ t ∷ way) (recorded p ++ entered p) (written_from p (s ∷ t ∷ way) there) in
+    let from = among_flat_back beginnings (s ∷ t ∷ way) (recorded p ++ entered p) (written_from p (s ∷ t ∷ way) there) in
     written_is p (s ∷ but_last t way) (among_flat beginnings (s ∷ but_last t way) from.0 (recorded p ++ entered p) from.1 (shorter_begins from.0 s t way from.2))
 
 -- ---- one behind the other
@@ -119,7 +113,7 @@ less_or_greater : Less ≡ Greater → ⊥
 less_or_greater e = cc
 
 pub has_open : (p : Profile) (before : List Way) (way : Way) (rest : List Way) → Stand p before (way ∷ rest) → HasOpen way before
-unfolding Among IsStrictlySortedBy
+unfolding IsStrictlySortedBy
 has_open p before [] rest stand = absurd stand.next.0
 has_open p before (s ∷ []) rest stand = tt
 has_open p before (s ∷ t ∷ way) rest stand =
@@ -131,7 +125,7 @@ has_open p before (s ∷ t ∷ way) rest stand =
       | inr here ↦ elim here as (λ _. HasOpen (s ∷ t ∷ way) before) [
         | inl same ↦ let sizes = ap length same in let size = but_last_length t way in absurd (omega (arith, sizes, size))
         | inr later ↦
-            let less : cmp_of p (s ∷ t ∷ way) v ≡ Less = all_among (λ y. cmp_of p (s ∷ t ∷ way) y ≡ Less) v rest stand.up.0 later in
+            let less : cmp_of p (s ∷ t ∷ way) v ≡ Less = among_all (λ y. cmp_of p (s ∷ t ∷ way) y ≡ Less) v rest stand.up.0 later in
             let front : cmp_of p v (s ∷ t ∷ way) ≡ Less =
             subst (λ w. cmp_of p v w ≡ Less) (joined s (t ∷ way)) (front_is_less (step_cmp (total_of_function p)) (step_total (total_of_function p)) v (last_step t way)) in
             absurd (less_or_greater (sym less ∙ (tells_of p).total.antisymm (s ∷ t ∷ way) v ∙ ap ordering_reverse front))
@@ -143,7 +137,7 @@ both_all P Q [] one other = tt
 both_all P Q (x ∷ xs) one other = ((one.0, other.0), both_all P Q xs one.1 other.1)
 
 pub one_on : (p : Profile) (before : List Way) (way : Way) (rest : List Way) → Stand p before (way ∷ rest) → Stand p (way ∷ before) rest
-unfolding Among IsStrictlySortedBy
+unfolding IsStrictlySortedBy
 one_on p before way rest stand = record {
   known = (stand.next.0, stand.known);
   next = stand.next.1;

@@ -1,5 +1,5 @@
 -- Ways in order: each line stands below the nearest one before it that it goes on from.
-use Rattle.std.proofs.Common.{◌≡◌, ◌⊎◌, ◌<◌, ℕ, suc, ◌==◌, ◌||◌, nat_lt, Bool, true, false, cond, List, [], ◌∷◌, ◌++◌, map, length, Some, refl, sym, ap, subst, ◌∙◌, inl, inr, arith}
+use Rattle.std.proofs.Common.{◌≡◌, ◌⊎◌, ◌<◌, ℕ, suc, ◌==◌, ◌||◌, nat_lt, Bool, true, false, cond, List, [], ◌∷◌, ◌++◌, map, length, Some, refl, sym, ap, ◌∙◌, inl, inr, arith}
 use Rattle.std.specs.Prelude.{⊤}
 use Rattle.std.specs.Cmp.{IsTotalOrder}
 use Rattle.std.specs.Cmp.Lexicographic.{slice_cmp}
@@ -9,6 +9,7 @@ use Rattle.std.specs.declared.cmp.Ordering.{Ordering}
 use Rattle.std.specs.declared.cmp.Ordering.TheVariants.{Less, Equal, Greater}
 use Rattle.std.proofs.lemmas.Bool.{lt-ltb, le-ltb}
 use Rattle.std.proofs.lemmas.Cmp.{tied_itself}
+use Rattle.list_lemmas.proofs.Among.{among_all}
 use Rattle.profile_model.specs.Profile.{Profile, Line, line_at}
 use Rattle.profile_model.specs.Standing.{depth_of, step_of, encloses_if_any, line_above, can_stand, way_above, way_of, ways_of}
 use Rattle.profile_model.specs.Ways.{Step, Way, last_step}
@@ -66,18 +67,12 @@ abbrev pub Descend : (Way → Way → Ordering) → List Way → Type 0
 Descend cmp [] = ⊤
 Descend cmp (way ∷ ways) = AllByRecursion (λ x. cmp x way ≡ Less) ways × Descend cmp ways
 
-pub all_among : {T : Type 0} (P : T → Type 0) (x : T) (xs : List T) → AllByRecursion P xs → Among x xs → P x
-unfolding Among
-all_among P x [] all there = absurd there
-all_among P x (y ∷ xs) all there = elim there as (λ _. P x) [ inl e ↦ subst P (sym e) all.0 | inr r ↦ all_among P x xs all.1 r ]
-
 pub opens : (cmp : Step → Step → Ordering) → IsTotalOrder cmp → (v : Way) (s : Step) (ways : List Way)
     → Descend (slice_cmp cmp) ways → AllByRecursion (λ x. slice_cmp cmp x (v ++ s ∷ []) ≡ Less) ways → Among v ways → OpensAt v ways
-unfolding Among
 opens cmp o v s [] down before there = there
 opens cmp o v s (x ∷ ways) down before there = elim there as (λ _. OpensAt v (x ∷ ways)) [
   | inl e ↦ inl (sym e)
-  | inr r ↦ inr (between_is_longer cmp o v x s (all_among (λ y. slice_cmp cmp y x ≡ Less) v ways down.0 r) before.0, opens cmp o v s ways down.1 before.1 r)
+  | inr r ↦ inr (between_is_longer cmp o v x s (among_all (λ y. slice_cmp cmp y x ≡ Less) v ways down.0 r) before.0, opens cmp o v s ways down.1 before.1 r)
 ]
 
 -- ---- the lines of ways that have what they go on from open

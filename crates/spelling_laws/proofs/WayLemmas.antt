@@ -43,7 +43,6 @@ in_front s [] is rest = absurd (let none = rest.some in omega arith)
 in_front s (t ∷ way) is rest = record { ends = (is, rest.ends); some = omega arith }
 
 among_longer : (P : Way → Type 0) (s : Step) (ways : List Way) → ((way : Way) → Among way ways → P (s ∷ way)) → (way : Way) → Among way (map (λ front. s ∷ front) ways) → P way
-unfolding Among
 among_longer P s [] each way there = absurd there
 among_longer P s (first ∷ ways) each way there = elim there as (λ _. P way) [
   | inl e ↦ subst P (sym e) (each first (inl refl))
@@ -52,7 +51,6 @@ among_longer P s (first ∷ ways) each way there = elim there as (λ _. P way) [
 
 -- lengths of beginnings
 pub beginning_length : (key : Way) (way : Way) → Among way (beginnings key) → length way ≤ length key
-unfolding Among
 beginning_length [] way there = absurd there
 beginning_length (s ∷ key) way there = elim there as (λ _. length way ≤ suc (length key)) [
   | inl e ↦ let is = ap length e in omega arith
@@ -60,7 +58,6 @@ beginning_length (s ∷ key) way there = elim there as (λ _. length way ≤ suc
 ]
 
 ends_in_line : (key : Way) → EndInBody key → (way : Way) → Among way (beginnings key) → IsBeginning way
-unfolding Among
 ends_in_line [] ends way there = absurd ends
 ends_in_line (s ∷ []) ends way there = elim there as (λ _. IsBeginning way) [
   | inl e ↦ subst IsBeginning (sym e) (record { ends = inr ends; some = omega arith })
@@ -72,7 +69,6 @@ ends_in_line (s ∷ t ∷ key) ends way there = elim there as (λ _. IsBeginning
 ]
 
 pub key_lines : (key : Way) → IsToldWay key → (way : Way) → Among way (beginnings key) → IsLineWay way
-unfolding Among
 key_lines [] told way there = absurd told
 key_lines (s ∷ key) told way there = elim there as (λ _. IsLineWay way) [
   | inl e ↦ subst IsLineWay (sym e) (told.0, tt, omega arith)
@@ -81,7 +77,6 @@ key_lines (s ∷ key) told way there = elim there as (λ _. IsLineWay way) [
 ]
 
 pub function_lines : (key : Way) → IsFunctionWay key → (way : Way) → Among way (beginnings key) → IsLineWay way
-unfolding Among
 function_lines [] told way there = absurd told
 function_lines (s ∷ []) told way there = elim there as (λ _. IsLineWay way) [
   | inl e ↦ subst IsLineWay (sym e) (told, tt, omega arith)

@@ -1,12 +1,13 @@
 -- The laws.
-use Rattle.std.proofs.Common.{◌≡◌, ℕ, zero, suc, ◌<◌, ◌||◌, Bool, true, false, List, [], ◌∷◌, ◌++◌, map, filter, refl, arith, sym, ◌∙◌, ap, length, append_assoc, Some, All, inl, inr}
+use Rattle.std.proofs.Common.{◌≡◌, ℕ, zero, suc, ◌<◌, ◌≤◌, Bool, true, false, List, [], ◌∷◌, ◌++◌, map, filter, refl, arith, sym, ◌∙◌, ap, length, append_assoc, Some, All, inl, inr}
 use Rattle.std.proofs.Common.{subst}
 use Rattle.std.specs.Prelude.{ℤ, pos, negsuc, drop, unsigned_abs, nat_eq, ◌^◌}
 use Rattle.std.specs.Char.{is_digit, digit_value}
 use Rattle.std.specs.List.{AllByRecursion, flat_map, list_all, list_any}
 use Rattle.std.specs.Fmt.{digits, decimal}
 use Rattle.std.specs.Str.Parse.{AllDigits, IsNumeral, digits_value}
-use Rattle.std.proofs.lemmas.Bool.{and_parts, lt-ltb, ltb-true, eqb-true, ne_eqb, cases_eq}
+use Rattle.std.proofs.lemmas.Bool.{and_parts, lt-ltb, ltb-true, eqb-true, ne_eqb, cases_eq, or_parts}
+use Rattle.std.proofs.lemmas.List.{length-append}
 use Rattle.std.proofs.lemmas.Fmt.{digits_is_IsNumeral, decimal_is_IsNumeral_wide}
 use Rattle.text_model.specs.Fields.{fields_of, is_blank, is_filled}
 use Rattle.text_model.specs.Lines.{is_line_feed, lines_of, ended_lines_of}
@@ -55,14 +56,10 @@ hex_text_is_read n small =
 
 -- ---- lines
 
-either_false : (a b : Bool) → (a || b) ≡ false → (a ≡ false) × (b ≡ false)
-either_false true b e = cc
-either_false false b e = (refl, e)
-
 none_from_any : (p : ℕ → Bool) (xs : List ℕ) → list_any p xs ≡ false → All (λ b. p b ≡ false) xs
 none_from_any p [] none k d within = absurd (omega (arith, within))
-none_from_any p (x ∷ xs) none zero d within = (either_false (p x) (list_any p xs) none).0
-none_from_any p (x ∷ xs) none (suc k) d within = none_from_any p xs (either_false (p x) (list_any p xs) none).1 k d (omega (arith, within))
+none_from_any p (x ∷ xs) none zero d within = (or_parts (p x) (list_any p xs) none).0
+none_from_any p (x ∷ xs) none (suc k) d within = none_from_any p xs (or_parts (p x) (list_any p xs) none).1 k d (omega (arith, within))
 
 rest_lines : (rest : List ℕ) → HasNoLineFeed rest → (ended_lines_of rest ≡ []) × (lines_of rest ≡ filter is_filled (rest ∷ []))
 rest_lines [] clean = (ended_lines_of-last [] (none_from_any is_line_feed [] refl), lines_of-nil)
@@ -176,3 +173,28 @@ unfolding IsSomeLine
 fields_join line =
     let (parts, lead, rest, made) = line_apart line in
     (parts, lead, rest, rw (fields_split line _ parts lead rest made) made)
+
+-- ---- a text has no more lines than bytes
+
+length-ended : (lines : List (List ℕ)) → length lines ≤ length (flat_map ended lines)
+length-ended [] = omega arith
+length-ended (line ∷ lines) =
+    let more = length-ended lines in
+    omega (arith, more, length-append (ended line) (flat_map ended lines), length-append line (10 ∷ []))
+
+length-filled : (rest : List ℕ) → length (filter is_filled (rest ∷ [])) ≤ length rest
+length-filled [] = omega arith
+length-filled (b ∷ rest) = rw (lt-ltb 0 (length (b ∷ rest)) (omega arith)) (omega arith)
+
+pub lines_fewer : (text : List ℕ) → length (lines_of text) ≤ length text
+lines_fewer text =
+    let (rest, made) = lines_join text in
+    omega (
+      arith,
+      ap length made.joined,
+      ap length made.all,
+      length-append (flat_map ended (ended_lines_of text)) rest,
+      length-append (ended_lines_of text) (filter is_filled (rest ∷ [])),
+      length-ended (ended_lines_of text),
+      length-filled rest,
+    )

@@ -1,7 +1,7 @@
 -- A text contains a needle exactly where it is made of a front, the needle and a rest.
-use Rattle.std.proofs.Common.{◌≡◌, ℕ, suc, Bool, true, false, ◌||◌, nat_eq, List, [], ◌∷◌, ◌++◌, length, drop, refl, sym, ap, subst, arith}
+use Rattle.std.proofs.Common.{◌≡◌, ℕ, suc, true, false, ◌||◌, nat_eq, List, [], ◌∷◌, ◌++◌, length, drop, refl, sym, ap, subst, arith}
 use Rattle.std.specs.List.{starts_with}
-use Rattle.std.proofs.lemmas.Bool.{eqb-true}
+use Rattle.std.proofs.lemmas.Bool.{eqb-true, or_left, or_right}
 use Rattle.std.proofs.lemmas.Bool.Decides.{Decides-eqb}
 use Rattle.std.proofs.lemmas.Slice.Eq.{starts_is}
 use Rattle.text_model.specs.LineTests.{contains}
@@ -17,20 +17,12 @@ starts_with-front needle rest = (starts_is Decides-eqb (needle ++ rest) needle _
 front-starts_with : (text needle : List ℕ) → starts_with nat_eq text needle ≡ true → text ≡ needle ++ drop (length needle) text
 front-starts_with text needle starts = (starts_is Decides-eqb text needle _ refl).0 starts
 
-true_or : (a b : Bool) → a ≡ true → (a || b) ≡ true
-true_or true b is = refl
-true_or false b is = absurd (cc)
-
-or_true : (a b : Bool) → b ≡ true → (a || b) ≡ true
-or_true true b is = refl
-or_true false b is = is
-
 -- a text contains what stands in it
 pub contains-parts : (front needle rest : List ℕ) → contains (front ++ (needle ++ rest)) needle ≡ true
 contains-parts [] [] [] = refl
 contains-parts [] [] (b ∷ rest) = refl
-contains-parts [] (n ∷ needle) rest = true_or _ _ (starts_with-front (n ∷ needle) rest)
-contains-parts (b ∷ front) needle rest = or_true _ _ (contains-parts front needle rest)
+contains-parts [] (n ∷ needle) rest = or_left _ _ (starts_with-front (n ∷ needle) rest)
+contains-parts (b ∷ front) needle rest = or_right _ _ (contains-parts front needle rest)
 
 -- where it stands
 pub parts-contains : (text needle : List ℕ) → contains text needle ≡ true → (front : List ℕ) × (rest : List ℕ) × (text ≡ front ++ (needle ++ rest))

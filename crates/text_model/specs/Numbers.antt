@@ -1,11 +1,21 @@
 -- Numbers in text: what digits spell, and how a number is printed.
-use Rattle.std.specs.Prelude.{ℕ, Bool, false, ◌&&◌, nat_lt, nat_eq, List, ◌++◌, length, drop, codes, Option, Some, None, if◌then◌else◌}
+use Rattle.std.specs.Prelude.{ℕ, ◌^◌, Bool, false, ◌&&◌, nat_lt, nat_eq, List, ◌++◌, length, drop, codes, Option, Some, None, if◌then◌else◌}
 use Rattle.std.specs.Prelude.{ℤ, pos, neg_ℤ}
 use Rattle.std.specs.Char.{is_digit}
 use Rattle.std.specs.Fmt.{decimal, digits, signed_decimal}
 use Rattle.std.specs.List.{list_all, starts_with}
 use Rattle.std.specs.Option.{option_map}
 use Rattle.std.specs.Str.Parse.{digits_value}
+
+-- What the function gives of the value, if there is one: what a `do` of options chains by.
+infixl 10 ◌>>=◌
+abbrev pub ◌>>=◌ : {A B : Type 0} → Option A → (A → Option B) → Option B
+None >>= f = None
+(Some x) >>= f = f x
+
+-- The number, if it fits so many bits.
+abbrev pub within_bits : ℕ → ℕ → Option ℕ
+within_bits bits n = if nat_lt n (2 ^ bits) then Some n else None
 
 -- At least one digit of the base, and nothing else.
 abbrev pub is_numeral : ℕ → List ℕ → Bool

@@ -1,12 +1,12 @@
 use Rattle.std.proofs.Common.{List, false, None, subst, ◌∙◌}
 use Rattle.std.specs.List.{AllZip}
 use Rattle.std.proofs.lemmas.List.{take_all, take_more}
+use Rattle.list_lemmas.proofs.Each.{all_zip_push}
 use Rattle.block_model.specs.declared.parts.Block.{Block}
 use Rattle.key_types.specs.Segments.{key_told}
 use Rattle.weight_model.specs.Blocks.{IsWeightOf}
 use Rattle.block_weights.specs.Counts.{count_in}
 use Rattle.block_weights.proofs.SmallLemmas.{weights_are_small}
-use Rattle.block_weights.proofs.WeightLemmas.{all_zip_push}
 use Rattle.block_weights.proofs.blocks.weights.Goals as goal
 
 -- what a place past the end of a slice reads as

@@ -1,7 +1,8 @@
 use Rattle.std.proofs.Common.{◌<◌, arith, ap, get_or, refl}
+use Rattle.key_types.proofs.SearchLemmas.{get_or-within}
 use Rattle.chain_model.specs.declared.member.Member.{Member}
 use Rattle.context_map.specs.Paths.{nobody}
-use Rattle.context_map.proofs.ParentLemmas.{climb-before, get_or-within, member-is}
+use Rattle.context_map.proofs.ParentLemmas.{climb-before, member-is}
 use Rattle.context_map.proofs.NameLemmas.{ClimbedSoFar-more, ClimbedSoFar-all}
 use Rattle.context_map.proofs.context.context_of.Goals as goal
 

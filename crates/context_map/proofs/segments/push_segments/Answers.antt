@@ -1,7 +1,8 @@
 use Rattle.std.proofs.Common.{◌≡◌, ◌∷◌, suc, ℕ, List, subst, drop, drop-cons, get_or, add-one, rules}
 use Rattle.std.proofs.lemmas.List.{drop_all}
+use Rattle.std.proofs.lemmas.Result.{on_ok_weaker}
 use Rattle.row_table.specs.Told.{told}
-use Rattle.context_map.proofs.PartLemmas.{SoFar, SoFar-none, SoFar-on, SoFar-more, SoFar-all, on_ok}
+use Rattle.context_map.proofs.PartLemmas.{SoFar, SoFar-none, SoFar-on, SoFar-more, SoFar-all}
 use Rattle.context_map.proofs.UsedLemmas.{KeepUp-more}
 use Rattle.context_map.proofs.segments.push_segments.Goals as goal
 
@@ -28,9 +29,9 @@ loop-cut-preserved c =
 
 pub returns-clause-told : goal.returns-clause-told
 returns-clause-told c =
-    on_ok c.push_part-2.result
+    on_ok_weaker c.push_part-2.result
     (SoFar-all _ _ _ _ _ _ _ _ _ _ _ _ _ _ _ _ c.loop-cut.invariant.1 (drop_all _ _ c.loop-cut-test.false))
     c.push_part-2.ensures.told
 
 pub returns-clause-used : goal.returns-clause-used
-returns-clause-used c = on_ok c.push_part-2.result (KeepUp-more _ _ _ _ _ _ c.loop-cut.invariant.1.used) c.push_part-2.ensures.used
+returns-clause-used c = on_ok_weaker c.push_part-2.result (KeepUp-more _ _ _ _ _ _ c.loop-cut.invariant.1.used) c.push_part-2.ensures.used

@@ -1,9 +1,10 @@
 use Rattle.std.proofs.Common.{◌≡◌, Option, Some, None, sym, ap, ◌∙◌, arith}
 use Rattle.std.specs.Option.{option_map}
+use Rattle.std.proofs.lemmas.Result.{on_ok_weaker}
 use Rattle.row_table.specs.Told.{told}
 use Rattle.context_map.specs.declared.named.Named.{Named}
 use Rattle.context_map.specs.Parts.{line_and_disc, shown}
-use Rattle.context_map.proofs.PartLemmas.{Extends-none, on_ok}
+use Rattle.context_map.proofs.PartLemmas.{Extends-none}
 use Rattle.context_map.specs.Maps.{rows_of, table_of}
 use Rattle.context_map.proofs.PartsLemmas.{show-nameless, show-rowless, rowless, rows-by, Extends-same}
 use Rattle.context_map.proofs.span.push_span.Goals as goal
@@ -24,7 +25,7 @@ returns-clause-told c =
     let base = c.args.rules.base in
     let named = c.in-Some.named in
     let table : table_of c.args.rows.now c.args.context.now.unit ≡ Some c.in-Some-table_of.table.now = sym c.in-Some-table_of.ensures in
-    on_ok c.push_segments.result
+    on_ok_weaker c.push_segments.result
     (Extends-same _ _ (λ a. shown base c.args.context.now.named (rows_of c.args.rows.now c.args.context.now.unit a)) (λ a. shown base (Some named) (option_map line_and_disc (told c.in-Some-table_of.table.now a))) _ _ _ _
     (λ a.
     ap (λ (n : Option Named). shown base n (rows_of c.args.rows.now c.args.context.now.unit a)) c.in-Some.is

@@ -1,5 +1,6 @@
 use Rattle.std.proofs.Common.{map, subst, sym}
-use Rattle.profile_tree.proofs.ItemLemmas.{Taken, on_ok, taken_all, taken_one, taken_sorted}
+use Rattle.std.proofs.lemmas.Result.{on_ok_weaker}
+use Rattle.profile_tree.proofs.ItemLemmas.{Taken, taken_all, taken_one, taken_sorted}
 use Rattle.profile_tree.specs.Items.{told_item}
 use Rattle.profile_tree.specs.declared.items.Written.{Written}
 use Rattle.profile_tree.proofs.items.push_written.Goals as goal
@@ -29,6 +30,6 @@ loop-key-preserved c =
 
 pub returns : goal.returns
 returns c =
-    on_ok c.append_sorted-2.result
+    on_ok_weaker c.append_sorted-2.result
     (taken_all c.args.keys.now c.args.counts.now c.args.ranks.now.total.now c.args.ranks.now.name.now c.args.written.now (map told_item c.args.items.now.items) c.loop-key.key-index c.loop-key.items.items c.loop-key.group.items _ c.loop-key-test.false c.loop-key.invariant)
     c.append_sorted-2.ensures.same

@@ -1,0 +1,48 @@
+# What people ask a Makefile for. The program is proved and built by `rt`, the command of the Rattle kit (`make prove`); what stands in
+# release/ was built so, and runs as it is, so that nothing has to be compiled to install or to check it.
+
+PREFIX = /usr/local
+DESTDIR =
+INSTALL = install
+PYTHON = python3
+
+bin = $(DESTDIR)$(PREFIX)/bin
+share = $(DESTDIR)$(PREFIX)/share/pgo
+man = $(DESTDIR)$(PREFIX)/share/man/man1
+
+# The scripts for users, all but what fills release/. In bin each has `pgo-` in front, if it has not yet.
+scripts = $(filter-out contrib/release, $(shell find contrib -maxdepth 1 -type f -perm -100 | LC_ALL=C sort))
+packages = $(shell find contrib -mindepth 2 -maxdepth 2 -name '*.py' | LC_ALL=C sort)
+
+.PHONY: all help install uninstall check prove
+
+all help:
+	@echo 'make install [PREFIX=$(PREFIX)] [DESTDIR=]   programs, scripts and man pages'
+	@echo 'make uninstall [PREFIX=$(PREFIX)] [DESTDIR=] takes them away'
+	@echo 'make check                                   the checks, in some minutes: release/, scripts, documents'
+	@echo 'make prove                                   the gate: proves, builds and tests every crate by rt, in hours'
+
+# The scripts stand with their packages in share/pgo/contrib, where they find the programs in the folder above.
+install:
+	$(INSTALL) -d '$(bin)' '$(share)/contrib' '$(man)'
+	$(INSTALL) -m 755 release/pgo release/pgo-cold '$(bin)'
+	$(INSTALL) -m 644 docs/pgo.1 docs/pgo-cold.1 '$(man)'
+	$(INSTALL) -m 755 $(scripts) '$(share)/contrib'
+	for file in $(packages:contrib/%=%); do \
+	    $(INSTALL) -d "$(share)/contrib/$${file%/*}" && $(INSTALL) -m 644 "contrib/$$file" "$(share)/contrib/$$file" || exit; \
+	done
+	ln -sf ../../bin/pgo ../../bin/pgo-cold '$(share)'
+	for name in $(scripts:contrib/%=%); do ln -sf "../share/pgo/contrib/$$name" "$(bin)/pgo-$${name#pgo-}" || exit; done
+
+uninstall:
+	for name in $(scripts:contrib/%=%); do rm -f "$(bin)/pgo-$${name#pgo-}" || exit; done
+	rm -f '$(bin)/pgo' '$(bin)/pgo-cold' '$(man)/pgo.1' '$(man)/pgo-cold.1'
+	rm -rf '$(share)'
+
+# Neither rt nor git's folder nor a compiler is needed: what lacks is skipped, and told.
+check:
+	$(PYTHON) checks/run
+
+# What was built is marked, so that ./pgo and the checks take it.
+prove:
+	sources=$$(contrib/release --sources) && rt ci && contrib/release --mark "$$sources"

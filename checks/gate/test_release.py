@@ -1,0 +1,92 @@
+"""release/ is of the sources that stand here, and holds what was proved and built of them."""
+import os
+import shutil
+import unittest
+
+from common import TOP, Case, needs, run
+
+
+def record(path):
+    """What release/made or out/built says."""
+    return dict(line.split(" ", 1) for line in path.read_text().splitlines())
+
+
+@needs("sha256sum")
+class Release(Case):
+    def setUp(self):
+        super().setUp()
+        self.made = record(TOP / "release" / "made")
+        self.sources = run(TOP / "contrib" / "release", "--sources").out.decode().strip()
+
+    def sum_of(self, path):
+        with open(path, "rb") as file:
+            return run("sha256sum", given=file).out.decode().split()[0]
+
+    def test_sources(self):
+        self.assertEqual(self.sources, self.made["sources"], "release/ was made of other sources; contrib/release fills it behind the gate")
+
+    def test_sums(self):
+        for name in ("pgo", "pgo-cold"):
+            with self.subTest(name):
+                self.assertEqual(self.sum_of(TOP / "release" / name), self.made[name])
+
+    def test_what_was_built_here(self):
+        """Byte by byte, behind the gate of the same kit, which says in out/built what it built."""
+        if not (TOP / "out" / "built").is_file():
+            self.skipTest("nothing was proved and built here: rt ci is behind `make prove`")
+        built = record(TOP / "out" / "built")
+        if built.get("kit") != self.made["kit"]:
+            self.skipTest(f"release/ was made with {self.made['kit']}, and what was built here with {built.get('kit')}")
+        if built["sources"] != self.sources:
+            self.skipTest("what was proved and built here is of other sources than those that stand here")
+        for name, crate in (("pgo", "pgo_cli"), ("pgo-cold", "pgo_cold")):
+            with self.subTest(name):
+                ours = (TOP / "crates" / crate / "out" / crate).read_bytes()
+                self.assertTrue(ours == (TOP / "release" / name).read_bytes(), f"release/{name} is another program")
+
+
+class OlderSystems(Case):
+    """What README says of systems with an older C library."""
+
+    def test_by_a_loader_and_a_library_carried_along(self):
+        loader, library = "/lib64/ld-linux-x86-64.so.2", "/lib/x86_64-linux-gnu/libc.so.6"
+        for path in (loader, library):
+            if not os.path.exists(path):
+                self.skipTest(f"there is no {path}")
+            shutil.copy(path, self.folder)
+        words = [self.folder / "ld-linux-x86-64.so.2", "--library-path", self.folder]
+        for name in ("pgo", "pgo-cold"):
+            self.expects(name, run(*words, TOP / "release" / name, "--version"), 0, f"{name} 0.1.0\n")
+
+
+class Installed(Case):
+    """`make install`: the programs, the scripts with their package, and the man pages."""
+
+    @needs("make", "install")
+    def test_install(self):
+        stage = self.folder / "stage dir"
+        ran = run("make", "-C", TOP, "install", f"DESTDIR={stage}", "PREFIX=/opt/pgo")
+        self.assertEqual(ran.status, 0, ran.said)
+        bin_folder = stage / "opt" / "pgo" / "bin"
+        for name in ("pgo", "pgo-cold"):
+            self.expect(run(bin_folder / name, "--version"), 0, f"{name} 0.1.0\n")
+        for page in ("pgo.1", "pgo-cold.1"):
+            self.assertTrue((stage / "opt" / "pgo" / "share" / "man" / "man1" / page).is_file())
+        scripts = sorted(path.name for path in bin_folder.iterdir())
+        self.assertIn("pgo-profile", scripts)
+        # Each finds what it needs, and the programs, where they stand now.
+        for name in scripts:
+            with self.subTest(name):
+                ran = run(bin_folder / name, "--help", environment={"PGO": None, "PGO_COLD": None}, folder=self.folder)
+                self.assertEqual(ran.status, 0, ran.said)
+        made = run(
+            bin_folder / "pgo-profile", "--base", TOP / "demo" / "words", TOP / "demo" / "words.txt", self.folder / "prof",
+            environment={"PGO": None, "PGO_COLD": None, "PATH": "/usr/bin:/bin"}, folder=self.folder,
+        )
+        self.assertEqual(made.status, 0, made.said)
+        self.assertIn(b"count_word", (self.folder / "prof").read_bytes())
+        shutil.rmtree(stage)
+
+
+if __name__ == "__main__":
+    unittest.main()

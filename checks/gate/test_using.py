@@ -1,0 +1,94 @@
+"""Runs the commands of README.md and docs/USING.md as they stand, those of a page one behind the other, and looks at what they leave and
+whether they print what stands there. Where the processor records no branches, a recording made of demo/words.txt stands in for that of
+`perf record -b`.
+"""
+import shutil
+import unittest
+
+from common import HERE, TOP, Case, needs, python
+
+
+def blocks(page):
+    """The fenced blocks of a page, as lists of lines."""
+    inside = None
+    for line in page.splitlines():
+        if line.startswith("```"):
+            if inside is not None:
+                yield inside
+            inside = [] if inside is None else None
+        elif inside is not None:
+            inside.append(line)
+
+
+def commands(page):
+    """Each command with the lines that it has to print, `...` being anything. A line is a command, or behind one with `$ ` what this one
+    prints; a block with a line in front of these that begins with `#` shows a file."""
+    for block in blocks(page):
+        prompts = [line.startswith("$ ") for line in block]
+        if any(line.startswith("#") and not any(prompts[:at]) for at, line in enumerate(block)):
+            continue
+        found = []
+        for at, line in enumerate(block):
+            if prompts[at]:
+                found.append((line[2:], []))
+            elif any(prompts[:at]):
+                found[-1][1].append(line)
+            else:
+                found.append((line, []))
+        yield from found
+
+
+@needs("clang", "perf", "objdump", "llvm-dwarfdump")
+class Using(Case):
+    def setUp(self):
+        super().setUp()
+        for name in ("demo", "pgo", "pgo-cold", "contrib", "bench"):
+            (self.folder / name).symlink_to(TOP / name)
+
+    def sh(self, command):
+        return self.run_here("sh", "-c", f"{{ {command}\n}} 2>&1", limit=300)
+
+    def records_none(self, command, ran):
+        """A recording of another kind of machine, or by another user: one that is made stands in for it."""
+        if not command.startswith("perf record -b") or ran.status == 0:
+            return False
+        made = python(HERE / "using" / "perf_data.py", "demo/words.txt", "/srv/app/words", "perf.data", folder=self.folder)
+        self.assertEqual(made.status, 0, made.said)
+        return True
+
+    def follow(self, name):
+        for command, wanted in commands((TOP / name).read_text(encoding="utf-8")):
+            with self.subTest(command):
+                if command.split()[0] in ("cmake", "make", "qemu-x86_64") and not shutil.which(command.split()[0]):
+                    self.skipTest(f"there is no {command.split()[0]}")
+                ran = self.sh(command)
+                if self.records_none(command, ran):
+                    self.skipTest(f"no branches are recorded here: {' '.join(ran.out.decode(errors='replace').split())[:90]}")
+                printed = ran.out.decode(errors="replace").splitlines()
+                if not wanted:
+                    self.assertEqual(ran.status, 0, printed[:5])
+                for line in wanted:
+                    if line not in ("", "..."):
+                        self.assertIn(line, printed)
+
+    def same(self, title, one, other):
+        with self.subTest(title):
+            self.assertTrue((self.folder / one).read_bytes() == (self.folder / other).read_bytes(), f"{one} and {other} differ")
+
+    def test_readme(self):
+        self.follow("README.md")
+
+    def test_using(self):
+        self.follow("docs/USING.md")
+        counts = [self.run_here("./pgo", "counts", text).out for text in ("demo/words.txt", "words.txt")]
+        with self.subTest("perf script prints the branches that were recorded"):
+            self.assertEqual(*counts)
+        self.file("mapped.prof", self.run_here("./pgo", "profile", "--base", "--map=/srv/app/words", "demo/words", "words.txt").out)
+        self.same("load lines as perf prints them", "mapped.prof", "loaded.prof")
+        self.same("the profile", "words.prof", HERE / "program" / "words.expected")
+        self.same("the block text", "words.blocks", "demo/words.blocks")
+        self.same("the picture", "count_word.svg", TOP / "docs" / "count_word.svg")
+
+
+if __name__ == "__main__":
+    unittest.main()

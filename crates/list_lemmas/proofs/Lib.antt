@@ -1,0 +1,4 @@
+pub mod Among
+pub mod Each
+pub mod Sums
+pub mod Tests

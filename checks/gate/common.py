@@ -3,6 +3,7 @@ case is skipped.
 
 `PGO` and `PGO_COLD` name other programs than those that were built here, or else those of release/.
 """
+import contextlib
 import hashlib
 import os
 import pathlib
@@ -61,6 +62,12 @@ class Ran(NamedTuple):
         return self.err.decode(errors="backslashreplace")
 
 
+def kill_group(leader):
+    """Ends what a program started, and the program."""
+    with contextlib.suppress(ProcessLookupError):
+        os.killpg(leader, signal.SIGKILL)
+
+
 def run(*words, folder=None, given=b"", limit=120, environment=None, output=None, prepare=None) -> Ran:
     """Runs a program with these words; `given` is its input, as bytes or an open file. It is killed, with what it started, and
     fails the case where it takes more than `limit` seconds. `environment` changes variables, None taking one away; `output` is a
@@ -75,10 +82,12 @@ def run(*words, folder=None, given=b"", limit=120, environment=None, output=None
     )
     try:
         out, err = started.communicate(given if isinstance(given, bytes) else None, timeout=limit)
-    except subprocess.TimeoutExpired:
-        os.killpg(started.pid, signal.SIGKILL)
+    except BaseException as fault:
+        kill_group(started.pid)
         started.communicate()
-        raise AssertionError(f"{words} took more than {limit} seconds") from None
+        if isinstance(fault, subprocess.TimeoutExpired):
+            raise AssertionError(f"{words} took more than {limit} seconds") from None
+        raise
     return Ran(started.returncode, out or b"", err)
 
 
@@ -131,11 +140,7 @@ def terminated(*words, folder, until: Optional[Callable[[], bool]] = None, by=si
     except subprocess.TimeoutExpired:
         raise AssertionError(f"{words} goes on behind {by.name}") from None
     finally:
-        # What it started and left behind.
-        try:
-            os.killpg(started.pid, signal.SIGKILL)
-        except ProcessLookupError:
-            pass
+        kill_group(started.pid)
     return Ran(started.returncode, out, err)
 
 

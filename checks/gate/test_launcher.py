@@ -9,7 +9,7 @@ import stat
 import time
 import unittest
 
-from common import COLD, PGO, TOP, Case, run
+from common import COLD, PGO, TOP, Case, needs, run
 
 KIT = "rattle-kit-13f logic 0123456789abcdef"
 RT = f"""#!/bin/sh
@@ -18,6 +18,12 @@ case $1 in
 version) echo '{KIT}' ;;
 all) printf '== low\\n== %s\\n== summary\\n' "${{PWD##*/}}" && [ ! -e "$BREAKS" ] ;;
 run) mkdir -p out && cp "$BUILDS" "out/${{PWD##*/}}" && chmod +x "out/${{PWD##*/}}" ;;
+ci)
+    for crate in pgo_cli pgo_cold; do mkdir -p crates/$crate/out && cp "$BUILDS" crates/$crate/out/$crate; done
+    chmod +x crates/*/out/pgo_*
+    echo '5 passed, 0 failed'
+    [ ! -e "$BREAKS" ] || exit 3
+    ;;
 esac
 """
 VERSION, COLD_VERSION = b"pgo 0.1.0\n", b"pgo-cold 0.1.0\n"
@@ -71,12 +77,14 @@ class Launcher(Case):
         sums = "".join(f"{name} {self.sum_of(release / name)}\n" for name in ("pgo", "pgo-cold"))
         (release / "made").write_text(f"kit {KIT}\nsources {self.sources(top)}\n{sums}")
 
-    def call(self, *words, name="pgo", top=None, path=None, **how):
-        environment = {
+    def environment(self, path=None):
+        return {
             "PATH": path or f"{self.bin}:{os.environ['PATH']}", "CALLED": str(self.called), "BUILDS": str(self.builds),
             "BREAKS": str(self.folder / "breaks"),
         }
-        return run((top or self.top) / name, *(words or ["--version"]), environment=environment, **how)
+
+    def call(self, *words, name="pgo", top=None, path=None, **how):
+        return run((top or self.top) / name, *(words or ["--version"]), environment=self.environment(path), **how)
 
     def kept(self, top=None):
         """Waits until the sources are old enough, and lets a call keep what they are."""
@@ -171,7 +179,7 @@ class Releases(Launcher):
         """As with an older C library the program is whole, and ends before it begins."""
         self.script(self.top / "release" / "pgo", "#!/bin/sh\nexit 1\n")
         self.made(self.top)
-        self.refuses(126, "release/pgo does not run on this machine: it needs x86-64 Linux with glibc.*--build")
+        self.refuses(126, "release/pgo does not run on this machine: it needs x86-64 Linux with glibc.*README")
         self.refuses(126, "does not run on this machine")
 
     def test_little_memory_is_no_other_machine(self):
@@ -398,9 +406,7 @@ class Builds(Launcher):
 
     def test_two_at_once(self):
         self.script(self.bin / "rt", RT.replace("all) ", "all) sleep 1; "))
-        both = run("sh", "-c", '"$1" --build & "$1" --build & wait', "sh", self.top / "pgo", environment={
-            "PATH": f"{self.bin}:{os.environ['PATH']}", "CALLED": str(self.called), "BUILDS": str(self.builds), "BREAKS": "",
-        })
+        both = run("sh", "-c", '"$1" --build & "$1" --build & wait', "sh", self.top / "pgo", environment=self.environment())
         self.assertIn("another call is building the program. This one waits for it.", both.said)
         self.assertEqual(len(self.calls()), 4)
 
@@ -413,8 +419,7 @@ class Builds(Launcher):
         target = self.file("elsewhere", "mine\n")
         (self.top / "release" / "pgo").unlink()
         (self.top / "release" / "pgo").symlink_to(target)
-        environment = {"PATH": f"{self.bin}:{os.environ['PATH']}", "CALLED": str(self.called), "BUILDS": str(self.builds), "BREAKS": ""}
-        ran = run(self.top / "contrib" / "release", environment=environment)
+        ran = run(self.top / "contrib" / "release", environment=self.environment())
         self.assertEqual(ran.status, 0, ran.said)
         self.assertEqual(target.read_text(), "mine\n")
         mode = (self.top / "release" / "pgo").lstat().st_mode
@@ -422,6 +427,45 @@ class Builds(Launcher):
         self.assertEqual(self.names(self.top / "release"), ["made", "pgo", "pgo-cold"])
         self.called.unlink()
         self.expect(self.call(), 0, "built\n")
+
+
+@needs("bash", "make")
+class Gate(Launcher):
+    """.ci/run, with a gate and checks that are scripts here."""
+
+    def setUp(self):
+        super().setUp()
+        (self.top / ".ci").mkdir()
+        shutil.copy(TOP / ".ci" / "run", self.top / ".ci" / "run")
+        (self.top / "Makefile").write_text("check:\n\t@echo 'checks: 7 passed, 0 failed'; test ! -e unchecked\n")
+
+    def gate(self):
+        return run("bash", self.top / ".ci" / "run", environment=self.environment())
+
+    def test_it_passes(self):
+        ran = self.gate()
+        self.assertEqual(ran.status, 0, ran.said)
+        lines = ran.out.decode().splitlines()
+        self.assertEqual((lines[0], lines[-1]), ("5 passed, 0 failed", "checks: 7 passed, 0 failed"))
+        # What the gate built is known as such, and runs where the sources are its own.
+        (self.top / "release" / "pgo").unlink()
+        self.expect(self.call(), 0, "built\n")
+
+    def test_the_gate_fails(self):
+        self.file("breaks")
+        ran = self.gate()
+        self.assertEqual((ran.status, ran.out), (3, b"5 passed, 0 failed\n"))
+        self.assertFalse((self.top / "out" / "built").exists())
+
+    def test_the_checks_fail(self):
+        (self.top / "unchecked").write_text("")
+        self.assertNotEqual(self.gate().status, 0)
+
+    def test_make_prove(self):
+        shutil.copy(TOP / "Makefile", self.top)
+        ran = run("make", "-C", self.top, "prove", environment=self.environment())
+        self.assertEqual(ran.status, 0, ran.said)
+        self.assertTrue((self.top / "out" / "built").is_file())
 
 
 if __name__ == "__main__":

@@ -39,6 +39,8 @@ class Lifetimes(Case):
 
     def test_pairs(self):
         self.assertTrue(PAIRS)
+        if not (TOP / "out" / "built").is_file():
+            self.skipTest("nothing was proved here, which takes an hour: these programs are tried behind `make prove`")
         for name in ("crates.txt", "HANDLES"):
             shutil.copy(TOP / name, self.folder)
         shutil.copytree(TOP / "crates", self.folder / "crates", symlinks=True, ignore=shutil.ignore_patterns("out"))

@@ -1,4 +1,5 @@
 """release/ is of the sources that stand here, and holds what was proved and built of them."""
+import os
 import shutil
 import unittest
 
@@ -42,6 +43,20 @@ class Release(Case):
             with self.subTest(name):
                 ours = (TOP / "crates" / crate / "out" / crate).read_bytes()
                 self.assertTrue(ours == (TOP / "release" / name).read_bytes(), f"release/{name} is another program")
+
+
+class OlderSystems(Case):
+    """What README says of systems with an older C library."""
+
+    def test_by_a_loader_and_a_library_carried_along(self):
+        loader, library = "/lib64/ld-linux-x86-64.so.2", "/lib/x86_64-linux-gnu/libc.so.6"
+        for path in (loader, library):
+            if not os.path.exists(path):
+                self.skipTest(f"there is no {path}")
+            shutil.copy(path, self.folder)
+        words = [self.folder / "ld-linux-x86-64.so.2", "--library-path", self.folder]
+        for name in ("pgo", "pgo-cold"):
+            self.expects(name, run(*words, TOP / "release" / name, "--version"), 0, f"{name} 0.1.0\n")
 
 
 class Installed(Case):

@@ -43,7 +43,8 @@ class Function:
 
 
 def number_of(digits, bits, base=10):
-    value = int(digits, base)
+    digits = digits.lstrip("0") or "0"
+    value = int(digits, base) if len(digits) <= bits else 1 << bits
     if value >> bits:
         raise ValueError
     return value

@@ -5,12 +5,14 @@ from typing import NamedTuple, Optional
 from pgo_tools.cli import REFUSED, Trouble
 from pgo_tools.files import lines_of
 
-WEIGHT = r"(\?|[0-9]+)"
+# Numbers of 128 bits at most, behind any zeros.
+NUMBER = "0*[0-9]{1,39}"
+WEIGHT = rf"(\?|{NUMBER})"
 FUNCTION = re.compile(r"# function ([^ ]+) (?:(flow)|cut ([01]))")
-FLOW_BLOCK = re.compile(rf"# block ([0-9]+) weight {WEIGHT} count ([0-9]+) in (-?[0-9]+) out (-?[0-9]+)")
-CUT_BLOCK = re.compile(rf"# block ([0-9]+) weight {WEIGHT} in ([01]) out ([01])")
-EDGE = re.compile(rf"# edge ([0-9]+) ([0-9]+)(?: weight {WEIGHT})? count ([0-9]+)")
-END = re.compile(r"# end ([0-9]+)(?: ([0-9]+))?")
+FLOW_BLOCK = re.compile(rf"# block ({NUMBER}) weight {WEIGHT} count ({NUMBER}) in (-?{NUMBER}) out (-?{NUMBER})")
+CUT_BLOCK = re.compile(rf"# block ({NUMBER}) weight {WEIGHT} in ([01]) out ([01])")
+EDGE = re.compile(rf"# edge ({NUMBER}) ({NUMBER})(?: weight {WEIGHT})? count ({NUMBER})")
+END = re.compile(rf"# end ({NUMBER})(?: ({NUMBER}))?")
 
 
 class Block(NamedTuple):
@@ -37,8 +39,13 @@ class Repair:
         self.blocks, self.edges, self.end = [], [], None
 
 
+def number_of(text):
+    # Python refuses to read thousands of digits, of zeros too.
+    return int(text.lstrip("-0") or "0") * (-1 if text.startswith("-") else 1)
+
+
 def weight_of(text):
-    return None if text in (None, "?") else int(text)
+    return None if text in (None, "?") else number_of(text)
 
 
 def functions(file, path="the repair"):
@@ -69,18 +76,18 @@ def add(repair, line):
     is_flow = repair.kind == "flow"
     match = (FLOW_BLOCK if is_flow else CUT_BLOCK).fullmatch(line)
     if match:
-        if int(match[1]) != len(repair.blocks) or repair.edges:
+        if number_of(match[1]) != len(repair.blocks) or repair.edges:
             return False
-        told = [int(each) for each in match.groups()[2:]]
+        told = [number_of(each) for each in match.groups()[2:]]
         repair.blocks.append(Block(weight_of(match[2]), *(told if is_flow else [None, *told])))
         return True
     match = EDGE.fullmatch(line)
     if match and is_flow:
-        tail, head = int(match[1]), int(match[2])
-        repair.edges.append(Edge(tail, head, weight_of(match[3]), int(match[4])))
+        tail, head = number_of(match[1]), number_of(match[2])
+        repair.edges.append(Edge(tail, head, weight_of(match[3]), number_of(match[4])))
         return max(tail, head) < len(repair.blocks)
     match = END.fullmatch(line)
     if match and bool(match[2]) != is_flow and repair.blocks:
-        repair.end = tuple(int(each) for each in match.groups() if each is not None)
+        repair.end = tuple(number_of(each) for each in match.groups() if each is not None)
         return True
     return False

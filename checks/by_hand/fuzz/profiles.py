@@ -81,7 +81,8 @@ def answer(keys, words, files):
         numbers = {thing: times for _, thing, times in sums.read(files["prof"])}
     except sums.Refused as bad:
         return 4, b"", b"refused: file 2 at %d: %b\n" % (bad.args[0], bad.args[1].encode())
-    return 0, sums.text_of(numbers, keys["--base" in words]), b""
+    told = [thing[1:] for thing, times in numbers.items() if thing[0] == "count" and times == 0]
+    return 0, sums.text_of(numbers, keys["--base" in words], told), b""
 
 
 def ended(folder, words):

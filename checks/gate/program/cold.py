@@ -26,10 +26,9 @@ def by_hand():
     made("a function that the binary has not", b"main:9:3\n 7: 9\n", b"main:9:3\n 7: 9\n")
     made("a callee is no function of the profile", b"main:9:3\n 7: f0000:9\n  1: 9\n", b"main:9:3\n 7: f0000:9\n  1: 9\n")
     made("a line that the binary has not", b"f0000:2:0\n 0: 0\n 1: 0\n 2.2: 0\n 3: 0\n 65535: 2\n 2.1: g:0\n  1: 0\n", b"f0000:2:0\n 65535: 2\n")
-    made("such a line with count 0", b"f0000:2:0\n 0: 0\n 1: 2\n 2.2: 0\n 3: 0\n 2.1: g:0\n  1: 0\n", b"f0000:2:0\n 1: 2\n 65535: 0\n")
     made("an empty text", b"", b"")
     made("comments alone", b"", b"# branches 0\n\n")
-    made("no number above 0", b"", b"f0000:0:0\n 0: 0\n 3: 0 k:0\n")
+    made("no number above 0", b"", b"f0000:0:0\n 2.1: g:7\n")
     made("totals are summed anew", b"f0000:1:1\n 0: 0\n 1: 1\n 2.2: 0\n 3: 0\n 2.1: g:0\n  1: 0\n", b"# g\nf0000:77:1\n 1: 1\n")
     made("bases", F.replace(b"2.2", b"2.1").replace(b"2.1: g", b"2: g"), b"f0000:7:1\n 0: 1\n 1: 1\n 2.1: 2\n 3: 2 f0000:1\n 2: g:1\n  1: 1\n", ONE, ["--base"])
     made(
@@ -41,6 +40,20 @@ def by_hand():
     made("two functions of one name", b"f0000:1:1\n 0: 0\n 1: 1\n 2: 0\n 2.2: 0\n 3: 0\n 3.2: 0\n 4: 0\n 2.1: g:0\n  1: 0\n 3.1: g:0\n  1: 0\n", b"f0000:1:1\n 1: 1\n", alike)
     two = b"f0001:1:0\n 0: 0\n 1: 1\n 2.2: 0\n 3: 0\n 2.1: g:0\n  1: 0\n"
     made("functions in their order", b"f0000:2:0\n 0: 2\n 1: 0\n 2.2: 0\n 3: 0\n 2.1: g:0\n  1: 0\n" + two, b"f0001:0:0\n 1: 1\nf0000:0:0\n 0: 2\n", TWO)
+
+
+def with_count_0():
+    """Lines of count 0 that the profile has stay."""
+    f = b"f0000:2:0\n 0: 0\n 1: 2\n 2.2: 0\n 3: 0\n%b 2.1: g:0\n  1: 0\n"
+    made("a line that the binary has not", f % b" 65535: 0\n", b"f0000:2:0\n 1: 2\n 65535: 0\n")
+    made("a line that the binary has", f % b"", b"f0000:2:0\n 1: 2\n 3.0: 0\n")
+    made("a discriminator", f % b" 3.7: 0\n", b"f0000:2:0\n 1: 2\n 3.7: 0\n")
+    made("a target of 0 does not", f % b" 9: 0\n", b"f0000:2:0\n 1: 2\n 9: 0 k:0\n")
+    made("in an inlined call", f % b"" + b"  7.3: 0\n 4: h:0\n  5: k:0\n   6: 0\n", b"f0000:2:0\n 1: 2\n 2.1: g:9\n  7.3: 0\n 4: h:1\n  5: k:0\n   6: 0\n")
+    made("a call without a line does not", f % b"", b"f0000:2:0\n 1: 2\n 4: h:0\n")
+    made("a function that has no others gets no more", b"f0000:0:0\n 0: 0\n 3: 0\n", b"f0000:0:0\n 3: 0 k:0\n 0: 0\n")
+    made("nor does it stand for another", b"f0000:0:0\n 0: 0\nf0001:1:0\n 0: 0\n 1: 1\n 2.2: 0\n 3: 0\n 2.1: g:0\n  1: 0\n", b"f0001:1:0\n 1: 1\nf0000:0:0\n 0: 0\n", TWO)
+    made("functions that the binary has not", b"main:9:3\n 2: 0\n 7: 9\n_Z3foov:0:0\n 1: 0\n", b"_Z3foov:0:0\n 1: 0\nmain:9:3\n 7: 9\n 2: 0\n")
 
 
 def refusals():
@@ -70,9 +83,18 @@ def refusals():
 
 
 def again():
-    """What was written is written again."""
+    """What was written is written again, and what one binary adds stays behind another, in either order."""
     text = b"f0000:1:1\n 0: 0\n 1: 1\n 2.2: 0\n 3: 0\n 2.1: g:0\n  1: 0\n"
     made("written again", text, text)
+    # Two functions of one name, the second from line 9, and the first alone, by bases.
+    alike = TWO[:233] + b"0\0\x09" + TWO[236:]
+    one = b"f0000:1:1\n 0: 0\n 1: 1\n 2.1: 0\n 3: 0\n 2: g:0\n  1: 0\n"
+    other = b"f0000:1:1\n 0: 0\n 1: 1\n 2: 0\n 2.2: 0\n 3: 0\n 3.2: 0\n 4: 0\n 2.1: g:0\n  1: 0\n 3.1: g:0\n  1: 0\n"
+    both = other.replace(b" 2.2: 0\n", b" 2.1: 0\n 2.2: 0\n").replace(b" 2.1: g", b" 2: g:0\n  1: 0\n 2.1: g")
+    made("one binary", one, b"f0000:1:1\n 1: 1\n", ONE, ["--base"])
+    made("another behind it", both, one, alike)
+    made("the other", other, b"f0000:1:1\n 1: 1\n", alike)
+    made("the one behind it", both, other, ONE, ["--base"])
 
 
-PARTS = [by_hand, refusals, again]
+PARTS = [by_hand, with_count_0, refusals, again]

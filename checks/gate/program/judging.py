@@ -37,7 +37,8 @@ def judge(title, wanted, words, told=lambda out: out, **files):
         status, out, said = wanted
         ran = run(words, files)
         if (ran.status, told(ran.out), ran.err) != wanted:
-            Held.test.fail(f"{title}: {ran.status} {ran.out[:500]} {ran.err}, wanted {status} {out[:500]} {said}")
+            given = {name: data[:200] for name, data in files.items()}
+            Held.test.fail(f"{title}: {ran.status} {ran.out[:500]} {ran.err}, wanted {status} {out[:500]} {said}, of {given}")
 
 
 def fail(title, said):

@@ -151,15 +151,17 @@ def below(depth, node):
         yield from below(depth + 1, call)
 
 
-def text_of(sums, keys=()):
-    """The profile of these numbers; with a line for each of the keys, a way and a place each, whose function has a line in it."""
+def text_of(sums, keys=(), told=()):
+    """The profile of these numbers; with a line for each of the keys whose function has one in it, and for each of the told ones.
+
+    A key is a way and a place.
+    """
     roots = tree(sums)
-    for way, place in keys:
-        if way[0] in roots:
-            node = roots[way[0]]
-            for step in way[1:]:
-                node = node.calls.setdefault(step, Node())
-            node.counts.setdefault(place, 0)
+    for way, place in [*(key for key in keys if key[0][0] in roots), *told]:
+        node = roots.setdefault(way[0], Node())
+        for step in way[1:]:
+            node = node.calls.setdefault(step, Node())
+        node.counts.setdefault(place, 0)
     functions = [(-node.total(), name, node) for name, node in roots.items()]
     made = []
     for total, name, node in sorted(functions, key=lambda it: it[:2]):

@@ -1,7 +1,7 @@
 -- Lines that never ran ask for no place whose function stands nowhere in the profile.
-use Rattle.std.proofs.Common.{◌≡◌, ℕ, Bool, cond, List, [], ◌∷◌, filter, filter_map, Option, None, Some, refl, sym, ap, ◌∙◌, inl, inr}
+use Rattle.std.proofs.Common.{◌≡◌, ℕ, Bool, cond, List, [], ◌∷◌, ◌++◌, filter, filter_map, Option, None, Some, refl, sym, ap, ◌∙◌, inl, inr}
 use Rattle.std.specs.List.{cons_option}
-use Rattle.cold_model.specs.Cold.{lines_with, stands_in}
+use Rattle.cold_model.specs.Cold.{lines_with, stands_in, told_cold}
 use Rattle.profile_model.specs.Profile.{Profile}
 use Rattle.profile_model.specs.Ways.{Way}
 use Rattle.output_model.specs.Cold.{cold_lines}
@@ -36,4 +36,4 @@ module _ (p : Profile) (program other : Program) (alike : ColdAlike p program ot
 
 pub cold_lines_ask_no_more : ColdLinesAskNoMore
 unfolding cold_lines
-cold_lines_ask_no_more p program other alike = λ i. lines_with (keys_alike p program other alike all_addresses i) p
+cold_lines_ask_no_more p program other alike = λ i. lines_with (told_cold p ++ keys_alike p program other alike all_addresses i) p

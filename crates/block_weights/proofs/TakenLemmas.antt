@@ -1,67 +1,142 @@
--- How often branches from a block were taken, one by one.
-use Rattle.std.proofs.Common.{◌≡◌, ℕ, ◌+◌, ◌*◌, ◌^◌, ◌<◌, ◌≤◌, cond, List, sym, ap, ◌∙◌, arith, length, take, drop, get_or}
-use Rattle.std.specs.Prelude.{sum_by, IsPermutation}
-use Rattle.std.specs.List.{AllWithin}
+-- How often branches from a block were taken, by the sums in front of two places.
+use Rattle.std.proofs.Common.{◌≡◌, ℕ, zero, suc, ◌+◌, ◌-◌, ◌*◌, ◌^◌, ◌<◌, ◌≤◌, cond, List, [], ◌∷◌, ◌++◌, refl, sym, ap, subst, ◌∙◌, arith, inl, inr, length, take, drop, get_or}
+use Rattle.std.specs.Prelude.{slice_index_or, sum_by, IsPermutation}
+use Rattle.std.specs.List.{All, AllWithin}
 use Rattle.std.specs.List.Sorted.{IsNonDecreasingBy}
 use Rattle.std.proofs.Math.Path.{fun_ext}
 use Rattle.std.proofs.lemmas.Bool.Decides.{nat_tests}
-use Rattle.std.proofs.lemmas.List.{get_or_default}
+use Rattle.std.proofs.lemmas.Bool.{cases_lt}
+use Rattle.std.proofs.lemmas.List.{get_or_default, get_or_push, length_push, places}
 use Rattle.std.proofs.lemmas.List.Sorted.{sum_by-IsPermutation}
-use Rattle.std.proofs.lemmas.List.Sums.{sum_by_more, sum_by_more_le_part, sum_by-take-drop, sum_by-le-sum_by}
+use Rattle.std.proofs.lemmas.List.Sums.{sum_by_more, sum_by-take-drop, sum_by-take-le}
 use Rattle.block_model.specs.declared.parts.Block.{Block}
 use Rattle.sample_model.specs.declared.pair.Pair.{Pair}
-use Rattle.block_weights.specs.Sampled.{branches_taken, rank}
+use Rattle.block_weights.specs.Sampled.{AreSums, branches_taken, rank}
 use Rattle.weight_model.specs.Edges.{leads, taken}
-use Rattle.block_weights.proofs.SumLemmas.{sum_passing, no_sum_front, no_sum_back}
+use Rattle.block_weights.proofs.SumLemmas.{no_sum, no_sum_back, no_sum_front, sum_passing}
 
 -- what a branch adds
 abbrev pub share : Block → ℕ → Pair → ℕ
 share block to branch = cond (leads block to branch) branch.times 0
 
--- so many branches were gone through
-pub record TakenSoFar (branches : List Pair) (block : Block) (to next times : ℕ) : Type 0 where
-  pub within : next ≤ length branches
-  pub from : AllWithin (λ branch. rank to block.lo ≤ rank branch.to branch.from) branches next (length branches)
-  pub is : times ≡ sum_by (share block to) (take next branches)
+-- what a place past the end of a list reads as
+abbrev pub no_branch : Pair
+no_branch = record { from = 0; to = 0; times = 0 }
 
-pub TakenSoFar-none : (branches : List Pair) (block : Block) (to next : ℕ) → next ≤ length branches → AllWithin (λ branch. rank branch.to branch.from < rank to block.lo) branches 0 next → AllWithin (λ branch. rank to block.lo ≤ rank branch.to branch.from) branches next (length branches)
-    → TakenSoFar branches block to next 0
-TakenSoFar-none branches block to next within below from = record {
-  within = within;
-  from = from;
-  is = sym (no_sum_front (share block to) branches next (λ k d at before. let low = below k d at before in grind (arith, nat_tests)));
+-- a branch between two ranks of a target adds all its times
+counts : (branch : Pair) (block : Block) (to : ℕ) → branch.from < 2 ^ 64 → block.lo < 2 ^ 64 → block.hi < 2 ^ 64 → rank to block.lo ≤ rank branch.to branch.from → rank branch.to branch.from < rank to block.hi
+    → share block to branch ≡ branch.times
+counts branch block to source lo hi low high =
+    let is_to : branch.to ≡ to = omega (arith, source, lo, hi, low, high) in
+    grind (arith, nat_tests)
+
+-- behind the branches below the first rank each below the last one adds its times
+between : (branches : List Pair) (block : Block) (to first k : ℕ) → block.lo < 2 ^ 64 → block.hi < 2 ^ 64 → All (λ branch. branch.from < 2 ^ 64) branches → first + k ≤ length branches
+    → AllWithin (λ branch. rank branch.to branch.from < rank to block.lo) branches 0 first
+    → AllWithin (λ branch. rank to block.lo ≤ rank branch.to branch.from) branches first (length branches)
+    → AllWithin (λ branch. rank branch.to branch.from < rank to block.hi) branches 0 (first + k)
+    → sum_by (share block to) (take (first + k) branches) + branches_taken (take first branches) ≡ branches_taken (take (first + k) branches)
+between branches block to first zero lo hi sources within below from above =
+    let none : sum_by (share block to) (take first branches) ≡ 0 =
+    no_sum_front (share block to) branches first (λ k d at before. let low = below k d at before in grind (arith, nat_tests)) in
+    let at : first + 0 ≡ first = omega arith in
+    rw at (omega (arith, none))
+between branches block to first (suc k) lo hi sources within below from above =
+    let inside : first + k < length branches = omega (arith, within) in
+    let so_far = between branches block to first k lo hi sources (omega (arith, inside)) below from (λ n d at before. above n d at (omega (arith, before))) in
+    let one = counts (get_or branches (first + k) no_branch) block to
+    (sources (first + k) no_branch inside) lo hi
+    (from (first + k) no_branch (omega arith) inside)
+    (above (first + k) no_branch (omega arith) (omega arith)) in
+    let at : first + suc k ≡ first + k + 1 = omega arith in
+    rw at
+    (omega (
+      arith,
+      so_far,
+      one,
+      sum_by_more (share block to) branches (first + k) no_branch inside,
+      sum_by_more (λ branch. branch.times) branches (first + k) no_branch inside,
+    ))
+
+-- how often branches from a block were taken is the difference of two sums
+pub taken-between : (branches : List Pair) (block : Block) (to first last : ℕ) → block.lo < 2 ^ 64 → block.hi < 2 ^ 64 → All (λ branch. branch.from < 2 ^ 64) branches → first ≤ last → last ≤ length branches
+    → AllWithin (λ branch. rank branch.to branch.from < rank to block.lo) branches 0 first
+    → AllWithin (λ branch. rank to block.lo ≤ rank branch.to branch.from) branches first (length branches)
+    → AllWithin (λ branch. rank branch.to branch.from < rank to block.hi) branches 0 last
+    → AllWithin (λ branch. rank to block.hi ≤ rank branch.to branch.from) branches last (length branches)
+    → taken branches block to + branches_taken (take first branches) ≡ branches_taken (take last branches)
+taken-between branches block to first last lo hi sources less within below from above past =
+    let is : first + (last - first) ≡ last = omega (arith, less) in
+    let front : sum_by (share block to) (take last branches) + branches_taken (take first branches) ≡ branches_taken (take last branches) =
+    subst (λ n. sum_by (share block to) (take n branches) + branches_taken (take first branches) ≡ branches_taken (take n branches)) is
+    (between branches block to first (last - first) lo hi sources (omega (arith, is, within)) below from (λ k d at before. above k d at (omega (arith, is, before)))) in
+    let rest : sum_by (share block to) (drop last branches) ≡ 0 =
+    no_sum_back (share block to) branches last (λ k d at before. let high = past k d at before in grind (arith, nat_tests)) in
+    omega (arith, front, rest, sum_by-take-drop (share block to) branches last, sum_passing (λ branch. branch.times) (leads block to) branches)
+
+-- where no rank lies between, none was taken
+pub taken-none : (branches : List Pair) (block : Block) (to first last : ℕ) → last ≤ first
+    → AllWithin (λ branch. rank branch.to branch.from < rank to block.lo) branches 0 first
+    → AllWithin (λ branch. rank to block.hi ≤ rank branch.to branch.from) branches last (length branches)
+    → taken branches block to ≡ 0
+taken-none branches block to first last less below past =
+    let none : sum_by (share block to) branches ≡ 0 =
+    no_sum (share block to) branches (λ k d at before. elim (cases_lt k first) [
+      | inl front ↦ let low = below k d at front in grind (arith, nat_tests)
+      | inr back ↦ let high = past k d (omega (arith, less, back)) before in grind (arith, nat_tests)
+    ]) in
+    sum_passing (λ branch. branch.times) (leads block to) branches ∙ none
+
+-- the sums of so many branches
+pub record SumsSoFar (branches : List Pair) (next sum : ℕ) (sums : List ℕ) : Type 0 where
+  pub as_many : length sums ≡ next
+  pub told : (n : ℕ) → n < next → slice_index_or sums n 0 ≡ branches_taken (take n branches)
+  pub is : sum ≡ branches_taken (take next branches)
+  pub sources : AllWithin (λ branch. branch.from < 2 ^ 64) branches 0 next
+
+pub sums-none : (branches : List Pair) → SumsSoFar branches 0 0 []
+sums-none branches = record {
+  as_many = refl;
+  told = λ n below. absurd (omega (arith, below));
+  is = refl;
+  sources = λ k d from below. absurd (omega (arith, below));
 }
 
-pub TakenSoFar-next : (branches : List Pair) (block : Block) (to next times : ℕ) (d : Pair) → TakenSoFar branches block to next times → next < length branches → block.lo < 2 ^ 64 → block.hi < 2 ^ 64 → (get_or branches next d).from < 2 ^ 64 → rank (get_or branches next d).to (get_or branches next d).from < rank to block.hi
-    → TakenSoFar branches block to (next + 1) (times + (get_or branches next d).times)
-TakenSoFar-next branches block to next times d so_far inside lo hi source below =
-    let low = so_far.from next d (omega arith) inside in
-    let is_to : (get_or branches next d).to ≡ to = omega (arith, low, hi, source, below) in
-    let same : share block to (get_or branches next d) ≡ (get_or branches next d).times = grind (arith, nat_tests) in
+-- a sum more at the end of the list
+told_more : (branches : List Pair) (next sum : ℕ) (sums : List ℕ) → SumsSoFar branches next sum sums → (n : ℕ) → n < next + 1 → slice_index_or (sums ++ sum ∷ []) n 0 ≡ branches_taken (take n branches)
+told_more branches next sum sums so_far n below = elim (cases_lt n next) [
+  | inl less ↦ let same : slice_index_or (sums ++ sum ∷ []) n 0 ≡ slice_index_or sums n 0 = grind (arith, places, less, so_far.as_many) in same ∙ so_far.told n less
+  | inr not ↦
+      let same : n ≡ length sums = omega (arith, below, not, so_far.as_many) in
+      get_or_push sums sum 0 n (sym same) ∙ so_far.is ∙ ap (λ k. branches_taken (take k branches)) (sym so_far.as_many ∙ sym same)
+]
+
+pub sums-next : (branches : List Pair) (next sum : ℕ) (sums : List ℕ) (d : Pair) → SumsSoFar branches next sum sums → next < length branches → (get_or branches next d).from < 2 ^ 64
+    → SumsSoFar branches (next + 1) (sum + (get_or branches next d).times) (sums ++ sum ∷ [])
+sums-next branches next sum sums d so_far inside source = record {
+  as_many = length_push sums sum ∙ ap (λ n. n + 1) so_far.as_many;
+  told = told_more branches next sum sums so_far;
+  is = omega (arith, so_far.is, sum_by_more (λ branch. branch.times) branches next d inside);
+  sources = λ k e from below. elim (cases_lt k next) [
+    | inl less ↦ so_far.sources k e from less
+    | inr not ↦
+        let same : k ≡ next = omega (arith, below, not) in
+        rw same (omega (arith, source, ap (λ (b : Pair). b.from) (get_or_default branches next d e inside)))
+  ];
+}
+
+pub sums-all : (branches : List Pair) (next sum : ℕ) (sums : List ℕ) → SumsSoFar branches next sum sums → length branches ≤ next → next ≤ length branches → AreSums branches (sums ++ sum ∷ [])
+sums-all branches next sum sums so_far past within =
+    let all : next ≡ length branches = omega (arith, past, within) in
     record {
-      within = omega (arith, inside);
-      from = λ k e at before. so_far.from k e (omega (arith, at)) before;
-      is = omega (arith, so_far.is, same, sum_by_more (share block to) branches next d inside);
+      one_more = length_push sums sum ∙ ap (λ n. n + 1) (so_far.as_many ∙ all);
+      told = λ n below. told_more branches next sum sums so_far n (omega (arith, below, all));
+      sources = λ k d inside. so_far.sources k d (omega arith) (omega (arith, inside, all));
     }
 
--- the sum fits, with the next branch
-pub taken_fits : (branches : List Pair) (block : Block) (to next times : ℕ) (d : Pair) → TakenSoFar branches block to next times → branches_taken branches < 2 ^ 32 → next < length branches → times + (get_or branches next d).times < 2 ^ 32
-taken_fits branches block to next times d so_far fits inside =
-    omega (arith, fits, so_far.is, sum_by_more_le_part (share block to) (λ branch. branch.times) branches next d inside (λ branch. grind (arith, nat_tests)))
-
-pub TakenSoFar-all : (branches : List Pair) (block : Block) (to next times : ℕ) (d : Pair) → IsNonDecreasingBy (λ branch. rank branch.to branch.from) branches → TakenSoFar branches block to next times → (next < length branches → rank to block.hi ≤ rank (get_or branches next d).to (get_or branches next d).from)
-    → times ≡ taken branches block to
-TakenSoFar-all branches block to next times d rise so_far past =
-    let rest : sum_by (share block to) (drop next branches) ≡ 0 =
-    no_sum_back (share block to) branches next (λ k e at before.
-    let high : rank to block.hi ≤ rank (get_or branches k e).to (get_or branches k e).from =
-    omega (arith, past (omega (arith, at, before)), rise next k e at before, ap (λ (b : Pair). rank b.to b.from) (get_or_default branches next d e (omega (arith, at, before)))) in
-    grind (arith, nat_tests)) in
-    omega (arith, so_far.is, rest, sum_by-take-drop (share block to) branches next, sum_passing (λ branch. branch.times) (leads block to) branches)
-
-pub taken_below : (branches : List Pair) (block : Block) (to next times : ℕ) → TakenSoFar branches block to next times → branches_taken branches < 2 ^ 32 → times < 2 ^ 32
-taken_below branches block to next times so_far fits =
-    omega (arith, fits, so_far.is, sum_by-take-drop (share block to) branches next, sum_by-le-sum_by (share block to) (λ branch. branch.times) branches (λ branch. grind (arith, nat_tests)))
+-- a sum of so many branches is at most that of all
+pub sum_below : (branches : List Pair) (n : ℕ) → branches_taken branches < 2 ^ 32 → branches_taken (take n branches) < 2 ^ 32
+sum_below branches n fits = omega (arith, fits, sum_by-take-le (λ branch. branch.times) branches n)
 
 -- in another order they were taken as often
 pub taken-permutation : (xs ys : List Pair) → IsPermutation xs ys → taken ys ≡ taken xs

@@ -2,8 +2,8 @@
 //! places in them, edges by branches and by the ranges that ran.
 //!
 //! `weights` finds the segments that lie in each block by binary search. `EdgeSamples` puts
-//! branches and ranges in order once, for all functions. `edge_weights` then finds the branches of
-//! a block and the ranges that ran past an address by search.
+//! branches and ranges in order once, for all functions, and adds the branches up. `edge_weights`
+//! then finds the branches of a block and the ranges that ran past an address by search.
 #![tactic(auto)]
 
 mod blocks;

@@ -5,7 +5,7 @@ ghost use Rattle.weight_model.specs.Edges.{taken as times_taken, went_over};
 ghost use Rattle.block_weights.specs.Sampled.{Tell, branches_taken};
 
 use crate::passing::behind_firsts;
-use crate::taken::{rank, taken};
+use crate::taken::{rank, sums_of, taken};
 use cfg_text::Block;
 use range_counts::{Hits, RanRange, sweep};
 use refusal::NoMemory;
@@ -17,18 +17,21 @@ use std::marker::Model;
 #[derive(Debug, Drop)]
 pub struct EdgeSamples {
     branches: Vec<Pair>,
+    /// How often the branches in front of each were taken, and all of them.
+    sums: Vec<u64>,
     passing: Hits,
 }
 
 impl Model for EdgeSamples {
-    ghost use Rattle.block_weights.specs.Sampled.{IsInOrder, Sampled};
+    ghost use Rattle.block_weights.specs.Sampled.{AreSums, IsInOrder, Sampled};
 
     ghost Value = { Sampled };
 
     ghost view = { λ s. record { branches = s.branches.items; passing = s.passing } };
 
     ghost invariant = { λ s. IsInOrder
-        (record { branches = s.branches.items; passing = s.passing }) };
+        (record { branches = s.branches.items; passing = s.passing })
+        × AreSums s.branches.items s.sums.items };
 }
 
 impl EdgeSamples {
@@ -46,7 +49,12 @@ impl EdgeSamples {
         let passing = sweep(alloc, &behind_firsts(alloc, ran)?)?;
         let mut branches = Vec::from_slice(alloc, branches)?;
         branches.sort_unstable_by_key(|branch| rank(branch.to, branch.from));
-        Ok(EdgeSamples { branches, passing })
+        let sums = sums_of(alloc, &branches)?;
+        Ok(EdgeSamples {
+            branches,
+            sums,
+            passing,
+        })
     }
 
     /// How often the program went over from one block to another.
@@ -55,7 +63,7 @@ impl EdgeSamples {
             from.now to.now }
         ensures small { result < 2 ^ 33 }
     {
-        let taken = taken(&self.branches, from, to.lo);
+        let taken = taken(&self.branches, &self.sums, from, to.lo);
         if from.hi == to.lo {
             taken + self.passing.at(to.lo)
         } else {

@@ -1,2 +1,3 @@
 mod Examples
+mod FlowExamples
 mod LawExamples

@@ -1,5 +1,5 @@
 -- The functions that stand in a profile, by numbers and by ways.
-use Rattle.std.proofs.Common.{◌≡◌, ℕ, ◌+◌, ◌<◌, ◌≤◌, ◌==◌, nat_lt, Bool, true, false, cond, ◌&&◌, ◌||◌, List, [], ◌∷◌, ◌++◌, map, filter, length, Option, None, Some, All, refl, sym, ap, subst, ◌∙◌, arith}
+use Rattle.std.proofs.Common.{◌≡◌, ℕ, ◌+◌, ◌<◌, ◌≤◌, ◌==◌, nat_lt, Bool, true, false, cond, ◌&&◌, ◌||◌, List, [], ◌∷◌, ◌++◌, map, filter, length, Option, None, Some, inl, inr, All, refl, sym, ap, subst, ◌∙◌, arith, append_assoc}
 use Rattle.std.proofs.lemmas.Bool.Decides.{nat_tests}
 use Rattle.std.proofs.lemmas.List.{map-append}
 use Rattle.std.proofs.lemmas.List.Elements.{filter-append}
@@ -10,7 +10,7 @@ use Rattle.std.specs.Option.{option_map_or}
 use Rattle.key_types.specs.Numbers.{IsNumbered}
 use Rattle.key_types.specs.declared.ids.KeyId.{KeyId}
 use Rattle.key_types.specs.declared.key.Key.{Key}
-use Rattle.cold_model.specs.Cold.{same_function, stands_in}
+use Rattle.cold_model.specs.Cold.{same_function, stands_in, told_cold}
 use Rattle.profile_model.specs.Profile.{entered}
 use Rattle.profile_model.specs.Spelled.{Number, as_call, as_count, as_head, profile_by}
 use Rattle.profile_model.specs.Ways.{Way, same_step, to_function}
@@ -20,7 +20,7 @@ use Rattle.profile_text.specs.declared.item.Item.{Item}
 use Rattle.profile_text.specs.declared.item.What.{What}
 use Rattle.profile_text.specs.declared.item.What.TheVariants.{Head, Count, Target}
 use Rattle.profile_tree.proofs.Filled.{from_none}
-use Rattle.profile_tree.proofs.ListLemmas.{Among, all_among, all_places, among_filter_back, among_map, among_range, any_map, bool_same, filter_map as kept_map, map_map, nat_same}
+use Rattle.profile_tree.proofs.ListLemmas.{Among, all_among, all_places, among_all, among_either, among_filter_back, among_map, among_range, any_map, bool_same, filter_map as kept_map, map_map, nat_same}
 use Rattle.profile_tree.proofs.SumLemmas.{all_to_each, given_among}
 use Rattle.profile_tree.proofs.WayLemmas.{names_once, same_steps, step_itself}
 use Rattle.profile_tree.specs.Items.{AreMarked}
@@ -28,7 +28,7 @@ use Rattle.profile_tree.specs.Known.{HasNames}
 use Rattle.profile_tree.specs.Said.{way_at, ways_said}
 use Rattle.profile_tree.specs.Steps.{name_at, named, steps_of, steps_of_given}
 use Rattle.profile_text.proofs.NumberLemmas.{all_weaker, item_there}
-use Rattle.cold_maker.specs.Besides.{first_ways, has_mark, standing_keys, stands}
+use Rattle.cold_maker.specs.Besides.{cold_by, cold_in, first_ways, has_mark, standing_keys, stands, told_ids}
 
 -- ---- some item of a list passes a test
 
@@ -72,15 +72,18 @@ nothing_behind : (xs : List ℕ) → xs ++ [] ≡ xs
 nothing_behind [] = refl
 nothing_behind (x ∷ xs) = ap (λ ys. x ∷ ys) (nothing_behind xs)
 
-pub one_more : (p : ℕ → Bool) (i : ℕ) (old new : List KeyId) (key : KeyId) → new ≡ old ++ key ∷ [] → key.0 ≡ i → p i ≡ true → map (λ key. key.0) old ≡ filter p (range_with_len 0 i) → map (λ key. key.0) new ≡ filter p (range_with_len 0 (i + 1))
-one_more p i old new key pushed is some far =
+pub one_more : (front : List ℕ) (p : ℕ → Bool) (i : ℕ) (old new : List KeyId) (key : KeyId) → new ≡ old ++ key ∷ [] → key.0 ≡ i → p i ≡ true
+    → map (λ key. key.0) old ≡ front ++ filter p (range_with_len 0 i) → map (λ key. key.0) new ≡ front ++ filter p (range_with_len 0 (i + 1))
+one_more front p i old new key pushed is some far =
     ap (map (λ (key : KeyId). key.0)) pushed ∙ map-append (λ (key : KeyId). key.0) old (key ∷ []) ∙ (λ m. far m ++ is m ∷ [])
-    ∙ sym (ap (λ b. filter p (range_with_len 0 i) ++ cond b (i ∷ []) []) some) ∙ sym (filtered_more p i)
+    ∙ append_assoc front (filter p (range_with_len 0 i)) (i ∷ [])
+    ∙ sym (ap (λ b. front ++ (filter p (range_with_len 0 i) ++ cond b (i ∷ []) [])) some) ∙ sym (ap (λ ids. front ++ ids) (filtered_more p i))
 
-pub no_more : (p : ℕ → Bool) (i : ℕ) (old : List KeyId) → p i ≡ false → map (λ key. key.0) old ≡ filter p (range_with_len 0 i) → map (λ key. key.0) old ≡ filter p (range_with_len 0 (i + 1))
-no_more p i old none far =
-    far ∙ sym (nothing_behind (filter p (range_with_len 0 i)))
-    ∙ sym (ap (λ b. filter p (range_with_len 0 i) ++ cond b (i ∷ []) []) none) ∙ sym (filtered_more p i)
+pub no_more : (front : List ℕ) (p : ℕ → Bool) (i : ℕ) (old : List KeyId) → p i ≡ false
+    → map (λ key. key.0) old ≡ front ++ filter p (range_with_len 0 i) → map (λ key. key.0) old ≡ front ++ filter p (range_with_len 0 (i + 1))
+no_more front p i old none far =
+    far ∙ ap (λ ids. front ++ ids) (sym (nothing_behind (filter p (range_with_len 0 i)))
+    ∙ sym (ap (λ b. filter p (range_with_len 0 i) ++ cond b (i ∷ []) []) none) ∙ sym (filtered_more p i))
 
 module _ (names : List (List ℕ)) (keys : List Key) (key_names : All (HasNames (length names)) keys) where
   root_given : (id : ℕ) (key : Key) → slice_get keys id ≡ Some key → key.root.0 < length names
@@ -103,22 +106,41 @@ module _ (names : List (List ℕ)) (keys : List Key) (key_names : All (HasNames 
 
   -- the ways of the keys that have lines besides
   pub besides_are : (items : List Item) (marks lent : List Bool) (n known : ℕ) (besides : List KeyId) → n ≡ length names → known ≤ length keys → AreMarked n (stands keys items) marks → lent ≡ marks
-      → map (λ key. key.0) besides ≡ filter (has_mark keys lent) (range_with_len 0 known)
-      → ways_said names keys besides ≡ map (way_at names keys) (standing_keys keys items known)
+      → map (λ key. key.0) besides ≡ told_ids items ++ filter (has_mark keys lent) (range_with_len 0 known)
+      → ways_said names keys besides ≡ map (way_at names keys) (told_ids items ++ standing_keys keys items known)
   besides_are items marks lent n known besides size few are_marked same is =
       sym (map_map (way_at names keys) (λ (key : KeyId). key.0) besides)
-      ∙ ap (map (way_at names keys)) (is ∙ ap (λ ms. filter (has_mark keys ms) (range_with_len 0 known)) same ∙ marked_ids items marks n known size few are_marked)
+      ∙ ap (map (way_at names keys))
+      (is ∙ ap (λ ids. told_ids items ++ ids) (ap (λ ms. filter (has_mark keys ms) (range_with_len 0 known)) same ∙ marked_ids items marks n known size few are_marked))
 
   -- and they are keys
-  pub besides_given : (known : ℕ) (p : ℕ → Bool) (besides lent : List KeyId) → known ≤ length keys → map (λ key. key.0) besides ≡ filter p (range_with_len 0 known) → lent ≡ besides → All (λ key. key.0 < length keys) lent
-  besides_given known p besides lent few is same =
+  told_given : (items : List Item) → AllByRecursion (IsGivenItem (length names) (length keys)) items → AllByRecursion (λ id. id < length keys) (told_ids items)
+  told_given [] given = tt
+  told_given (item ∷ items) given = by item.what item.times given.0 (told_given items given.1)
+    where
+      by_zero : (b : Bool) (k : KeyId) → k.0 < length keys → AllByRecursion (λ id. id < length keys) (told_ids items)
+          → AllByRecursion (λ id. id < length keys) (map (λ (key : KeyId). key.0) (cons_option (cond b (Some k) None) (filter_map cold_in items)))
+      by_zero true k low rest = (low, rest)
+      by_zero false k low rest = rest
+
+      by : (v : What) (t : ℕ) → IsGivenWhat (length names) (length keys) v → AllByRecursion (λ id. id < length keys) (told_ids items)
+          → AllByRecursion (λ id. id < length keys) (map (λ (key : KeyId). key.0) (cons_option (cold_by v t) (filter_map cold_in items)))
+      by (Head n) t is rest = rest
+      by (Count k) t is rest = by_zero (t == 0) k is rest
+      by (Target k n) t is rest = rest
+
+  pub besides_given : (items : List Item) (known : ℕ) (p : ℕ → Bool) (besides lent : List KeyId) → AllByRecursion (IsGivenItem (length names) (length keys)) items → known ≤ length keys
+      → map (λ key. key.0) besides ≡ told_ids items ++ filter p (range_with_len 0 known) → lent ≡ besides → All (λ key. key.0 < length keys) lent
+  besides_given items known p besides lent given few is same =
       subst (All (λ (key : KeyId). key.0 < length keys)) (sym same)
       (all_places (λ (key : KeyId). key.0 < length keys) besides
       (all_among (λ (key : KeyId). key.0 < length keys) besides
       (λ key h.
-      let there = among_map (λ (k : KeyId). k.0) key besides h in
-      let low = among_range 0 known key.0 (among_filter_back p key.0 (range_with_len 0 known) (subst (Among key.0) is there)).1 in
-      omega (arith, low.1, few))))
+      let there = subst (Among key.0) is (among_map (λ (k : KeyId). k.0) key besides h) in
+      elim (among_either key.0 (told_ids items) (filter p (range_with_len 0 known)) there) as (λ _. key.0 < length keys) [
+        | inl told ↦ among_all (λ id. id < length keys) key.0 (told_ids items) (told_given items given) told
+        | inr kept ↦ let low = among_range 0 known key.0 (among_filter_back p key.0 (range_with_len 0 known) kept).1 in omega (arith, low.1, few)
+      ])))
 
 -- ---- the function of a key, by number and by way
 
@@ -237,3 +259,28 @@ module _ (names : List (List ℕ)) (keys : List Key) (names_apart : IsNumbered n
       (all_among (λ id. stands keys items (root_at keys id) ≡ stands_in (counted names keys items) (way_at names keys id)) (range_with_len 0 known)
       (λ id h. let low = among_range 0 known id h in sym (stands_by_number items given id (omega (arith, low.1, few))))))
       ∙ sym (kept_map (stands_in (counted names keys items)) (way_at names keys) (range_with_len 0 known))
+
+  -- so are those with count 0
+  pub told_are : (items : List Item) → map (way_at names keys) (told_ids items) ≡ told_cold (counted names keys items)
+  unfolding profile_by
+  told_are [] = refl
+  told_are (item ∷ items) = by item.what item.times (told_are items)
+    where
+      ids : List KeyId
+      ids = filter_map cold_in items
+
+      counts : List (Way × ℕ)
+      counts = (counted names keys items).counts
+
+      by_zero : (b : Bool) (k : KeyId) (t : ℕ) → map (way_at names keys) (map (λ (key : KeyId). key.0) ids) ≡ map (λ (c : Way × ℕ). c.0) (filter (λ c. c.1 == 0) counts)
+          → map (way_at names keys) (map (λ (key : KeyId). key.0) (cons_option (cond b (Some k) None) ids))
+          ≡ map (λ (c : Way × ℕ). c.0) (cond b ((way_at names keys k.0, t) ∷ filter (λ c. c.1 == 0) counts) (filter (λ c. c.1 == 0) counts))
+      by_zero true k t rest = ap (λ ways. way_at names keys k.0 ∷ ways) rest
+      by_zero false k t rest = rest
+
+      by : (v : What) (t : ℕ) → map (way_at names keys) (map (λ (key : KeyId). key.0) ids) ≡ map (λ (c : Way × ℕ). c.0) (filter (λ c. c.1 == 0) counts)
+          → map (way_at names keys) (map (λ (key : KeyId). key.0) (cons_option (cold_by v t) ids))
+          ≡ map (λ (c : Way × ℕ). c.0) (filter (λ c. c.1 == 0) (cons_option (as_count (what_told names keys v) t) counts))
+      by (Head n) t rest = rest
+      by (Count k) t rest = by_zero (t == 0) k t rest
+      by (Target k n) t rest = rest

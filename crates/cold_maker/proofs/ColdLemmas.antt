@@ -1,8 +1,10 @@
 -- The keys of a binary are the places of its addresses.
-use Rattle.std.proofs.Common.{◌≡◌, ℕ, zero, suc, ◌<◌, ◌≤◌, ◌+◌, ◌-◌, ◌^◌, Bool, true, List, [], ◌∷◌, ◌++◌, map, filter, length, Option, None, Some, Result, refl, sym, ap, subst, ◌∙◌, arith}
+use Rattle.std.proofs.Common.{◌≡◌, ℕ, zero, suc, ◌<◌, ◌≤◌, ◌+◌, ◌-◌, ◌^◌, Bool, true, ◌||◌, List, [], ◌∷◌, ◌++◌, map, filter, length, Option, None, Some, Result, refl, sym, ap, subst, ◌∙◌, arith}
 use Rattle.std.specs.Prelude.{if◌then◌else◌}
 use Rattle.std.specs.List.{filter_map, range_with_len}
 use Rattle.std.specs.Option.{option_map}
+use Rattle.std.specs.Ordering.{eq_by_cmp}
+use Rattle.std.proofs.lemmas.List.Folds.{list_any-append}
 use Rattle.std.specs.Global.{Vec}
 use Rattle.refusal.specs.declared.place.Place.{Place}
 use Rattle.refusal.specs.declared.place.Stop.{Stop}
@@ -15,7 +17,7 @@ use Rattle.binary_places.specs.Binary.{IsPlaced}
 use Rattle.binary_places.specs.declared.binary.Placed.{Placed}
 use Rattle.context_map.specs.Maps.{place_told}
 use Rattle.cold_model.proofs.ColdLemmas.{same_lines}
-use Rattle.cold_model.specs.Cold.{cold_lines_of, stands_in}
+use Rattle.cold_model.specs.Cold.{cold_lines_of, stands_in, told_cold}
 use Rattle.key_types.specs.Segments.{HasSegment, segment_at, span_of}
 use Rattle.key_types.specs.declared.key.Key.{Key}
 use Rattle.key_types.specs.declared.places.Seg.{Seg}
@@ -131,12 +133,16 @@ module _ (bytes : List ℕ) (base : Bool) (placed : Placed) (is : IsPlaced bytes
     lines_are =
         let cmp = way_cmp (total_of_function p) in
         let t = ways_tell_apart (total_of_function p) in
+        let told = told_cold p in
         let one = filter (stands_in p) ways in
         let all = filter (stands_in p) places in
-        same_lines p one all
-        (λ z. bool_same (has cmp z one) (has cmp z all)
+        same_lines p (told ++ one) (told ++ all)
+        (λ z. list_any-append (eq_by_cmp cmp z) told one
+        ∙ ap (λ b. has cmp z told || b)
+        (bool_same (has cmp z one) (has cmp z all)
         (λ e. among_has cmp t z all (kept_both (stands_in p) ways places there z (has_among cmp t z one e)))
         (λ e. among_has cmp t z one (kept_both (stands_in p) places ways back z (has_among cmp t z all e))))
+        ∙ sym (list_any-append (eq_by_cmp cmp z) told all))
 
   pub output_is : (text : List ℕ) → text_of_lines (cold_lines_of (first_ways placed.names placed.keys (length placed.keys)) (spelled text)) ≡ cold_output base bytes text
   output_is text = ap text_of_lines (lines_are (spelled text))

@@ -1,10 +1,14 @@
--- The keys whose functions stand in a profile, by numbers.
-use Rattle.std.specs.Prelude.{ℕ, ◌==◌, nat_lt, Bool, false, ◌&&◌, List, filter, map, slice_index_or}
-use Rattle.std.specs.List.{list_any, range_with_len}
+-- The keys that have lines besides, by numbers: those of which a text tells the count 0, and those whose functions
+-- stand in its profile.
+use Rattle.std.specs.Prelude.{ℕ, ◌==◌, nat_lt, Bool, false, ◌&&◌, List, cond, filter, map, slice_index_or, Option, None, Some}
+use Rattle.std.specs.List.{filter_map, list_any, range_with_len}
+use Rattle.key_types.specs.declared.ids.KeyId.{KeyId}
 use Rattle.key_types.specs.declared.key.Key.{Key}
 use Rattle.profile_model.specs.Ways.{Way}
 use Rattle.profile_text.specs.Numbers.{root_at, root_of}
 use Rattle.profile_text.specs.declared.item.Item.{Item}
+use Rattle.profile_text.specs.declared.item.What.{What}
+use Rattle.profile_text.specs.declared.item.What.TheVariants.{Head, Count, Target}
 use Rattle.profile_tree.specs.Said.{way_at}
 pub use Rattle.profile_text.specs.Numbers.{counted}
 
@@ -23,3 +27,16 @@ has_mark keys marks id = slice_index_or marks (root_at keys id) false
 -- Those of the first keys whose functions stand there.
 abbrev pub standing_keys : List Key → List Item → ℕ → List ℕ
 standing_keys keys items known = filter (λ id. stands keys items (root_at keys id)) (range_with_len 0 known)
+
+-- The key of which a number is the count 0.
+abbrev pub cold_by : What → ℕ → Option KeyId
+cold_by (Head name) times = None
+cold_by (Count key) times = cond (times == 0) (Some key) None
+cold_by (Target key callee) times = None
+
+abbrev pub cold_in : Item → Option KeyId
+cold_in item = cold_by item.what item.times
+
+-- The numbers of the keys of which some numbers tell the count 0.
+abbrev pub told_ids : List Item → List ℕ
+told_ids items = map (λ key. key.0) (filter_map cold_in items)

@@ -3,12 +3,13 @@
 //!
 //! The text is read behind the names and keys of the binary, so that the binary's keys are the
 //! first ones. Those among them whose functions stand in the profile have lines, with count 0
-//! where the text tells none.
+//! where the text tells none. Lines of count 0 that the text has stay.
 #![tactic(auto)]
 
 mod besides;
 mod maker;
 mod standing;
+mod told;
 mod tree;
 
 pub use maker::cold;

@@ -19,8 +19,8 @@ use refusal::{NoMemory, Stop};
 use std::alloc::Global;
 
 /// The profile of a profile text, which is the command's file `file`, with a line of count 0 for
-/// each place of the binary that has none and whose function stands in the profile. Comments are
-/// not kept, and totals are summed anew.
+/// each place of the binary that has none and whose function stands in the profile. Lines of count
+/// 0 that the text has stay. Comments are not kept, and totals are summed anew.
 ///
 /// The text has at most 2^28 bytes.
 ///

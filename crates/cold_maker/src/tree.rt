@@ -13,8 +13,9 @@ use profile_tree::{Tree, from_counts_with};
 use refusal::NoMemory;
 use std::alloc::Global;
 
-/// The profile of a text's numbers, in which each of the first `known` keys whose function stands
-/// there has a line, with count 0 where the text tells none. Totals are summed anew.
+/// The profile of a text's numbers, in which each key keeps its line of which the text tells the
+/// count 0, and each of the first `known` keys whose function stands there has one, with count 0
+/// where the text tells none. Totals are summed anew.
 ///
 /// No head, key or target has two numbers, and all are of `keys` and `names`, as are those that
 /// `profile_text::read` gives.
@@ -38,7 +39,7 @@ pub fn tree_of(
     names.each_once();
     let items = part.items.as_slice();
     let marks = standing(alloc, items, keys, names.len())?;
-    let besides = besides_of(alloc, keys, known, &marks)?;
+    let besides = besides_of(alloc, items, keys, known, &marks)?;
     let counts = counts_of(alloc, items)?;
     let calls = calls_of(alloc, items)?;
     let heads = heads_of(alloc, items)?;

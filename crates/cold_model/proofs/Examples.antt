@@ -57,10 +57,34 @@ only_a_target :
 unfolding lines_with text_of_lines digits
 only_a_target = refl
 
--- A profile in which no number is above 0 has no functions, and nothing is written.
+-- What a profile tells with count 0 stays: a line that no key of the binary has, in an inlined call too, and a function of
+-- which no other line is told, which gets no further ones. A head and a target of 0 tell nothing.
+abbrev told_before : Profile
+told_before = record {
+  counts =
+      (in_f (to_body 0 0 ∷ []), 2) ∷ (in_f (to_body 3 0 ∷ []), 0) ∷ (in_f (to_body 8 1 ∷ []), 0)
+      ∷ (in_f (to_call 2 1 (codes "g") ∷ to_body 6 0 ∷ []), 0) ∷ (to_function (codes "g") ∷ to_body 7 0 ∷ [], 0) ∷ [];
+  calls = (in_f (to_body 8 1 ∷ []), codes "k", 0) ∷ [];
+  heads = (codes "f", 1) ∷ (codes "g", 0) ∷ (codes "h", 0) ∷ [];
+}
+
+lines_of_count_0_stay :
+    text_of_lines (cold_lines_of [] told_before)
+    ≡ codes "f:2:1\n 0: 2\n 3: 0\n 8.1: 0\n 2.1: g:0\n  6: 0\ng:0:0\n 7: 0\n"
+unfolding lines_with text_of_lines digits
+lines_of_count_0_stay = refl
+
+-- Behind those of one binary stand those of another.
+lines_of_another_binary :
+    text_of_lines (cold_lines_of keys told_before)
+    ≡ codes "f:2:1\n 0: 2\n 3: 0\n 5: 0\n 8.1: 0\n 2.1: g:0\n  1: 0\n  4: 0\n  6: 0\n 7: h:0\n  0: 0\ng:0:0\n 7: 0\n"
+unfolding lines_with text_of_lines digits
+lines_of_another_binary = refl
+
+-- A profile that tells no number above 0 and no count has no functions, and nothing is written.
 nothing_of_nothing :
     text_of_lines (cold_lines_of keys (record {
-      counts = (in_f (to_body 0 0 ∷ []), 0) ∷ [];
+      counts = [];
       calls = (in_f (to_body 3 0 ∷ []), codes "k", 0) ∷ [];
       heads = (codes "f", 0) ∷ [];
     }))

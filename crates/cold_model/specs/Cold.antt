@@ -1,5 +1,5 @@
 -- A profile in which keys that never ran have lines.
-use Rattle.std.specs.Prelude.{Bool, false, List, [], ◌∷◌, ◌++◌, map, filter}
+use Rattle.std.specs.Prelude.{Bool, false, ◌==◌, List, [], ◌∷◌, ◌++◌, map, filter}
 use Rattle.std.specs.List.{flat_map, list_any}
 use Rattle.profile_model.specs.Orders.{ordered, way_cmp}
 use Rattle.profile_model.specs.Profile.{Profile, Line, entered, line_at, recorded, total_of_function}
@@ -23,6 +23,11 @@ same_function way other = false
 abbrev pub stands_in : Profile → Way → Bool
 stands_in p way = list_any (same_function way) (recorded p ++ entered p)
 
--- The lines of a profile in which each of these keys whose function stands there has one.
+-- The keys of which a profile tells the count 0.
+abbrev pub told_cold : Profile → List Way
+told_cold p = map (λ c. c.0) (filter (λ c. c.1 == 0) p.counts)
+
+-- The lines of a profile in which each key of which it tells the count 0 keeps its line, and each of these keys whose
+-- function stands there has one.
 abbrev pub cold_lines_of : List Way → Profile → List Line
-cold_lines_of keys p = lines_with (filter (stands_in p) keys) p
+cold_lines_of keys p = lines_with (told_cold p ++ filter (stands_in p) keys) p

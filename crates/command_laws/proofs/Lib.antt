@@ -1,8 +1,10 @@
 pub mod AnswerLemmas
 pub mod BlockLemmas
-pub mod LineLemmas
-pub mod NameLemmas
-pub mod RepairLemmas
-mod MergedLemmas
+pub mod CheckedLemmas
 mod CommentLemmas
+pub mod EntryLemmas
+pub mod LineLemmas
+mod MergedLemmas
+pub mod NameLemmas
 mod OrderLemmas
+pub mod RepairLemmas

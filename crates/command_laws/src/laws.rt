@@ -1,4 +1,6 @@
 // How one command answers what another one wrote.
+ghost use Rattle.command_laws.specs.Checked.{CheckedIsLeast};
+ghost use Rattle.command_laws.specs.Entries.{EntriesCount};
 ghost use Rattle.command_laws.specs.Laws.{BuiltIsAccepted};
 ghost use Rattle.command_laws.specs.Merged.{BuiltIsMerged, ProfiledIsMerged};
 ghost use Rattle.command_laws.specs.Orders.{MergesInAnyOrder};
@@ -7,6 +9,18 @@ ghost use Rattle.command_laws.specs.Orders.{MergesInAnyOrder};
 /// text: neither file has a bad place, and no line fails its test.
 pub fn what_build_writes_is_accepted()
     ensures { BuiltIsAccepted }
+{}
+
+/// Where `check` answers that all is well, each function of the block text has in the repair text
+/// least counts with their cost, or a cut where no counts conserve within bounds.
+pub fn what_check_passes_is_least()
+    ensures { CheckedIsLeast }
+{}
+
+/// A sampled branch that enters a function counts once in its head, and once in its target where it
+/// came from a line: all heads are as many as the entries of the report.
+pub fn entries_count_in_heads_and_targets()
+    ensures { EntriesCount }
 {}
 
 /// Where `profile` may write a text of at most 2^28 bytes, `merge` of that text alone, with weight

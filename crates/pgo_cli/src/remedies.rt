@@ -308,6 +308,9 @@ The line looks like:
 - a good line with `^M` at its end: line ends of another system; `tr -d '\\r'`.
 - the last one, a good line that ends within an entry: a text that was cut off;
   print it again, and see that perf ended well.
+- a profile's line with spaces in a name, ` 3: sort<int*, main()::<lambda(int)>
+  >:9`: functions of gcc without a linkage name, by llvm-profgen; leave them
+  out, by the command of docs/USING.md, \"Profiles of other tools\".
 ",
     },
     Topic {

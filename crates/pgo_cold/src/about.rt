@@ -8,7 +8,7 @@ usage:
   pgo-cold [--base] BIN PROFILE
                       the profile, with a line of count 0 for each place of the
                       binary that has none, in the functions that the profile
-                      has; comments are not kept
+                      has; its lines of count 0 stay, comments do not
   pgo-cold --help, pgo-cold -h
                       this text
   pgo-cold --version  the version
@@ -17,7 +17,9 @@ BIN is a 64-bit ELF file with DWARF 4 or 5: the program that was sampled.
 PROFILE is a profile text, as `pgo profile`, `pgo build`, `pgo merge` and
 `pgo lift` print it. Without such lines clang guesses how often code ran that no
 sample tells of; with them it lays it out as cold. It is the last step before
-the compiler, behind any merge: a line of count 0 adds nothing to a sum.
+the compiler, behind any merge: a line of count 0 adds nothing to a sum. For a
+program with libraries it is run once for each binary, on what the run before
+printed.
 
 --base  discriminators are taken apart as clang packs them: give it where it was
         given to `pgo profile`, or each line with a discriminator has another

@@ -8,7 +8,7 @@ ghost use Rattle.command_model.specs.Cold.{cold_of};
 ghost use Rattle.command_model.specs.Command.{Command as TheCommand};
 ghost use Rattle.command_model.specs.Good.{AreGoodBefore};
 ghost use Rattle.pgo_run.specs.Run.{ComesExactly, HasWritten, IsWithoutFault, IsWithoutOutput};
-ghost use Rattle.pgo_run.specs.Opens.{AgreesWithOpens, Reaches};
+ghost use Rattle.pgo_run.specs.Opens.{AgreesWithOpens, ReachesNamed};
 ghost use Rattle.command_words.specs.Words.{texts_of};
 ghost use Rattle.pgo_cold.specs.Run.{answer_of};
 
@@ -62,7 +62,7 @@ pub fn run<I: Inputs, O: Sink>(
     ensures read_fault { (k : ℕ) → result ≡ Status.ReadFault k →
         Rises (I.faults inputs.old) (I.faults inputs.new)
         × IsSomeAnd (cold_of (texts_of words.now)) (λ command.
-        Reaches command k (I.opens inputs.old) (I.opens inputs.new)) }
+        ReachesNamed command k (I.opens inputs.old) (I.opens inputs.new)) }
     ensures opened { IfSome (cold_of (texts_of words.now)) (λ command.
         AgreesWithOpens command result (I.opens inputs.old) (I.opens inputs.new)) }
     ensures good_before { IfSome (I.store inputs.old) (λ files. (k : ℕ) →

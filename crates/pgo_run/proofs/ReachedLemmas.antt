@@ -1,6 +1,6 @@
 -- A command's files, one behind the other: what was reached, and what comes of each end.
-use Rattle.std.proofs.Common.{◌≡◌, ◌+◌, ◌-◌, ℕ, suc, List, [], ◌∷◌, ◌++◌, length, take, Option, None, Some, Result, Ok, Err, refl, sym, ap, subst, ◌∙◌, arith}
-use Rattle.std.specs.Prelude.{IfSome, cond}
+use Rattle.std.proofs.Common.{◌≡◌, ◌+◌, ◌-◌, ℕ, zero, suc, Bool, true, false, List, [], ◌∷◌, ◌++◌, length, take, Option, None, Some, Result, Ok, Err, refl, sym, ap, subst, ◌∙◌, arith}
+use Rattle.std.specs.Prelude.{IfSome, IsSomeAnd, cond, slice_get}
 use Rattle.std.specs.Global.{Vec}
 use Rattle.std.specs.Result.{IsErrAnd}
 use Rattle.std.proofs.lemmas.List.{length-append}
@@ -16,7 +16,7 @@ use Rattle.command_model.specs.Files.{Asked, IsOutput, failed_line, files_of, na
 use Rattle.command_model.specs.Good.{AreGood, AreGoodBefore}
 use Rattle.refusal.specs.Place.{JudgesUnlessNoMemory}
 use Rattle.pgo_run.specs.Halt.{IfAnswers, answer_in, judged_in}
-use Rattle.pgo_run.specs.Opens.{HasOpened, Reaches, is_named, opens_behind, opens_of}
+use Rattle.pgo_run.specs.Opens.{HasOpened, Reaches, ReachesNamed, is_named, opens_behind, opens_of}
 use Rattle.pgo_run.specs.Output.{Carries, EndsAt, EndsJudged, HasFileCause, IfReadFault, IsOfFile, Makes, ReadsFile, tells_read_fault}
 use Rattle.pgo_run.specs.declared.halt.Halt.{Halt}
 use Rattle.pgo_run.specs.declared.halt.Halt.TheVariants.{CheckFailed, NoSuchFile, Refused, ReadFault, NoMemory}
@@ -125,13 +125,49 @@ reaches command store before name judge rest opens opens_now opens_after k so_fa
       opened = opens-with command store before name judge rest opens opens_now opens_after so_far rose;
     })
 
+-- where one file more opens one file more, that file is named
+named-there : (n : ℕ) (files : List Asked) → opens_of (take (suc n) files) ≡ opens_of (take n files) + 1
+    → IsSomeAnd (slice_get files n) (λ file. is_named file.source ≡ true)
+named-there zero [] more = absurd (omega (arith, more))
+named-there (suc n) [] more = absurd (omega (arith, more))
+named-there zero (file ∷ files) more = by_test (is_named file.source) refl
+  where
+    by_test : (t : Bool) → is_named file.source ≡ t → is_named file.source ≡ true
+    by_test true is = is
+    by_test false is =
+        let one = sum_by-cons (λ (f : Asked). cond (is_named f.source) 1 0) file [] in
+        let none : cond (is_named file.source) 1 0 ≡ 0 = ap (λ t. cond t 1 0) is in
+        absurd (omega (arith, more, one, none))
+named-there (suc n) (file ∷ files) more =
+    let front = sum_by-cons (λ (f : Asked). cond (is_named f.source) 1 0) file (take (suc n) files) in
+    let behind = sum_by-cons (λ (f : Asked). cond (is_named f.source) 1 0) file (take n files) in
+    named-there n files (omega (arith, more, front, behind))
+
+reaches-named : (command : Command) (store : Option Store) (before : List (List ℕ)) (name : List ℕ) (judge : List (List ℕ) → List ℕ → Option Place) (rest : List Asked) (opens opens_now opens_after k : ℕ)
+    → Reached command store before (record { source = named name; judge = judge } ∷ rest) opens opens_now → opens_after ≡ raised opens_now
+    → k ≡ length before + 1 → ReachesNamed command k opens opens_after
+reaches-named command store before name judge rest opens opens_now opens_after k so_far rose is =
+    let first = so_far.first_opens 1 in
+    let none = so_far.first_opens 0 in
+    let one = one_more_opened name judge [] in
+    let same : length before + 0 ≡ length before = omega arith in
+    let at : opens_of (take (length before) (files_of command)) ≡ opens_of (take (length before + 0) (files_of command)) = ap (λ n. opens_of (take n (files_of command))) (sym same) in
+    let next : suc (length before) ≡ length before + 1 = omega arith in
+    let behind = ap (λ n. opens_of (take n (files_of command))) next in
+    let there = named-there (length before) (files_of command) (omega (arith, first, none, one, at, behind)) in
+    let index : length before ≡ k - 1 = omega (arith, is) in
+    record {
+      reached = reaches command store before name judge rest opens opens_now opens_after k so_far rose is;
+      is_named = subst (λ n. IsSomeAnd (slice_get (files_of command) n) (λ file. is_named file.source ≡ true)) index there;
+    }
+
 opened-by : (command : Command) (store : Option Store) (before : List (List ℕ)) (name : List ℕ) (judge : List (List ℕ) → List ℕ → Option Place) (rest : List Asked) (opens opens_now opens_after : ℕ) (h : Halt)
     → Reached command store before (record { source = named name; judge = judge } ∷ rest) opens opens_now → opens_after ≡ raised opens_now
     → IsOfFile {A = Vec ℕ} (length before + 1) (Err h) → HasOpened {A = Vec ℕ} command (Err h) opens opens_after
-opened-by command store before name judge rest opens opens_now opens_after (NoSuchFile j) so_far rose is = reaches command store before name judge rest opens opens_now opens_after j so_far rose is
+opened-by command store before name judge rest opens opens_now opens_after (NoSuchFile j) so_far rose is = reaches-named command store before name judge rest opens opens_now opens_after j so_far rose is
 opened-by command store before name judge rest opens opens_now opens_after (Refused place) so_far rose is = reaches command store before name judge rest opens opens_now opens_after place.file so_far rose is
 opened-by command store before name judge rest opens opens_now opens_after (CheckFailed line) so_far rose is = absurd is
-opened-by command store before name judge rest opens opens_now opens_after (ReadFault j) so_far rose is = reaches command store before name judge rest opens opens_now opens_after j so_far rose is
+opened-by command store before name judge rest opens opens_now opens_after (ReadFault j) so_far rose is = reaches-named command store before name judge rest opens opens_now opens_after j so_far rose is
 opened-by command store before name judge rest opens opens_now opens_after NoMemory so_far rose is =
     (length before + 1, let long = so_far.long in omega (arith, long), opens-with command store before name judge rest opens opens_now opens_after so_far rose)
 

@@ -1,5 +1,5 @@
 -- How many files a command opened, by what it came to.
-use Rattle.std.specs.Prelude.{◌≡◌, ◌≤◌, ◌<◌, ℕ, zero, suc, Bool, true, false, List, length, take, count_by, Result, Ok, Err}
+use Rattle.std.specs.Prelude.{◌≡◌, ◌≤◌, ◌<◌, ◌-◌, ℕ, zero, suc, Bool, true, false, List, length, take, count_by, slice_get, IsSomeAnd, Result, Ok, Err}
 use Rattle.io_edge.specs.Faults.{raised}
 use Rattle.command_model.specs.Command.{Command}
 use Rattle.command_model.specs.Files.{Asked, Source, named, made, files_of}
@@ -31,6 +31,11 @@ pub record Reaches (command : Command) (k opens opens_after : ℕ) : Type 0 wher
   pub last : k ≤ length (files_of command)
   pub opened : opens_after ≡ opens_behind opens (opens_of (take k (files_of command)))
 
+-- The same of a file that the command names. The program never opens one that it makes.
+pub record ReachesNamed (command : Command) (k opens opens_after : ℕ) : Type 0 where
+  pub reached : Reaches command k opens opens_after
+  pub is_named : IsSomeAnd (slice_get (files_of command) (k - 1)) (λ file. is_named file.source ≡ true)
+
 -- The files up to some one of the command's were opened.
 abbrev pub ReachesSome : Command → ℕ → ℕ → Type 0
 ReachesSome command opens opens_after =
@@ -38,14 +43,14 @@ ReachesSome command opens opens_after =
     × (opens_after ≡ opens_behind opens (opens_of (take k (files_of command))))
 
 -- As many files were opened as the status tells: all that the command has where they were good, those up to a file
--- that is missing, bad or could not be read, and those up to some file where memory was refused. A command is no
--- `Usage`.
+-- that is missing, bad or could not be read, and those up to some file where memory was refused. A file that is missing
+-- or could not be read is one that the command names. A command is no `Usage`.
 abbrev pub AgreesWithOpens : Command → Status → ℕ → ℕ → Type 0
 AgreesWithOpens command Done opens opens_after = ReachesAll command opens opens_after
 AgreesWithOpens command (CheckFailed line) opens opens_after = ReachesAll command opens opens_after
 AgreesWithOpens command WriteFault opens opens_after = ReachesAll command opens opens_after
-AgreesWithOpens command (NoSuchFile k) opens opens_after = Reaches command k opens opens_after
-AgreesWithOpens command (ReadFault k) opens opens_after = Reaches command k opens opens_after
+AgreesWithOpens command (NoSuchFile k) opens opens_after = ReachesNamed command k opens opens_after
+AgreesWithOpens command (ReadFault k) opens opens_after = ReachesNamed command k opens opens_after
 AgreesWithOpens command (Refused place) opens opens_after = Reaches command place.file opens opens_after
 AgreesWithOpens command NoMemory opens opens_after = ReachesSome command opens opens_after
 AgreesWithOpens command Usage opens opens_after = ⊥

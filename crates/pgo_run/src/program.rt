@@ -7,7 +7,7 @@ ghost use Rattle.command_model.specs.Answer.{answer_of, fails_check, no_such_fil
 ghost use Rattle.command_model.specs.Command.{Command as TheCommand, command_of};
 ghost use Rattle.command_model.specs.Good.{AreGoodBefore};
 ghost use Rattle.pgo_run.specs.Run.{ComesExactly, HasWritten, IsWithoutFault, IsWithoutOutput};
-ghost use Rattle.pgo_run.specs.Opens.{AgreesWithOpens, Reaches};
+ghost use Rattle.pgo_run.specs.Opens.{AgreesWithOpens, ReachesNamed};
 ghost use Rattle.pgo_run.specs.Output.{Carries};
 ghost use Rattle.command_words.specs.Words.{meaning_of, texts_of};
 
@@ -63,7 +63,7 @@ pub fn run<I: Inputs, O: Sink>(
     ensures read_fault { (k : ℕ) → result ≡ Status.ReadFault k →
         Rises (I.faults inputs.old) (I.faults inputs.new)
         × IsSomeAnd (command_of (texts_of words.now)) (λ command.
-        Reaches command k (I.opens inputs.old) (I.opens inputs.new)) }
+        ReachesNamed command k (I.opens inputs.old) (I.opens inputs.new)) }
     ensures opened { IfSome (command_of (texts_of words.now)) (λ command.
         AgreesWithOpens command result (I.opens inputs.old) (I.opens inputs.new)) }
     ensures good_before { IfSome (I.store inputs.old) (λ files. (k : ℕ) →

@@ -1,10 +1,11 @@
-use Rattle.std.proofs.Common.{◌∙◌, length, ap}
-use Rattle.std.specs.List.{filter_map}
+use Rattle.std.proofs.Common.{◌∙◌, length, ap, subst, sym}
+use Rattle.std.specs.List.{AllByRecursion, filter_map}
 use Rattle.std.proofs.lemmas.Result.{IfOk-weaker}
 use Rattle.cold_maker.proofs.BesidesLemmas.{besides_given}
 use Rattle.profile_text.proofs.NumberLemmas.{items_stated}
 use Rattle.cold_maker.proofs.TreeLemmas.{tree_is}
 use Rattle.cold_maker.specs.Besides.{has_mark}
+use Rattle.profile_text.specs.Draft.{IsGivenItem}
 use Rattle.profile_text.specs.Numbers.{call_in, count_in, head_in}
 use Rattle.cold_maker.proofs.tree.tree_of.Goals as goal
 
@@ -18,7 +19,9 @@ from_counts_with-requires-clause-stated c =
 
 pub from_counts_with-requires-clause-besides : goal.from_counts_with-requires-clause-besides
 from_counts_with-requires-clause-besides c =
-    besides_given c.args.names.now c.args.keys.now c.requires.numbers.key_names c.args.known (has_mark c.args.keys.now c.deref.result.now) c.in_ok-besides.besides.items c.deref-4.result.now
+    besides_given c.args.names.now c.args.keys.now c.requires.numbers.key_names c.as_slice-items.result.now c.args.known (has_mark c.args.keys.now c.deref.result.now)
+    c.in_ok-besides.besides.items c.deref-4.result.now
+    (subst (AllByRecursion (IsGivenItem (length c.args.names.now) (length c.args.keys.now))) (sym c.as_slice-items.ensures) c.requires.numbers.given)
     c.requires.known c.in_ok-besides.ensures c.deref-4.ensures.value
 
 pub returns-clause-lines : goal.returns-clause-lines

@@ -1,9 +1,9 @@
-use Rattle.std.proofs.Common.{ap, arith, rules, ◌∙◌}
+use Rattle.std.proofs.Common.{List, ap, arith, rules, subst, ◌∙◌}
 use Rattle.std.proofs.lemmas.List.Sorted.{IsNonDecreasingBy-from_sort_by_key, sum_by-IsPermutation}
 use Rattle.sample_model.specs.declared.pair.Pair.{Pair}
 use Rattle.profile_model.specs.Hits.{times_of}
 use Rattle.weight_model.specs.Edges.{taken}
-use Rattle.block_weights.specs.Sampled.{branches_taken, rank}
+use Rattle.block_weights.specs.Sampled.{AreSums, branches_taken, rank}
 use Rattle.block_weights.proofs.PassingLemmas.{passed_fits, passed_steps, times_behind}
 use Rattle.block_weights.proofs.TakenLemmas.{taken-permutation}
 use Rattle.block_weights.proofs.samples.EdgeSamples.new.Goals as goal
@@ -15,12 +15,14 @@ sweep-requires-clause-times c =
 
 pub invariant_of-result : goal.invariant_of-result
 invariant_of-result c =
-    let same = c.deref.ensures.value ∙ c.in_ok-behind_firsts.ensures.same in
-    record {
-      rise = IsNonDecreasingBy-from_sort_by_key (λ branch. rank branch.to branch.from) _ c.sort_unstable_by_key.ensures.sorted (λ a r q k. search rules);
-      taken_fits = omega (arith, c.requires.branches, sum_by-IsPermutation (λ (b : Pair). b.times) _ _ c.sort_unstable_by_key.ensures.permutation, ap branches_taken c.in_ok-branches.ensures.items);
-      passed_fits = λ a. passed_fits c.args.ran.now _ _ a same c.in_ok-passing.ensures c.requires.ran;
-    }
+    let same = c.deref.ensures.value ∙ c.in_ok-behind_firsts.ensures.same in (
+      record {
+        rise = IsNonDecreasingBy-from_sort_by_key (λ branch. rank branch.to branch.from) _ c.sort_unstable_by_key.ensures.sorted (λ a r q k. search rules);
+        taken_fits = omega (arith, c.requires.branches, sum_by-IsPermutation (λ (b : Pair). b.times) _ _ c.sort_unstable_by_key.ensures.permutation, ap branches_taken c.in_ok-branches.ensures.items);
+        passed_fits = λ a. passed_fits c.args.ran.now _ _ a same c.in_ok-passing.ensures c.requires.ran;
+      },
+      subst (λ branches. AreSums branches c.in_ok-sums.sums.items) c.deref-2.ensures.value c.in_ok-sums.ensures,
+    )
 
 pub returns : goal.returns
 returns c =

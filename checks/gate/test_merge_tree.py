@@ -1,0 +1,761 @@
+"""contrib/merge-tree: sums by any tree, and what it says and leaves behind where something goes wrong on the way."""
+import json
+import os
+import pathlib
+import signal
+import subprocess
+import sys
+import time
+import unittest
+
+from common import CONTRIB, DONE, FAILED, BAD_WORDS, MISSING, NO_MEMORY, PGO, READ_FAULT, REFUSED, TOP, WRITE_FAULT, Case, needs, needs_file
+from common import on_closed_output, python, run, terminated
+
+TREE = CONTRIB / "merge-tree"
+FLEET = TOP / "bench" / "fleet.py"
+HALF = "a:0:9223372036854775808\n"
+BAD = "a:0:1\n 1: 1\r\n"
+ONE, TWO = "a" * 40, "b" * 40
+
+
+def lines(*names):
+    """A list of names as merge-tree reads it."""
+    return "".join(f"{name}\n" for name in names).encode()
+
+
+def profile(number, build=""):
+    """A small profile whose numbers are its own."""
+    end = f"# build {build}\n" if build else ""
+    return f"main:{number + 1}:{number}\n 1: {number}\n 2: 1 f:{number}\nf_{number % 7}:{number}:1\n 3: {number}\n{end}"
+
+
+class Tree(Case):
+    """A case with some small profiles, p/0 and so on."""
+
+    count = 20
+
+    def setUp(self):
+        super().setUp()
+        for number in range(self.count):
+            self.file(f"p/{number}", profile(number + 1))
+        self.files = [f"p/{number}" for number in range(self.count)]
+
+    def merge(self, *words, **how):
+        return self.run_here(TREE, *words, **how)
+
+    def expected(self, *pairs):
+        """The sum of pairs of a weight and a file, by a chain of merges."""
+        made = self.file("chain")
+        for weight, name in pairs:
+            ran = self.run_here(PGO, "merge", "1", made, str(weight), name)
+            self.expect(ran, DONE, ran.out)
+            made.write_bytes(ran.out)
+        return made.read_bytes()
+
+    def sum_of(self, names):
+        return self.expected(*((1, name) for name in names))
+
+    def manifest(self, name="out.manifest"):
+        return json.loads((self.folder / name).read_text())
+
+    def pgo_that(self, *commands):
+        """A pgo that notes each call in the file `calls`, and does something of a shell before it."""
+        path = self.file("fake/pgo", "\n".join(["#!/bin/sh", f"echo \"$$ $*\" >>'{self.folder}/calls'", *commands, f"exec '{PGO}' \"$@\"", ""]))
+        path.chmod(0o755)
+        return {"PGO": str(path)}
+
+    def calls(self):
+        """The processes of the pgo above."""
+        path = self.folder / "calls"
+        return [int(line.split()[0]) for line in path.read_text().splitlines()] if path.exists() else []
+
+    def nothing_out(self):
+        """There is no sum, nor a piece of one."""
+        self.assertEqual([name for name in self.names() if name.startswith("out") and name != "out.tree"], [])
+
+    def plan(self, *words, size=4):
+        ran = self.merge("--plan=tree", f"--part-size={size}", "-o", "out", *words, *self.files)
+        self.expect(ran, DONE)
+
+    def make(self, *parts):
+        for part in parts:
+            self.expect(self.merge(f"--part={part}", "tree"), DONE)
+
+
+class Sums(Tree):
+    """Whichever tree, the bytes are the same."""
+
+    def test_a_thousand(self):
+        ran = python(FLEET, "1000", "12", "fleet", folder=self.folder)
+        self.expect(ran, DONE)
+        names = sorted(f"fleet/{name}" for name in self.names("fleet"))
+        whole = self.merge(*names)
+        self.expect(whole, DONE, self.sums_by_a_second_program(names))
+        self.expect(self.merge("-j3", given=lines(*reversed(names))), DONE, whole.out)
+        self.expect(self.merge("--part-size=100", given=lines("", *names[:500], " ", *names[500:])), DONE, whole.out)
+
+    def sums_by_a_second_program(self, names):
+        folders = [TOP / "checks" / "gate" / "program", TOP / "checks" / "program"]
+        sys.path[:0] = [str(folder) for folder in folders if (folder / "sums.py").exists()]
+        import sums
+        made = {}
+        for name in names:
+            sums.add(made, sums.read((self.folder / name).read_bytes()), 1)
+        return sums.text_of(made).encode()
+
+    def test_trees_of_other_sizes(self):
+        for count, size in ((1, 8), (8, 8), (9, 8), (20, 2), (17, 3), (7, 64), (20, 64)):
+            with self.subTest(count=count, size=size):
+                names = self.files[:count]
+                self.expect(self.merge(f"--part-size={size}", *names), DONE, self.sum_of(names))
+
+    def test_names(self):
+        odd = b"p/odd \"$HOME' : \\ \n\303\244\377me"
+        with open(os.path.join(os.fsencode(self.folder), odd), "wb") as file:
+            file.write(profile(9).encode())
+        self.file("-dash", profile(8))
+        self.file("3 small", profile(7))
+        whole = self.sum_of(["p/8", "p/7", "p/6"])
+        self.expect(self.merge("-0", given=b"\0".join([odd, b"-dash", b"3 small"])), DONE, whole)
+        self.expect(self.merge("-o", "out", "--", os.fsdecode(odd), "-dash", "3 small"), DONE)
+        self.assertEqual((self.folder / "out").read_bytes(), whole)
+
+    def test_weights_of_a_list(self):
+        self.expect(self.merge(given=b"3\tp/0\n1\tp/1\np/2\n65535\tp/3\n"), DONE, self.expected((3, "p/0"), (1, "p/1"), (1, "p/2"), (65535, "p/3")))
+        for weight in ("0", "65536", "99999999999"):
+            self.tells(self.merge(given=f"{weight}\tp/0\n".encode()), BAD_WORDS, f"p/0: a weight of {weight}.*from 1 to 65535")
+        self.tells(self.merge(given=b"-1\tp/0\n"), MISSING, "no such file")
+
+    def test_a_sum_in_place(self):
+        (self.folder / "out").write_text("old")
+        (self.folder / "out").chmod(0o640)
+        self.expect(self.merge("-o", "out", given=b"2\tp/0\n" + lines(*self.files[1:])), DONE)
+        self.assertEqual((self.folder / "out").read_bytes(), self.expected((2, "p/0"), *((1, name) for name in self.files[1:])))
+        self.assertEqual((self.folder / "out").stat().st_mode & 0o777, 0o640)
+        told = self.manifest()
+        self.assertEqual([(each["name"], each["weight"], each["size"]) for each in told["files"]], [
+            (str(self.folder / name), 1 + (name == "p/0"), (self.folder / name).stat().st_size) for name in self.files])
+        digest = self.run_here("sha256sum", "p/3", "out").out.split()
+        self.assertEqual(told["files"][3]["sha256"].encode(), digest[0])
+        self.assertEqual(told["sha256"].encode(), digest[2])
+        total = sum(2 * number + 1 for number in range(1, 21)) + 3
+        self.assertEqual((told["total_in"], told["total"], told["heads_in"], told["heads"]), (total, total, 210 + 20 + 2, 210 + 20 + 2))
+        self.assertEqual((told["left_out"], told["merged"], told["files_listed"]), ([], 20, 20))
+        self.assertFalse((self.folder / "out.tree").exists())
+        self.assertEqual([name for name in self.names() if "new" in name], [])
+
+
+class Refusals(Tree):
+    """What is wrong is named with its place, and there is no sum."""
+
+    def refused(self, status, said, *words, **how):
+        """Nothing is printed, and exactly this is said."""
+        self.expect(self.merge(*words, **how), status, b"", said)
+        (self.folder / "out").write_text("old")
+        ran = self.merge("-o", "out", *words, **how)
+        self.assertEqual((ran.status, (self.folder / "out").read_text()), (status, "old"))
+
+    def test_files(self):
+        self.file("bad", BAD)
+        self.file("half", HALF)
+        self.file("empty")
+        self.file("comments", "# branches 0\n\n")
+        os.mkfifo(self.folder / "pipe")
+        here = self.folder
+        for status, said, words in (
+            (MISSING, f"{here}/gone: no such file", ["p/0", "p/1", "gone", "p/2"]),
+            (MISSING, f"{here}/p/0/x: not a directory", ["p/0/x"]),
+            (REFUSED, f"{here}/bad: refused at 2: BadLine", [*self.files, "bad"]),
+            (READ_FAULT, f"{here}/p: read fault: it is a folder", ["p/0", "p"]),
+            (READ_FAULT, f"{here}/pipe: read fault: it is no file", ["pipe", "p/0"]),
+            (REFUSED, f"{here}/empty: empty: no line of it says anything", [*self.files, "empty"]),
+            (REFUSED, f"{here}/comments: empty: no line of it says anything", [*self.files, "comments"]),
+        ):
+            with self.subTest(said):
+                self.refused(status, f"merge-tree: {said}\n", *words)
+
+    def test_each_file_is_named(self):
+        self.file("bad", BAD)
+        self.file("worse", "\0")
+        here = self.folder
+        self.refused(REFUSED, f"merge-tree: {here}/bad: refused at 2: BadLine\nmerge-tree: {here}/worse: refused at 1: BadLine\nmerge-tree: {here}/gone: no such file\n",
+                     *self.files[:4], "bad", "p/4", "worse", *self.files[5:], "gone")
+
+    def test_sums_that_are_too_large(self):
+        self.file("half", HALF)
+        self.file("other", HALF)
+        for words in ([*self.files[:7], "half", "other"], ["half", "other", "p/0"], ["--skip-bad=100", "half", "other", *self.files]):
+            self.tells(self.merge(*words), REFUSED, "CountTooLarge.*smaller weights")
+        self.tells(self.merge("--skip-bad=100", given=b"2\thalf\n"), REFUSED, "half and those before it: refused at 1: CountTooLarge")
+
+    def test_a_sum_on_the_way_that_is_too_large(self):
+        ran = self.merge("-j1", "--skip-bad=100", *self.files, environment=self.pgo_that(
+            f"[ \"$(wc -l <'{self.folder}/calls')\" -le 3 ] || {{ echo 'refused: file 1 at 268435456: FileTooLarge' >&2; exit 4; }}"))
+        self.tells(ran, REFUSED, "the sum of .*/p/0 to .*/p/7: refused at 268435456: FileTooLarge")
+        self.expect(ran, REFUSED, b"", ran.err)
+
+    def test_a_file_that_is_too_large(self):
+        with open(self.folder / "large", "wb") as file:
+            file.truncate((1 << 28) + 1)
+        self.tells(self.merge("p/0", "large"), REFUSED, "large: refused at 268435456: FileTooLarge")
+
+    def test_a_file_twice(self):
+        (self.folder / "link").symlink_to("p/3")
+        os.link(self.folder / "p/3", self.folder / "hard")
+        for other in ("p/3", "./p/3", "link", "hard"):
+            self.refused(BAD_WORDS, f"merge-tree: {self.folder / other} is listed twice"
+                         + (f", as {self.folder}/p/3 too" if other in ("link", "hard") else "")
+                         + "\n  what helps: each file once; --add-weights takes it as often as its lines say together\n", *self.files, other)
+        whole = self.expected((7, "p/3"), (1, "p/4"))
+        self.expect(self.merge("--add-weights", given=b"p/3\n2\tp/3\np/4\n4\tlink\n"), DONE, whole)
+        self.tells(self.merge("--add-weights", given=b"65535\tp/3\np/3\n"), BAD_WORDS, "p/3: its weights add up to 65536")
+
+    def test_its_own_output(self):
+        (self.folder / "p/3").rename(self.folder / "out")
+        self.tells(self.merge("-o", "out", "p/0", "out"), BAD_WORDS, "out is listed to be merged, too")
+        (self.folder / "link").symlink_to("out")
+        self.tells(self.merge("-o", "out", "p/0", "link"), BAD_WORDS, "out is listed to be merged, too: .*link")
+
+    def test_words(self):
+        for said, words in (
+            ("there is no file to merge", []), ("a number from 1 up, and not 0", ["-j", "0", "p/0"]), ("--resume needs -o", ["--resume", "p/0"]),
+            ("a number from 0 to 100", ["--skip-bad=101", "p/0"]), ("a number from 0 to 100", ["--skip-bad=nan", "p/0"]),
+            ("at least two", ["--part-size=1", "p/0"]), ("a tree needs -o", ["--plan=tree", "p/0"]), ("one folder", ["--run", "a", "b"]),
+            ("No closing quotation", ["--fetch='", "p/0"]), ("not allowed with", ["--run", "--part=1.0", "tree"]),
+        ):
+            with self.subTest(said):
+                self.tells(self.merge(*words), BAD_WORDS, said)
+
+    def test_outputs(self):
+        self.tells(self.merge("-o", "p", *self.files), WRITE_FAULT, "p: it is a folder")
+        self.tells(self.merge("-o", "none/out", *self.files), WRITE_FAULT, "none/out.tree: nothing can be written there")
+        self.file("out.tree", "kept")
+        self.tells(self.merge("-o", "out", *self.files), WRITE_FAULT, "out.tree is there, and is no tree of merge-tree")
+        self.file("other.tree/kept")
+        self.tells(self.merge("-o", "other", *self.files), WRITE_FAULT, "other.tree is there, and is no tree of merge-tree")
+        self.assertEqual(self.names("other.tree"), ["kept"])
+
+    @needs_file("/dev/full")
+    def test_a_full_device(self):
+        self.ends_on_full_device("merge-tree", TREE, "p/0")
+
+    def test_a_closed_output(self):
+        self.tells(on_closed_output(TREE, "p/0", folder=self.folder), WRITE_FAULT, "output: it is closed")
+
+    def test_no_pgo(self):
+        alone = self.folder / "alone"
+        alone.mkdir()
+        self.run_here("cp", "-r", TREE, CONTRIB / "pgo_tools", alone)
+        self.tells(self.run_here(alone / "merge-tree", "p/0", environment={"PGO": None, "PATH": "/usr/bin:/bin"}), 127, "there is no pgo")
+
+    def test_no_memory(self):
+        self.tells(self.merge("p/0", environment=self.pgo_that("echo 'no memory' >&2; exit 7")), NO_MEMORY, "no memory")
+
+
+class BadFiles(Tree):
+    """--skip-bad leaves out what is no profile, and nothing else."""
+
+    count = 196
+
+    def test_one_of_196(self):
+        (self.folder / "p/77").write_text(BAD)
+        good = [name for name in self.files if name != "p/77"]
+        whole = self.sum_of(good)
+        ran = self.merge("--skip-bad", *self.files)
+        self.expect(ran, DONE, whole, f"merge-tree: left out: {self.folder}/p/77: refused at 2: BadLine\n")
+        self.tells(self.merge("-o", "out", "--skip-bad", *self.files), DONE, "p/77: refused at 2: BadLine")
+        self.assertEqual((self.folder / "out").read_bytes(), whole)
+        told = self.manifest()
+        self.assertEqual((told["merged"], told["bad"], len(told["files"])), (195, 1, 195))
+        self.assertEqual([(each["name"], each["why"]) for each in told["left_out"]], [(f"{self.folder}/p/77", "refused at 2: BadLine")])
+        self.assertEqual(told["total_in"], told["total"])
+
+    def test_more_than_so_many(self):
+        (self.folder / "p/0").write_text(BAD)
+        (self.folder / "p/1").write_text("")
+        (self.folder / "p/195").unlink()
+        ran = self.merge("-o", "out", "--skip-bad", *self.files)
+        self.tells(ran, REFUSED, "p/0: refused at 2: BadLine.*p/1: empty.*p/195: no such file.*3 of 196 files are bad, more than 1%.*--skip-bad=PERCENT")
+        self.nothing_out()
+        fake = self.pgo_that()
+        self.tells(self.merge("-o", "out", "--resume", "--skip-bad=1.6", *self.files, environment=fake), DONE, "p/0: refused.*p/1: empty.*p/195: no such file")
+        self.assertEqual(self.calls(), [])
+        self.assertEqual((self.folder / "out").read_bytes(), self.sum_of(self.files[2:195]))
+
+    def test_a_whole_part(self):
+        for name in self.files[:9]:
+            (self.folder / name).write_text(BAD)
+        self.tells(self.merge("-o", "out", "--skip-bad=5", *self.files), DONE, "p/8: refused")
+        self.assertEqual((self.folder / "out").read_bytes(), self.sum_of(self.files[9:]))
+
+    def test_all(self):
+        for name in self.files[:9]:
+            (self.folder / name).write_text(BAD)
+        self.tells(self.merge("-o", "out", "--skip-bad=100", *self.files[:9]), FAILED, "nothing was merged")
+        self.nothing_out()
+
+    def test_empty_files(self):
+        for name in self.files[:9]:
+            (self.folder / name).write_text("")
+        self.expect(self.merge("--empty-ok", *self.files), DONE, self.sum_of(self.files))
+        self.tells(self.merge("--empty-ok", *self.files[:9]), FAILED, "the sum is empty")
+
+
+class Builds(Tree):
+    """Profiles of several builds are kept apart."""
+
+    def setUp(self):
+        super().setUp()
+        for number in range(self.count):
+            (self.folder / f"p/{number}").write_text(profile(number + 1, ONE if number < 15 else TWO))
+
+    def test_one_build(self):
+        ran = self.merge(*self.files[:15])
+        self.expect(ran, DONE, self.sum_of(self.files[:15]) + f"# build {ONE}\n".encode())
+        self.expect(self.merge("-o", "out", *self.files[:15]), DONE)
+        self.assertEqual((self.folder / "out").read_bytes(), ran.out)
+        self.assertEqual((self.manifest()["build"], self.manifest()["size"]), (ONE, len(ran.out)))
+
+    def test_several_builds(self):
+        ran = self.merge("-o", "out", *self.files)
+        self.tells(ran, FAILED, f"of 2 builds: {ONE} .15 files., {TWO} .5 files..*--build=ID")
+        self.nothing_out()
+        self.tells(self.merge("-o", "out", f"--build={TWO}", *self.files), DONE, f"left out: 15 of 20 files, of other builds: .*p/0: it is of the build {ONE}")
+        self.assertEqual((self.folder / "out").read_bytes(), self.sum_of(self.files[15:]) + f"# build {TWO}\n".encode())
+        self.assertEqual((len(self.manifest()["left_out"]), self.manifest()["bad"]), (15, 0))
+        self.expect(self.merge("--build=any", *self.files), DONE, self.sum_of(self.files))
+        self.tells(self.merge("--build=none", *self.files), FAILED, "nothing was merged")
+
+    def test_a_line_that_does_not_stand_at_the_end(self):
+        path = self.folder / "p/3"
+        path.write_text(f"# build {TWO}\n" + profile(3) + "# ranges 1\n" * 1000)
+        self.tells(self.merge(*self.files[:15]), FAILED, "several builds")
+        self.tells(self.merge(*[name for name in self.files[:15] if name not in ("p/0", "p/1", "p/2")], "--part-size=2"), FAILED, "several builds")
+        path.write_text(f"# build {TWO}\n" + profile(3, ONE))
+        self.tells(self.merge(*self.files[:15]), REFUSED, "p/3: it is of several builds")
+
+    def test_files_that_tell_no_build(self):
+        (self.folder / "p/3").write_text(profile(3))
+        self.tells(self.merge(*self.files[:15]), FAILED, f"several builds: {ONE}, none")
+        self.tells(self.merge(f"--build={ONE}", *self.files[:15]), DONE, "left out: 1 of 15 files.*p/3: it tells no build")
+
+
+class Steps(Tree):
+    """A part of the next step is believed only where it is as it was made."""
+
+    def setUp(self):
+        super().setUp()
+        self.plan()
+        self.make("1.0", "1.1", "1.2", "1.3", "1.4")
+        self.whole = self.sum_of(self.files)
+
+    def refused_until_again(self, part, pattern):
+        """The next step refuses a part, and takes it once it was made anew."""
+        ran = self.merge("--part=2.0", "tree")
+        self.tells(ran, FAILED, f"tree/{part}.prof.*{pattern}.*--part={part} .*tree makes it anew")
+        self.assertNotEqual(self.merge("--part=3.0", "tree").status, DONE)
+        self.nothing_out()
+        self.make(part, "2.0", "2.1", "3.0")
+        self.assertEqual((self.folder / "out").read_bytes(), self.whole)
+
+    def test_parts(self):
+        self.make("2.0", "2.1", "3.0", "1.0", "2.0", "3.0")
+        self.assertEqual((self.folder / "out").read_bytes(), self.whole)
+
+    def test_a_part_that_was_cut_off_at_a_line(self):
+        path = self.folder / "tree/1.2.prof"
+        path.write_bytes(b"".join(path.read_bytes().splitlines(keepends=True)[:-1]))
+        self.refused_until_again("1.2", "it has [0-9]* bytes, and its manifest says")
+
+    def test_an_empty_part(self):
+        (self.folder / "tree/1.0.prof").write_text("")
+        self.refused_until_again("1.0", "it has 0 bytes")
+
+    def test_a_part_with_another_number(self):
+        path = self.folder / "tree/1.2.prof"
+        path.write_bytes(path.read_bytes().replace(b"1", b"2"))
+        self.refused_until_again("1.2", "its bytes are others")
+
+    def test_a_part_without_a_manifest(self):
+        (self.folder / "tree/1.2.manifest").unlink()
+        self.refused_until_again("1.2", "it was not made to its end")
+
+    def test_half_a_manifest(self):
+        path = self.folder / "tree/1.2.manifest"
+        path.write_text(path.read_text()[:300])
+        self.refused_until_again("1.2", "it was not made to its end")
+
+    def test_a_part_that_was_not_made(self):
+        (self.folder / "tree/1.2.manifest").unlink()
+        (self.folder / "tree/1.2.prof").unlink()
+        self.refused_until_again("1.2", "it was not made to its end")
+
+    def test_a_folder_in_place_of_a_part(self):
+        (self.folder / "tree/1.2.prof").unlink()
+        (self.folder / "tree/1.2.prof").mkdir()
+        self.tells(self.merge("--part=2.0", "tree"), FAILED, "1.2.prof: it is a folder")
+        self.nothing_out()
+
+    def test_a_part_of_another_number(self):
+        for kind in ("prof", "manifest"):
+            (self.folder / f"tree/1.2.{kind}").write_bytes((self.folder / f"tree/1.1.{kind}").read_bytes())
+        self.refused_until_again("1.2", "another night or another list")
+
+    def test_a_part_of_last_night(self):
+        stale = {kind: (self.folder / f"tree/1.2.{kind}").read_bytes() for kind in ("prof", "manifest")}
+        self.plan()
+        self.make("1.0", "1.1", "1.3", "1.4")
+        for kind, content in stale.items():
+            (self.folder / f"tree/1.2.{kind}").write_bytes(content)
+        self.refused_until_again("1.2", "another night or another list")
+
+    def test_a_part_of_another_build(self):
+        for name in self.files[8:12]:
+            (self.folder / name).write_text(profile(5, ONE))
+        self.make("1.2")
+        self.tells(self.merge("--part=2.0", "tree"), FAILED, f"several builds: {ONE}, none")
+        self.nothing_out()
+
+    def test_a_manifest_that_is_gone_at_last(self):
+        self.make("2.0", "2.1", "3.0")
+        (self.folder / "out").unlink()
+        (self.folder / "tree/1.2.manifest").unlink()
+        self.tells(self.merge("--part=3.0", "tree"), FAILED, "2.0.prof: .*--part=2.0 .* makes it anew")
+        self.assertFalse((self.folder / "out").exists())
+        self.expect(self.merge("--run", "tree"), DONE)
+        self.assertEqual((self.folder / "out").read_bytes(), self.whole)
+
+    def test_no_such_part_or_tree(self):
+        for part in ("4.0", "1.5", "0.0", "x", "1.-1"):
+            self.tells(self.merge(f"--part={part}", "tree"), BAD_WORDS, "has no part .*1.0 to 1.4, 2.0 to 2.1, 3.0 to 3.0")
+        self.tells(self.merge("--part=1.0", "p"), FAILED, "p holds no tree")
+        self.file("tree/tree", "{}")
+        self.tells(self.merge("--run", "tree"), FAILED, "describes no tree")
+
+    def test_what_is_missing_is_made_here(self):
+        (self.folder / "tree/1.2.prof").write_text("")
+        self.expect(self.merge("--run", "tree"), DONE)
+        self.assertEqual((self.folder / "out").read_bytes(), self.whole)
+
+
+class Resumed(Tree):
+    """A call that was ended goes on where it stopped."""
+
+    def resumed(self, most, *words):
+        """The sum is made with at most so many merges."""
+        (self.folder / "calls").unlink(missing_ok=True)
+        self.expect(self.merge("-o", "out", "--resume", "--part-size=2", *words, *self.files, environment=self.pgo_that()), DONE)
+        self.assertLessEqual(len(self.calls()), most)
+        calls, made = len(self.calls()), (self.folder / "out").read_bytes()
+        self.assertEqual(made, self.sum_of(self.files))
+        self.assertFalse((self.folder / "out.tree").exists())
+        return calls
+
+    def stopped(self, files=None):
+        """A call that stops at a file that is not there."""
+        ran = self.merge("-o", "out", "--part-size=2", *(files or [*self.files[:-1], "gone"]))
+        self.tells(ran, MISSING, "gone: no such file")
+        self.nothing_out()
+
+    def test_what_is_merged_is_not_merged_anew(self):
+        self.stopped()
+        self.assertEqual(self.resumed(6), 5)
+        self.assertEqual(self.resumed(0), 0)
+
+    def test_a_file_that_changed(self):
+        self.stopped()
+        (self.folder / "p/0").write_text(profile(100))
+        # The parts of the files that went with it into one sum are gone: those are made anew too.
+        self.assertGreater(self.resumed(20), 6)
+
+    def test_a_file_that_changed_behind_the_end(self):
+        self.resumed(100)
+        (self.folder / "p/0").write_text(profile(100))
+        self.assertGreater(self.resumed(100), 20)
+
+    def test_a_file_that_comes_late(self):
+        (self.folder / "p/0").rename(self.folder / "held")
+        self.tells(self.merge("-o", "out", "--part-size=2", "--skip-bad", *self.files), MISSING, "1 of 20 files are bad, more than 1%")
+        (self.folder / "held").rename(self.folder / "p/0")
+        self.assertGreater(self.resumed(21, "--skip-bad"), 5)
+
+    def test_anew(self):
+        self.stopped()
+        fake = self.pgo_that()
+        self.expect(self.merge("-o", "out", "--part-size=2", *self.files, environment=fake), DONE)
+        self.assertGreater(len(self.calls()), 20)
+
+    def test_a_part_that_was_cut_off(self):
+        self.stopped()
+        cut = [name for name in self.names("out.tree") if name.endswith(".prof")]
+        for name in cut:
+            path = self.folder / "out.tree" / name
+            path.write_bytes(path.read_bytes()[:-10])
+        self.resumed(100)
+
+    def test_two_at_once(self):
+        wait = self.pgo_that(f"while [ ! -e '{self.folder}/go' ]; do sleep 0.02; done")
+        first = subprocess.Popen([TREE, "-o", "out", *self.files], cwd=self.folder, env={**os.environ, **wait}, stderr=subprocess.PIPE)
+        while not self.calls():
+            time.sleep(0.01)
+        second = self.merge("-o", "out", "--resume", *self.files)
+        self.file("go")
+        self.assertEqual(first.wait(), 0)
+        first.stderr.close()
+        self.tells(second, FAILED, "another merge-tree is at work in .*out.tree")
+        self.assertEqual((self.folder / "out").read_bytes(), self.sum_of(self.files))
+
+
+class Ended(Tree):
+    """Ended by any signal nothing runs on, and what is done stays."""
+
+    # Some merges are made, the others wait for ever.
+    WAITS = "[ \"$(wc -l <\"${0%/fake/pgo}/calls\")\" -le 3 ] || exec sleep 600"
+
+    def gone(self, pid):
+        """No such process runs."""
+        try:
+            with open(f"/proc/{pid}/stat", encoding="ascii", errors="replace") as file:
+                return file.read().rsplit(")", 1)[1].split()[0] in "ZX"
+        except (FileNotFoundError, ProcessLookupError):
+            return True
+
+    def until_both_wait(self):
+        """Two jobs have come to merges that wait."""
+        seen, since, end = 0, time.monotonic(), time.monotonic() + 60
+        while (seen < 4 or time.monotonic() < since + 0.5) and time.monotonic() < end:
+            if len(self.calls()) > seen:
+                seen, since = len(self.calls()), time.monotonic()
+            time.sleep(0.02)
+
+    def test_signals(self):
+        for by in (signal.SIGTERM, signal.SIGINT, signal.SIGHUP, signal.SIGKILL):
+            with self.subTest(by.name):
+                (self.folder / "calls").unlink(missing_ok=True)
+                for name in ("out", "out.manifest"):
+                    (self.folder / name).unlink(missing_ok=True)
+                environment = {**os.environ, **self.pgo_that(self.WAITS)}
+                started = subprocess.Popen([TREE, "-j2", "-o", "out", "--part-size=2", *self.files], cwd=self.folder, env=environment, stderr=subprocess.PIPE)
+                self.until_both_wait()
+                started.send_signal(by)
+                said = started.communicate(timeout=20)[1]
+                self.assertEqual((started.returncode, said), (-by if by == signal.SIGKILL else 128 + by, b""))
+                end = time.monotonic() + 5
+                while not all(map(self.gone, self.calls())) and time.monotonic() < end:
+                    time.sleep(0.02)
+                self.assertTrue(all(map(self.gone, self.calls())))
+                self.nothing_out()
+                done = len(self.calls()) - 2
+                (self.folder / "calls").unlink()
+                self.expect(self.merge("-o", "out", "--resume", "--part-size=2", *self.files, environment=self.pgo_that()), DONE)
+                # Ten parts of files, five above, three, two and one, without those that were done.
+                self.assertEqual(len(self.calls()), 21 - done)
+                self.assertEqual((self.folder / "out").read_bytes(), self.sum_of(self.files))
+
+    def test_what_is_printed_leaves_nothing(self):
+        held = self.folder / "held"
+        held.mkdir()
+        environment = {**os.environ, **self.pgo_that(self.WAITS), "TMPDIR": str(held)}
+        started = subprocess.Popen([TREE, "-j2", "--part-size=2", *self.files], cwd=self.folder, env=environment, stdout=subprocess.PIPE, stderr=subprocess.PIPE)
+        self.until_both_wait()
+        started.terminate()
+        self.assertEqual((started.communicate(timeout=20), started.returncode), ((b"", b""), 128 + signal.SIGTERM))
+        self.assertEqual(self.names("held"), [])
+
+    def test_a_part_that_is_killed(self):
+        ran = self.merge("-o", "out", "-j1", "--part-size=2", *self.files,
+                         environment=self.pgo_that("[ \"$(wc -l <\"${0%/fake/pgo}/calls\")\" -le 3 ] || kill -KILL $PPID"))
+        self.tells(ran, FAILED, "part 1.[23] was ended by signal 9.*--resume")
+        self.nothing_out()
+        self.expect(self.merge("-o", "out", "--resume", "--part-size=2", *self.files), DONE)
+        self.assertEqual((self.folder / "out").read_bytes(), self.sum_of(self.files))
+
+    def test_a_merge_that_is_killed(self):
+        ran = self.merge("-o", "out", "--part-size=2", *self.files, environment=self.pgo_that("kill -KILL $$"))
+        self.tells(ran, FAILED, "pgo was ended by signal 9")
+        self.nothing_out()
+
+    def test_killed_at_each_step(self):
+        """At the N-th change of a file a part is killed: nothing is in place but a whole sum, and the next call makes it."""
+        files, ended = self.files[:4], 0
+        whole, driver = self.sum_of(files), self.file("driver.py", DRIVER)
+        for step in range(1, 200):
+            for name in ("out", "out.manifest"):
+                (self.folder / name).unlink(missing_ok=True)
+            ran = python(driver, TREE, str(step), "-j1", "-o", "out", "--part-size=2", *files, folder=self.folder)
+            if ran.status == DONE:
+                break
+            ended += 1
+            if (self.folder / "out").exists():
+                self.assertEqual((self.folder / "out").read_bytes(), whole)
+            self.expect(self.merge("-o", "out", "--resume", "--part-size=2", *files), DONE)
+            self.assertEqual((self.folder / "out").read_bytes(), whole)
+            self.assertEqual(self.manifest()["merged"], 4)
+        self.assertGreater(ended, 20)
+
+
+# Runs merge-tree, and kills the process that makes the N-th change to a file, of all of them together.
+DRIVER = """
+import os, runpy, signal, sys
+tree, step = sys.argv[1], int(sys.argv[2])
+count = os.open("changes", os.O_RDWR | os.O_CREAT | os.O_TRUNC | os.O_APPEND)
+def counted(real):
+    def change(*words, **how):
+        if real is not OPEN or words[1] & os.O_CREAT:
+            os.write(count, b".")
+            if os.fstat(count).st_size == step:
+                os.kill(os.getpid(), signal.SIGKILL)
+        return real(*words, **how)
+    return change
+OPEN = os.open
+for name in ("replace", "unlink", "mkdir", "rmdir", "open"):
+    setattr(os, name, counted(getattr(os, name)))
+sys.argv = [tree, *sys.argv[3:]]
+runpy.run_path(tree, run_name="__main__")
+"""
+
+
+class Rooms(Tree):
+    """Where there is no room, that is said with the status of a write fault, and what is done stays."""
+
+    def test_a_limit_on_files(self):
+        self.expect(python(FLEET, "9", "400", "fleet", folder=self.folder), DONE)
+        names = [f"fleet/{number}.prof" for number in range(1, 10)]
+        whole = self.merge(*names)
+        self.expect(whole, DONE, whole.out)
+        for limit in (len(whole.out) - 1, 20000, 100):
+            ran = self.run_here("prlimit", f"--fsize={limit}", TREE, "-o", "out", *names)
+            self.tells(ran, WRITE_FAULT, "room|File too large|larger than files may be")
+            self.nothing_out()
+        self.expect(self.merge("-o", "out", "--resume", *names), DONE)
+        self.assertEqual((self.folder / "out").read_bytes(), whole.out)
+
+    @needs("unshare", "mount")
+    def test_a_full_disk(self):
+        if run("unshare", "-m", "true").status:
+            self.skipTest("unshare -m is not allowed")
+        self.expect(python(FLEET, "64", "60", "fleet", folder=self.folder), DONE)
+        names = [f"fleet/{number}.prof" for number in range(1, 65)]
+        whole = self.merge(*names)
+        for pages in (6, 10, 14, 20, 30):
+            (self.folder / "disk").mkdir(exist_ok=True)
+            script = f"mount -t tmpfs -o size={4 * pages}k none disk && '{TREE}' -o disk/out {' '.join(names)}; status=$?; ls disk >left; exit $status"
+            ran = self.run_here("unshare", "-m", "sh", "-c", script)
+            if ran.status == DONE:
+                break
+            self.tells(ran, WRITE_FAULT, "room|No space left")
+            self.assertIn((self.folder / "left").read_text(), ("out.tree\n", ""))
+        self.assertGreater(pages, 6)
+
+
+class Changing(Tree):
+    """A file that changes while it is read is none that is whole."""
+
+    def test_a_file_that_grows(self):
+        fake = self.pgo_that("echo ' 9: 9' >>p/3")
+        self.tells(self.merge(*self.files[:5], environment=fake), READ_FAULT, "p/3: it changed while it was read")
+
+    def test_a_sum_that_loses_something(self):
+        fake = self.pgo_that(f"'{PGO}' \"$@\" | sed '$d'; exit 0")
+        ran = self.merge("-o", "out", *self.files[:5], environment=fake)
+        self.tells(ran, FAILED, "total of [0-9]* went in, and [0-9]* came out")
+        self.nothing_out()
+
+
+class Fetched(Tree):
+    """Files that a command brings."""
+
+    def test_a_copy(self):
+        self.expect(self.merge("--fetch=cp", "--part-size=10", *self.files), DONE, self.sum_of(self.files))
+        script = self.file("bring it", '#!/bin/sh\nset -eu\n[ "$1" = -v ]\ncp "p/${2#store://}" "$3"\n')
+        script.chmod(0o755)
+        self.expect(self.merge(f"--fetch='{script}' -v", *(f"store://{number}" for number in range(20))), DONE, self.sum_of(self.files))
+
+    def test_a_copy_that_fails(self):
+        self.tells(self.merge("--fetch=cp", *self.files, "gone"), READ_FAULT, "gone: read fault: cp ended with 1: .*No such file")
+        self.tells(self.merge("--fetch=true", *self.files[:2]), READ_FAULT, "p/0: read fault: true ended with 0")
+        self.tells(self.merge("--fetch=cp", "p/0", "p/0"), BAD_WORDS, "listed twice")
+        self.tells(self.merge("--fetch=no-such-command", "p/0"), READ_FAULT, "no-such-command")
+
+
+class Engines(Tree):
+    """One description of the tree, that engines run."""
+
+    def setUp(self):
+        super().setUp()
+        self.plan(size=3)
+
+    def engine(self, name):
+        ran = self.merge(f"--print={name}", "tree")
+        self.expect(ran, DONE, ran.out)
+        return self.file(name, ran.out)
+
+    def whole(self):
+        self.assertEqual((self.folder / "out").read_bytes(), self.sum_of(self.files))
+
+    @needs("make")
+    def test_make(self):
+        path = self.engine("make")
+        (self.folder / "p/9").rename(self.folder / "p/x")
+        ran = self.run_here("make", "-k", "-j3", "-f", path)
+        self.tells(ran, 2, "p/9: no such file")
+        self.nothing_out()
+        (self.folder / "p/x").rename(self.folder / "p/9")
+        self.expect(self.run_here("make", "-s", "-j3", "-f", path), DONE)
+        self.whole()
+
+    @needs("parallel", "seq")
+    def test_parallel(self):
+        path = self.engine("parallel")
+        (self.folder / "p/9").rename(self.folder / "p/x")
+        ran = self.run_here("sh", path, "-j2")
+        self.assertNotEqual(ran.status, DONE)
+        self.assertIn("p/9: no such file", ran.said)
+        self.nothing_out()
+        (self.folder / "p/x").rename(self.folder / "p/9")
+        self.assertEqual(self.run_here("sh", path, "-j2").status, DONE)
+        self.whole()
+
+    @needs("kubectl")
+    def test_kubernetes(self):
+        path = self.engine("kubernetes")
+        ran = self.run_here("kubectl", "label", "--local", "-f", path, "--dry-run=client", "-o", "json", "night=1")
+        if ran.status:
+            self.fail(ran.said)
+        self.assertEqual(ran.out.count(b'"kind": "Job"'), 3)
+        self.assertEqual([word for word in ran.out.split() if word.isdigit() or word[:-1].isdigit()][:2], [b"6,", b"7,"])
+
+    def test_slurm(self):
+        """By a stand-in for sbatch, which runs each array's jobs at once."""
+        stand_in = self.file("bin/sbatch", SBATCH)
+        stand_in.chmod(0o755)
+        path = self.engine("slurm")
+        ran = self.run_here("sh", path, "--partition=night", environment={"PATH": f"{stand_in.parent}:{os.environ['PATH']}"})
+        self.expect(ran, DONE, b"", ran.err)
+        self.whole()
+        log = (self.folder / "submitted").read_text().splitlines()
+        self.assertEqual(len(log), 3)
+        self.assertTrue(all("--kill-on-invalid-dep=yes" in line and "--partition=night" in line for line in log))
+        self.assertIn("--dependency=afterok:7 ", log[1])
+
+    def test_nomad(self):
+        self.assertIn(b"not run", self.merge("--print=nomad", "tree").out)
+
+
+SBATCH = """#!/bin/sh
+echo "$*" >>submitted
+for word; do
+    case $word in
+    --array=*) last=${word##*-} ;;
+    --wrap=*) wrap=${word#--wrap=} ;;
+    esac
+done
+for SLURM_ARRAY_TASK_ID in $(seq 0 "$last"); do
+    export SLURM_ARRAY_TASK_ID
+    sh -c "$wrap" || exit
+done
+echo 7
+"""
+
+if __name__ == "__main__":
+    unittest.main()

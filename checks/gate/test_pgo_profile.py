@@ -1,0 +1,503 @@
+"""contrib/pgo-profile: what it makes of good input in each of its forms, what it finds by itself, and what it says of what goes wrong
+for people."""
+import bz2
+import gzip
+import lzma
+import os
+import re
+import shutil
+import struct
+import subprocess
+import unittest
+
+from common import CONTRIB, PGO, TEXT, TOP, WORDS, Case, needs, on_closed_output, run, terminated
+
+SCRIPT = CONTRIB / "pgo-profile"
+LOAD = "words 7 PERF_RECORD_MMAP2 7/7: [0x401000(0x1000) @ 0x1000 08:02 5 0]: r-xp {}\n"
+ONE = TEXT.read_bytes().split(b"\n")[0] + b"\n"
+
+
+def load_line(name, build=None):
+    """A load line of the demo's code, as perf prints it with the number of a build or without."""
+    line = LOAD.format(name)
+    return line.replace("08:02 5 0", f"<{build}>") if build else line
+
+
+def expected():
+    """The profile of the demo as pgo prints it."""
+    places = (TOP / "checks/gate/program/words.expected", TOP / "checks/program/words.expected")
+    return next(each for each in places if each.is_file()).read_text()
+
+
+def without_cold(text):
+    """The lines of a profile but those that pgo-cold adds, and the number of the build."""
+    lines = text.splitlines(keepends=True)
+    return "".join(line for line in lines if not re.match(r" +[0-9.]+: (0|[^ :]+:0)$", line) and not line.startswith("# build"))
+
+
+class Profiles(Case):
+    """Cases that make `prof` in a folder of its own."""
+
+    def make(self, *words, **how):
+        """Runs it: a profile is there only with status 0, and nothing else is left."""
+        folder = self.folder / "made"
+        shutil.rmtree(folder, ignore_errors=True)
+        folder.mkdir()
+        ran = self.run_here(SCRIPT, *words, folder / "prof", **how)
+        left = os.listdir(folder)
+        self.assertEqual(left, ["prof"] if ran.status == 0 else [], ran.said)
+        self.made = (folder / "prof").read_text() if left else ""
+        if left:
+            self.assertRegex(self.made, r"(?m)^[^#]")
+        return ran
+
+    def judge(self, status, pattern, *words, **how):
+        """It ends so, and its error output has the pattern (none: it is empty)."""
+        ran = self.make(*words, **how)
+        if pattern:
+            self.tells(ran, status, pattern)
+        else:
+            self.expect(ran, status, ran.out, b"")
+        return ran
+
+    def build(self, name, *words, source=TOP / "demo/words.c", cc="cc"):
+        """A program of the demo's source or another, or a skipped case."""
+        ran = self.run_here(cc, "-w", *words, source, "-o", name)
+        if ran.status:
+            self.skipTest(f"{cc} {' '.join(words)} does not build: {ran.said[:100]}")
+        return self.folder / name
+
+
+class Demo(Profiles):
+    def test_profile(self):
+        ran = self.judge(0, "", "--base", WORDS, TEXT)
+        self.assertEqual(without_cold(self.made), expected())
+        self.assertRegex(self.made, r"(?m)^ .*: 0$")
+        lines = ran.out.decode().splitlines()
+        self.assertRegex(lines[0], r"^.*/prof: 3 functions; 85% of 4768 branches are of .*/words$")
+        self.assertRegex(lines[1], r"^build with: clang -g -fdebug-info-for-profiling -fprofile-sample-use=.*/prof, and ")
+        self.assertEqual(len(lines), 2)
+
+    def test_no_option_is_needed(self):
+        self.judge(0, "", WORDS, TEXT)
+        self.assertEqual(without_cold(self.made), expected())
+        self.judge(0, "without --base compilers miss lines.*the same with --base", "--no-base", WORDS, TEXT)
+
+    def test_ends_with_the_number_of_the_build(self):
+        self.judge(0, "", WORDS, TEXT)
+        self.assertRegex(self.made.splitlines()[-1], r"^# build [0-9a-f]{40}$")
+        made = self.file("made.prof", self.made)
+        self.assertEqual(self.run_here(PGO, "merge", "1", made).status, 0)
+
+    def test_a_profile_that_was_there_stays(self):
+        self.file("kept", "old\n")
+        self.file("empty")
+        ran = self.run_here(SCRIPT, "--base", WORDS, "empty", "kept")
+        self.tells(ran, 1, "kept stays as it was: empty is empty")
+        self.assertEqual(((self.folder / "kept").read_text(), self.names()), ("old\n", ["empty", "kept"]))
+
+    def test_a_closed_output(self):
+        ran = on_closed_output(SCRIPT, WORDS, TEXT, "prof", folder=self.folder)
+        self.tells(ran, 6, "^pgo-profile: output: it is closed$")
+        self.assertEqual(self.names(), ["prof"])
+
+    def test_a_signal(self):
+        os.mkfifo(self.folder / "text")
+        self.file("prof", "old\n")
+        os.mkdir(self.folder / "tmp")
+        words = ["env", f"TMPDIR={self.folder}/tmp", SCRIPT, WORDS, "text", "prof"]
+        ran = terminated(*words, folder=self.folder, until=lambda: self.names("tmp"))
+        self.assertNotIn("Traceback", ran.said)
+        self.assertEqual((ran.status, self.names("tmp"), (self.folder / "prof").read_text()), (143, [], "old\n"))
+
+
+class Forms(Profiles):
+    """Every form in which a recording comes gives the same profile."""
+
+    def same(self, *words, **how):
+        self.judge(0, "", *words, **how)
+        self.assertEqual(without_cold(self.made), expected())
+
+    def test_packed(self):
+        text = TEXT.read_bytes()
+        for name, pack in (("gz", gzip.compress), ("xz", lzma.compress), ("bz2", bz2.compress)):
+            with self.subTest(name):
+                self.same(WORDS, self.file(f"text.{name}", pack(text)))
+                self.judge(5, "packed, and damaged or cut off", WORDS, self.file("cut", pack(text)[:-20]))
+
+    @needs("zstd")
+    def test_packed_by_zstd(self):
+        packed = subprocess.run(["zstd", "-qc", TEXT], stdout=subprocess.PIPE, check=True).stdout
+        self.same(WORDS, self.file("text.zst", packed))
+        self.judge(5, "packed, and damaged or cut off", WORDS, self.file("cut", packed[:-20]))
+
+    def test_a_pipe(self):
+        self.same(WORDS, "/dev/stdin", given=TEXT.read_bytes())
+        self.same(WORDS, "/dev/stdin", given=gzip.compress(TEXT.read_bytes()))
+        with open(TEXT, "rb") as file:
+            self.same(WORDS, "/dev/stdin", given=file)
+
+    def recording(self):
+        maker = next(each for each in (TOP / "checks/gate/using/perf_data.py", TOP / "checks/using/perf_data.py") if each.is_file())
+        self.assertEqual(self.run_here("python3", maker, TEXT, "/srv/app/words", "perf.data").status, 0)
+        return self.folder / "perf.data"
+
+    @needs("perf")
+    def test_a_recording(self):
+        path = self.recording()
+        self.same(WORDS, path)
+        self.same(WORDS, "/dev/stdin", given=path.read_bytes())
+        self.same("--pid=7", WORDS, path)
+        self.same("--comm=words", WORDS, path)
+        self.judge(1, "has no branches|is empty", "--comm=other", WORDS, path)
+        self.judge(4, "at 1: BadLine.*it is a recording: perf script -i bad .*perf script says: ", WORDS, self.file("bad", path.read_bytes()[:200]).name)
+
+    def test_a_recording_without_perf(self):
+        path = self.recording()
+        os.mkdir(self.folder / "bin")
+        for tool in ("python3", "env"):
+            os.symlink(shutil.which(tool), self.folder / "bin" / tool)
+        self.judge(4, "at 1: BadLine.*it is a recording: perf script -i perf.data .*there is no perf here", WORDS, path.name,
+                   environment={"PATH": str(self.folder / "bin")})
+
+    def test_samples_of_a_text_are_not_chosen(self):
+        self.judge(2, "--pid=7: .*words.txt is no recording", "--pid=7", WORDS, TEXT)
+
+    def test_no_room_for_a_copy(self):
+        packed = self.file("text.gz", gzip.compress(TEXT.read_bytes()))
+        self.judge(6, "write fault in .*TMPDIR", WORDS, packed, prepare=lambda: limit_files(50000))
+
+    def test_a_text_without_a_last_line_feed(self):
+        self.judge(0, "cut.txt does not end with a line feed.*print the text again", WORDS, self.file("cut.txt", TEXT.read_bytes()[:-1]).name)
+
+
+def limit_files(size):
+    """No file gets larger, in the process that is begun."""
+    import resource
+    import signal
+    signal.signal(signal.SIGXFSZ, signal.SIG_IGN)
+    resource.setrlimit(resource.RLIMIT_FSIZE, (size, size))
+
+
+class Words(Profiles):
+    """What the words, the files and the place of the profile may be."""
+
+    def test_misspelt(self):
+        rows = [
+            ("it takes three files.* here are 4", [WORDS, TEXT, "extra"]),
+            ("there is no option --edges", ["--edges", WORDS, TEXT]),
+            ("the name stands behind --map= without a space", ["--map=", WORDS, TEXT]),
+            ("the name stands behind --map= without a space", ["--map", "/srv/app/words", WORDS, TEXT]),
+            ("the number stands behind --pid= without a space", ["--pid", "7", WORDS, TEXT]),
+            ("--map stands twice", ["--map=a", "--map=b", WORDS, TEXT]),
+            ("options stand in front of the files: --base", [WORDS, TEXT, "--base"]),
+            ("a file has no name", ["", TEXT]),
+        ]
+        for said, words in rows:
+            with self.subTest(said):
+                self.judge(2, f"^usage: .*pgo-profile: {said}", *words)
+
+    def test_places(self):
+        def judge(status, said, out, *words):
+            self.tells(self.run_here(SCRIPT, *(words or (WORDS, TEXT)), out), status, said)
+        judge(6, "none/prof was not made: nothing can be written there", "none/prof")
+        os.mkfifo(self.folder / "pipe")
+        judge(6, "it is a device or a pipe", "pipe")
+        os.mkdir(self.folder / "there")
+        judge(6, "it is a folder", "there")
+        os.symlink("there/prof", self.folder / "link")
+        judge(0, "^$", "link")
+        judge(0, "^$", "link")
+        self.assertTrue((self.folder / "link").is_symlink())
+        self.assertEqual(self.names("there"), ["prof"])
+        os.symlink("there/none/prof", self.folder / "astray")
+        judge(6, "nothing can be written there", "astray")
+        own = self.file("own", WORDS.read_bytes())
+        judge(2, "it is the program or the text: own", "own", "own", TEXT)
+        self.assertEqual(own.read_bytes(), WORDS.read_bytes())
+        self.file("-text", TEXT.read_bytes())
+        judge(0, "^$", "-prof", WORDS, "-text")
+        self.assertEqual(self.names(), ["-prof", "-text", "astray", "link", "own", "pipe", "there"])
+
+    def test_files(self):
+        rows = [
+            (3, "no such file: 1", ["none", TEXT]), (3, "no such file: 2", [WORDS, "none"]), (3, "no such file: 2 .*/dev/stdin", [WORDS, "-"]),
+            (4, "NotElf.*the program first", [TEXT, WORDS]), (5, "read fault: file 2 .*this is a folder", [WORDS, "made"]),
+            (4, "at 1: BadLine.*it is a program", [WORDS, WORDS]),
+        ]
+        for status, said, words in rows:
+            with self.subTest(said):
+                self.judge(status, said, *words)
+        for said, raw in (("is a recording", b"PERFILE2h\0\0\0"), ("is a script", b"#!/bin/sh\nexec words\n"), ("is a static library", b"!<arch>\n"),
+                          ("is empty", b""), ("is packed", gzip.compress(WORDS.read_bytes()))):
+            with self.subTest(said):
+                self.judge(4, f"NotElf.*bad {said}", self.file("bad", raw).name, TEXT)
+
+    def test_no_room(self):
+        whole = len(self.run_here(PGO, "profile", "--base", WORDS, TEXT).out)
+        self.judge(6, "made/prof was not made: write fault", WORDS, TEXT, prepare=lambda: limit_files(whole))
+
+    def test_alone(self):
+        shutil.copy(SCRIPT, self.folder)
+        ran = self.run_here("./pgo-profile", WORDS, TEXT, "prof", environment={"PYTHONPATH": None})
+        self.tells(ran, 127, "there is no pgo_tools beside this script, or in ../share/pgo")
+        os.makedirs(self.folder / "share/pgo")
+        os.makedirs(self.folder / "bin")
+        os.symlink(CONTRIB / "pgo_tools", self.folder / "share/pgo/pgo_tools")
+        os.rename(self.folder / "pgo-profile", self.folder / "bin/pgo-profile")
+        ran = self.run_here("bin/pgo-profile", WORDS, TEXT, "prof", environment={"PGO": None, "PATH": "/usr/bin:/bin"})
+        self.tells(ran, 127, "there is no pgo beside this script")
+        self.assertEqual(self.run_here("bin/pgo-profile", WORDS, TEXT, "prof").status, 0)
+
+
+class Lines(Profiles):
+    """Lines that are refused, by how they look."""
+
+    def test_looks(self):
+        rows = [
+            ("           words            4011c0 0x4011ce/0x401160/P/-/-/23/\n", "no fields in front"),
+            ("    7            4011c0 0x4011ce/0x401160/P/-/-/23/\n", "no fields in front"),
+            ("cycles:HG:            4011c0 0x4011ce/0x401160/P/-/-/23/\n", "no fields in front"),
+            ("           words     7       4999 cycles:HG:            4011c0 main+0x80 (/srv/app/words)\n", "no fields in front"),
+            ("           4011c0 main 0x4011ce/0x401160/P/-/-/23/\n", "no names beside"),
+            ("           4011c0main+0x8e/main+0x20/P/-/-/23/ main+0x8e/main+0x20/P/-/-/23/\n", "without sym or dso"),
+            ("           4011c0[unknown]/[unknown]/P/-/-/23/ [unknown]/[unknown]/P/-/-/23/\n", "without sym or dso"),
+            ("main:184:1\n", "it is a profile"), ("func main\n", "it is a block text"),
+            ("           4011c0 (/srv/app/words) 0x4011ce(/srv/app/words)/0x401160(/srv/app/words)/P/-/-/23/\n", "without sym or dso"),
+            ("0xe8@perf.data [0x20]: event: 3\n", "without -D"), (".  0000:  03 00 00 00 02 00 20 00  ...... .\n", "without -D"),
+            ("401036 0x1/0x2\r\n", "the CR at its end"), ("           4011c0 0x4011ce/0x401160\r\n", "the CR at its end"),
+            ("           4011c0 0x4011ce/zzz\n", "prints no such line"),
+        ]
+        for line, said in rows:
+            with self.subTest(line):
+                self.judge(4, f"at 2: BadLine.*{said}", WORDS, self.file("bad", ONE + line.encode() + ONE))
+        self.judge(4, "at 2: BadLine.*was cut off", WORDS, self.file("bad", ONE + b"           4011c0 0x4011ce/0x401160/P/-/-/23/  0x4011"))
+        crlf = "PERF_RECORD_MMAP2 7/7: [0x401000(0x1000) @ 0x1000 08:02 5 0]: r-xp /srv/app/words\n401036 0x1/0x2\r\n"
+        self.judge(4, "at 2: BadLine.*the CR at its end", WORDS, self.file("bad", crlf))
+
+    def test_no_byte_of_a_line_reaches_the_terminal_raw(self):
+        ran = self.judge(4, "BadLine", WORDS, self.file("bad", ONE + b"\x1b]0;title\x07 \x9b1m\n"))
+        self.assertNotRegex(ran.err, rb"[\x00-\x09\x0b-\x1f\x7f-\xff]")
+
+
+class Empty(Profiles):
+    """A profile of nothing: what was wrong, and what helps."""
+
+    def test_texts(self):
+        self.judge(1, "empty is empty", WORDS, self.file("empty").name)
+        self.judge(1, "alone has no branches.*perf record -b", WORDS, self.file("alone", "401036\n401040\n").name)
+        offsets = re.sub(r"0x40([0-9a-f]*)", r"0x\1", TEXT.read_text())
+        self.judge(1, "none of 4768 branches.*not brstackoff", WORDS, self.file("offsets", offsets))
+        elsewhere = re.sub(r"0x([0-9a-f]+)/0x([0-9a-f]+)", r"0x55d0\1/0x55d0\2", TEXT.read_text())
+        self.judge(1, "none of .* branches is of .*the binary that ran", WORDS, self.file("elsewhere", elsewhere))
+
+    def test_programs(self):
+        rows = [("has no debugging information", ["-no-pie"]), ("split, or of DWARF 2 or 3", ["-no-pie", "-gdwarf-2"]), ("split", ["-no-pie", "-g", "-gsplit-dwarf"])]
+        for said, flags in rows:
+            with self.subTest(said):
+                self.judge(1, said, self.build("program", "-O1", *flags), TEXT)
+
+
+class Names(Profiles):
+    """By which name a program was loaded: given, or found."""
+
+    def loaded(self, *lines):
+        return self.file("loaded", "".join(lines) + TEXT.read_text()).name
+
+    def test_given(self):
+        self.judge(0, "", "--map=/srv/app/words", WORDS, self.loaded(load_line("/srv/app/words")))
+        self.judge(1, 'no load line has this name: words .*--map="/srv/app/words"', "--map=words", WORDS, "loaded")
+        self.judge(1, "no load line has this name.*show-mmap-events", "--map=/srv/app/words", WORDS, TEXT)
+        replaced = self.loaded(load_line("/srv/app/words (deleted)"))
+        self.judge(1, r'no load line has this name: /srv/app/words .*--map="/srv/app/words \(deleted\)"', "--map=/srv/app/words", WORDS, replaced)
+        self.judge(0, "", "--map=/srv/app/words (deleted)", WORDS, replaced)
+
+    def independent(self):
+        """A position-independent program, and lines of a text in which it was loaded far away: a call of main's, many times."""
+        program = self.build("program", "-O1", "-g", "-fPIE", "-pie")
+        told = self.run_here("objdump", "-d", "--no-show-raw-insn", program).out.decode()
+        main = re.search(r"<main>:(.*?)\n\n", told + "\n\n", re.DOTALL)[1]
+        start = int(re.search(r"([0-9a-f]+):", main)[1], 16)
+        call = int(re.search(r"([0-9a-f]+):\tcall", main)[1], 16)
+        base = 0x10000000000
+        branch = f"0x{base + call:x}/0x{base + start:x}"
+        text = f"{branch} {branch}\n" * 300
+        line = f"program 7 PERF_RECORD_MMAP2 7/7: [0x{base:x}(0x10000) @ 0 %s]: r-xp %s\n"
+        return program, line, text
+
+    @needs("objdump", "cc")
+    def test_found(self):
+        program, line, text = self.independent()
+        number = re.search(r"Build ID: ([0-9a-f]+)", self.run_here("readelf", "-n", program).out.decode())
+        one, plain = line % ("08:02 5 0", "/srv/app/program"), "08:02 5 0"
+        self.judge(0, "", program, self.file("loaded", one + text).name)
+        self.judge(0, "", program, self.file("loaded", line % (plain, "/usr/lib/libc.so.6") + one + text).name)
+        self.judge(0, "", program, self.file("loaded", line % (plain, "/srv/app/program (deleted)") + text).name)
+        two = self.file("loaded", line % (plain, "/srv/old/program") + one + text).name
+        self.judge(1, "load lines have 2 names that fit .*--map=\"/srv/app/program\" --map=\"/srv/old/program\"", program, two)
+        self.judge(0, "", "--map=/srv/app/program", program, two)
+        other = self.file("loaded", line % (plain, "/srv/app/service") + text).name
+        self.judge(1, 'is position-independent.*--map="/srv/app/service"', program, other)
+        self.judge(1, "is position-independent.*show-mmap-events", program, TEXT)
+        self.judge(1, "is position-independent", program, "/dev/stdin", given=TEXT.read_bytes())
+        if number:
+            elsewhere = line.replace("0x10000000000", "0x20000000000") % ("<0123>", "/srv/app/program")
+            by_number = line % (f"<{number[1]}>", "/srv/app/service") + elsewhere
+            self.judge(0, "", program, self.file("loaded", by_number + text).name)
+            self.assertIn("main:", self.made)
+
+
+class Builds(Profiles):
+    """Another build than the one that ran."""
+
+    @needs("objdump", "cc", "readelf")
+    def test_numbers(self):
+        program = self.build("program", "-O1", "-g", "-no-pie", "-Wl,--build-id")
+        number = re.search(r"Build ID: ([0-9a-f]+)", self.run_here("readelf", "-n", program).out.decode())[1]
+        told = self.run_here("objdump", "-d", program).out.decode()
+        main = re.search(r"([0-9a-f]+) <main>:(.*?)\n\n", told, re.DOTALL)
+        call = re.search(r"([0-9a-f]+):\t[^\n]*call", main[2])[1]
+        branch = f"0x{call}/0x{main[1]} " * 2 + "\n"
+        text = branch * 300
+        good = load_line("/srv/program", number)
+        named = ["--map=/srv/program", "program"]
+        self.judge(0, "", *named, self.file("loaded", good + text).name)
+        self.judge(0, "", *named, self.file("loaded", load_line("/srv/programs", "0123") + good + text).name)
+        for words in (named, ["program"]):
+            self.judge(1, "was not made: the build 0123 ran, and program is ", *words, self.file("both", good + load_line("/srv/program", "0123") + text).name)
+            bad = self.file("loaded", load_line("/srv/program", "0123") + text).name
+            self.judge(1, "was not made: the build 0123 ran, and program is .*or --other-build", *words, bad)
+            self.judge(0, "made/prof again: the build 0123 ran, and program is ", "--other-build", *words, bad)
+        self.file("kept", "old\n")
+        self.tells(self.run_here(SCRIPT, *named, "loaded", "kept"), 1, "kept stays as it was: the build 0123 ran")
+        self.assertEqual((self.folder / "kept").read_text(), "old\n")
+
+    @needs("cc")
+    def test_branches(self):
+        self.build("program", "-O1", "-g", "-no-pie")
+        self.judge(0, "start where program has no branch.*the binary that ran", "program", TEXT)
+        self.judge(0, "start where program has no branch.*the binary that ran", "program", "/dev/stdin", given=TEXT.read_bytes())
+
+
+class Information(Profiles):
+    """Debugging information that is packed, or stands in a file of its own."""
+
+    def set_up(self, *flags):
+        self.build("program", "-O1", "-g", "-no-pie", *flags)
+
+    @needs("cc", "objcopy", "strip")
+    def test_without_tools(self):
+        self.set_up("-gz")
+        bare = {"PATH": str(self.folder / "bin")}
+        os.mkdir(self.folder / "bin")
+        for tool in ("python3", "env"):
+            os.symlink(shutil.which(tool), self.folder / "bin" / tool)
+        self.judge(4, "Compressed.*objcopy --decompress-debug-sections program program.plain", "program", TEXT, environment=bare)
+        self.run_here("strip", "-o", "stripped", "program")
+        self.judge(1, "has no debugging information", "stripped", TEXT)
+
+    @needs("cc", "objcopy")
+    def test_packed(self):
+        self.set_up("-gz")
+        self.judge(0, "start where program has no branch", "program", TEXT)
+
+    @needs("objcopy", "eu-unstrip")
+    def test_a_debug_file(self):
+        shutil.copy(WORDS, self.folder / "whole")
+        self.run_here("objcopy", "--only-keep-debug", "--compress-debug-sections", "whole", "words.debug")
+        self.run_here("objcopy", "--strip-all", "--add-gnu-debuglink=words.debug", "whole", "words")
+        self.judge(0, "", "words", TEXT)
+        self.assertEqual(without_cold(self.made), expected())
+        os.mkdir(self.folder / ".debug")
+        os.rename(self.folder / "words.debug", self.folder / ".debug/words.debug")
+        self.judge(0, "", "words", TEXT)
+        self.build("other", "-g", "-no-pie")
+        self.run_here("objcopy", "--only-keep-debug", "other", ".debug/words.debug")
+        self.judge(1, "has no debugging information", "words", TEXT)
+
+    @needs("cc", "objcopy", "readelf", "nm")
+    def test_a_debug_file_alone(self):
+        self.set_up()
+        self.run_here("objcopy", "--only-keep-debug", "program", "program.debug")
+        loaded = self.file("loaded", load_line("/srv/program") + TEXT.read_text()).name
+        self.judge(1, "no branch is of /srv/program, though it was loaded.*eu-unstrip", "--map=/srv/program", "program.debug", loaded)
+
+
+@needs("clang-14")
+class Spoiled(Profiles):
+    """Builds by which a profile is worth nothing, and recordings that are too short."""
+
+    def test_options(self):
+        source = self.file("words.cc", "extern \"C\" {\n#include \"words.c\"\n}\n")
+        shutil.copy(TOP / "demo/words.c", self.folder)
+        for cc in filter(shutil.which, ("clang-14", "clang-19")):
+            for name, path in (("C", TOP / "demo/words.c"), ("C++", source)):
+                for flags, is_good in ((["-g"], False), (["-gmlt"], False), (["-g", "-fdebug-info-for-profiling"], True),
+                                       (["-gmlt", "-fdebug-info-for-profiling"], True)):
+                    with self.subTest(f"{cc} {name} {flags}"):
+                        self.one_build(cc, path, flags, is_good)
+
+    def one_build(self, cc, path, flags, is_good):
+        more = ["-x", "c++", "-fpermissive"] if str(path).endswith(".cc") else []
+        program = self.build("program", "-O2", "-no-pie", *flags, *more, source=path, cc=cc)
+        text = self.text_of(program)
+        said = "built without -fdebug-info-for-profiling.*-g -fdebug-info-for-profiling on the build that is sampled"
+        self.judge(0, "" if is_good else said, program.name, text)
+
+    def text_of(self, program):
+        """A text in which each instruction of the program's own functions that branches was sampled, with all before it."""
+        told = self.run_here("objdump", "-d", "--no-show-raw-insn", program).out.decode()
+        lines = []
+        for body in re.findall(r"<(?:main|count_word|insert|_Z[^>]*|[a-z_]*word[a-z_]*|by_times|next_random|make_text)>:\n(.*?)\n\n", told, re.DOTALL):
+            rows = re.findall(r"^ *([0-9a-f]+):\t(\S+)", body, re.MULTILINE)
+            ends = [at for at, what in rows if what.startswith(("j", "call", "ret"))]
+            if ends:
+                lines.append("".join(f" 0x{at}/0x{rows[0][0]}" for at in reversed(ends)))
+        return self.file("text", ("\n".join(lines) + "\n") * 100).name
+
+    def test_few_samples(self):
+        self.judge(0, "too few samples: .* times as many: record longer", WORDS, self.file("few", b" ".join(ONE.split()[:4]) + b"\n"))
+
+
+class Several(Profiles):
+    """A program and its libraries, in one profile."""
+
+    @needs("objdump", "cc")
+    def test_two(self):
+        self.build("program", "-O1", "-g", "-no-pie")
+        ran = self.make("--also=program", WORDS, TEXT)
+        self.assertEqual(ran.status, 0)
+        self.assertRegex(ran.out.decode(), r"85% of 4768 branches are of .*words, [0-9]+% of program\n")
+        self.assertEqual(len(re.findall(r"(?m)^# build ", self.made)), 2)
+        merged = self.file("merged", self.made)
+        self.assertEqual(self.run_here(PGO, "summary", merged).status, 0)
+
+    def test_one_of_nothing(self):
+        self.file("other", WORDS.read_bytes())
+        self.judge(0, "no load line has this name: /srv/none", "--map=/srv/app/words", "--map=/srv/none", "--also=other", WORDS,
+                   self.file("loaded", load_line("/srv/app/words") + TEXT.read_text()))
+        self.assertEqual(without_cold(self.made)[: expected().index("#")], expected()[: expected().index("#")])
+
+
+class Shares(Profiles):
+    """Programs of several compilers."""
+
+    @needs("gcc", "clang-14")
+    def test_two_makers(self):
+        self.file("a.c", "int other(int); int main(int n, char **w) { int s = 0; for (int i = 0; i < 99; i++) s += other(i); return s & 1; }\n")
+        self.file("b.c", "int other(int n) { return n * 3 + 1; }\n")
+        for cc, name in (("gcc", "a"), ("clang-14", "b")):
+            self.assertEqual(self.run_here(cc, "-O1", "-g", "-c", f"{name}.c").status, 0)
+        self.assertEqual(self.run_here("gcc", "-no-pie", "a.o", "b.o", "-o", "both").status, 0)
+        told = self.run_here("nm", "both").out.decode()
+        main = int(re.search(r"([0-9a-f]+) T main", told)[1], 16)
+        self.judge(0, r"several compilers made both \((clang|gcc) \d+%, (clang|gcc) \d+%\)", "both", self.file("text", f"0x{main + 4:x}/0x{main:x}\n" * 50))
+
+    @needs("gcc")
+    def test_gcc_with_base(self):
+        self.build("program", "-O1", "-g", "-no-pie", cc="gcc")
+        self.judge(0, "gcc made program, and --base is for binaries of clang and rustc.*without --base", "--base", "program", TEXT)
+
+
+if __name__ == "__main__":
+    unittest.main()

@@ -1,0 +1,187 @@
+"""What a profile's text holds, and the manifest beside each sum of profiles.
+
+A manifest tells which files went into a sum, each with its size, SHA-256 and weight; which were left out, each with the
+reason; and what the sum is. A sum is believed only where its bytes are those that its manifest tells.
+"""
+import hashlib
+import json
+import os
+import re
+from typing import List, NamedTuple, Optional
+
+from pgo_tools.cli import FAILED, Trouble
+from pgo_tools.files import put_in_place
+
+FORM = "merge-tree 1"
+BLOCK = 1 << 20
+
+# A body line's count, a function's head, a line of another kind than blank ones and comments, and the build that was sampled.
+COUNT = re.compile(rb"\n +[0-9.]+: ([0-9]+)(?![^ \n])")
+HEAD = re.compile(rb"\n[^ \n#][^\n]*:([0-9]+)(?![^\n])")
+SAYS = re.compile(rb"\n *[^ \n#]")
+BUILD = re.compile(rb"\n# build ([^\n]*)")
+
+
+class Facts(NamedTuple):
+    """What a text is: its bytes, the sums of its counts and of its heads, whether it says anything, and its builds."""
+
+    size: int
+    sha256: str
+    total: int
+    heads: int
+    says: bool
+    builds: List[str]
+
+
+class Reader:
+    """Takes in a text piece by piece, so that a large one is not held."""
+
+    def __init__(self):
+        self.digest = hashlib.sha256()
+        self.size = self.total = self.heads = 0
+        self.says, self.builds, self.open = False, set(), []
+
+    def add(self, block):
+        self.digest.update(block)
+        self.size += len(block)
+        end = block.rfind(b"\n")
+        if end < 0:
+            self.open.append(block)
+            return
+        self.lines(b"".join([b"\n", *self.open, block[:end]]))
+        self.open = [block[end + 1 :]]
+
+    def lines(self, lines):
+        """Whole lines, each behind a line feed."""
+        self.total += sum(map(int, COUNT.findall(lines)))
+        self.heads += sum(map(int, HEAD.findall(lines)))
+        self.says = self.says or bool(SAYS.search(lines))
+        self.builds.update(BUILD.findall(lines))
+
+    def facts(self):
+        self.lines(b"".join([b"\n", *self.open]))
+        builds = sorted(build.decode("utf-8", "backslashreplace") for build in self.builds)
+        return Facts(self.size, self.digest.hexdigest(), self.total, self.heads, self.says, builds)
+
+
+def facts_of(file, copy=None):
+    """The facts of a stream of bytes from where it stands, which is copied to another one on the way where that is given."""
+    reader = Reader()
+    while True:
+        block = file.read(BLOCK)
+        if not block:
+            return reader.facts()
+        reader.add(block)
+        if copy is not None:
+            copy.write(block)
+
+
+class Entry(NamedTuple):
+    """A file that went in. The stamp tells whether it has been written to since."""
+
+    name: str
+    weight: int
+    size: int
+    sha256: str
+    total: int
+    heads: int
+    stamp: List[int]
+
+
+class LeftOut(NamedTuple):
+    """A file that did not go in: its first bad place, or another build (which is no fault of the file)."""
+
+    name: str
+    weight: int
+    why: str
+    status: int
+    bad: bool
+    stamp: List[int]
+
+
+class Below(NamedTuple):
+    """A part that went in, by its name in the tree and its bytes."""
+
+    name: str
+    sha256: str
+
+
+class Manifest(NamedTuple):
+    """What stands beside a sum. `tree` and `want` tell of which tree it is, and of which files in it."""
+
+    tree: str
+    want: str
+    size: int
+    sha256: str
+    total: int
+    heads: int
+    says: bool
+    build: str
+    merged: int
+    bad: int
+    files: List[Entry] = []
+    parts: List[Below] = []
+    left_out: List[LeftOut] = []
+
+
+def stamp_of(seen):
+    """What the system tells of a file that changes when its bytes do."""
+    return [seen.st_ino, seen.st_size, seen.st_mtime_ns, seen.st_ctime_ns]
+
+
+def stamp_at(path):
+    """The same of the file at a path; nothing where there is none."""
+    try:
+        return stamp_of(os.stat(path))
+    except OSError:
+        return []
+
+
+def rows(key, entries):
+    """A list of entries as JSON, one a line."""
+    lines = ",\n  ".join(json.dumps(entry._asdict()) for entry in entries)
+    return f' "{key}": [\n  {lines}\n ]' if entries else f' "{key}": []'
+
+
+def write(path, manifest, more=(), lasting=True):
+    """Puts a manifest in place. `more` are further pairs at its front."""
+    lists = ("files", "parts", "left_out")
+    plain = [("form", FORM), *more, *((key, value) for key, value in manifest._asdict().items() if key not in lists)]
+    said = [f" {json.dumps(key)}: {json.dumps(value)}" for key, value in plain]
+    said += [rows(key, getattr(manifest, key)) for key in lists if getattr(manifest, key) or key == "left_out"]
+    with put_in_place(path, lasting=lasting) as file:
+        file.write(("{\n" + ",\n".join(said) + "\n}\n").encode("ascii"))
+
+
+def read(path) -> Optional[Manifest]:
+    """The manifest at a path; None where there is none, or what stands there is none that was written to its end."""
+    try:
+        with open(path, "rb") as file:
+            told = json.load(file)
+        if told.get("form") != FORM:
+            return None
+        kinds = {"files": Entry, "parts": Below, "left_out": LeftOut}
+        lists = {key: [kind(**entry) for entry in told.get(key, [])] for key, kind in kinds.items()}
+        return Manifest(**{key: told[key] for key in Manifest._fields if key not in kinds}, **lists)
+    except (FileNotFoundError, ValueError, TypeError, KeyError, AttributeError):
+        return None
+
+
+def differs(facts, manifest):
+    """What a text is told to be and is not, or nothing."""
+    if facts.size != manifest.size:
+        return f"it has {facts.size} bytes, and its manifest says {manifest.size}"
+    return "" if facts.sha256 == manifest.sha256 else "its bytes are others than its manifest says"
+
+
+def check_sums(what, facts, inputs):
+    """Refuses a sum whose counts or heads do not add up to those that went in: pairs of a weight and facts or a manifest."""
+    for of in ("total", "heads"):
+        went_in, came_out = sum(weight * getattr(each, of) for weight, each in inputs), getattr(facts, of)
+        if went_in != came_out:
+            raise Trouble(f"{what}: {of} of {went_in} went in, and {came_out} came out", FAILED, "a look at the disk and the memory")
+
+
+def beside(out):
+    """Where the manifest of an output stands."""
+    return os.fspath(out) + ".manifest"

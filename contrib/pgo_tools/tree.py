@@ -1,0 +1,135 @@
+"""The tree that sums up any number of profiles: its files, parts and levels, described once for whatever runs it.
+
+A part of level 1 sums up some of the files, a part of a higher level some of the parts below, and the one part of the last
+level all of them. Sums are sums: whichever tree it is, and in whatever order the files come, the bytes are the same.
+"""
+import hashlib
+import json
+import os
+import re
+import secrets
+from typing import List, NamedTuple, Optional
+
+from pgo_tools.cli import FAILED, USAGE, Trouble
+from pgo_tools.files import put_in_place
+
+FORM = "merge-tree's tree 1"
+
+
+class File(NamedTuple):
+    """A profile and how many times it counts."""
+
+    name: str
+    weight: int
+
+
+class Part(NamedTuple):
+    """A part of the tree, as LEVEL.NUMBER. Levels are counted from 1 and the parts of a level from 0."""
+
+    level: int
+    number: int
+
+    def __str__(self):
+        return f"{self.level}.{self.number}"
+
+
+class Choices(NamedTuple):
+    """What was asked for: how many percent may be bad (None for none), whether an empty file is good, which build ("" for the
+    one that all agree on, "any" for all together), and the words of a command that fetches a file."""
+
+    skip_bad: Optional[float] = None
+    empty_ok: bool = False
+    build: str = ""
+    fetch: List[str] = []
+
+
+class Tree(NamedTuple):
+    """A tree in a folder. Parts of another tree's id are refused: they are of another night."""
+
+    folder: str
+    out: str
+    id: str
+    width: int
+    choices: Choices
+    files: List[File]
+
+    def counts(self):
+        """How many parts each level has, from level 1 up."""
+        made = [-(-len(self.files) // self.width)]
+        while made[-1] > 1:
+            made.append(-(-made[-1] // self.width))
+        return made
+
+    def last(self):
+        """The part that has all in it."""
+        return Part(len(self.counts()), 0)
+
+    def parts(self):
+        """All parts, each behind those that it sums up."""
+        return [Part(level, number) for level, count in enumerate(self.counts(), 1) for number in range(count)]
+
+    def below(self, part):
+        """The parts that a part of a level above 1 sums up."""
+        most = self.counts()[part.level - 2]
+        return [Part(part.level - 1, number) for number in range(part.number * self.width, min((part.number + 1) * self.width, most))]
+
+    def above(self, part):
+        """The part that sums up a part, or None."""
+        return None if part == self.last() else Part(part.level + 1, part.number // self.width)
+
+    def files_of(self, part):
+        """The files that are in a part, whatever its level."""
+        span = self.width**part.level
+        return self.files[part.number * span : (part.number + 1) * span]
+
+    def want(self, part):
+        """What a part has to be made of, as one word: two trees with the same files there ask for the same."""
+        asked = [part.level, self.width, self.choices.empty_ok, self.choices.build, self.choices.fetch, self.files_of(part)]
+        return hashlib.sha256(json.dumps(asked).encode("ascii")).hexdigest()
+
+    def text(self, part):
+        return os.path.join(self.folder, f"{part}.prof")
+
+    def manifest(self, part):
+        return os.path.join(self.folder, f"{part}.manifest")
+
+
+def part_of(tree, word):
+    """The part that LEVEL.NUMBER names."""
+    match = re.fullmatch(r"([0-9]+)\.([0-9]+)", word)
+    part = Part(int(match[1]), int(match[2])) if match else None
+    if part not in tree.parts():
+        counts = ", ".join(f"{level}.0 to {level}.{count - 1}" for level, count in enumerate(tree.counts(), 1))
+        raise Trouble(f"{tree.folder} has no part {word}: it has {counts}", USAGE)
+    return part
+
+
+def description(folder):
+    return os.path.join(folder, "tree")
+
+
+def write(tree):
+    """Puts the description into the tree's folder."""
+    told = tree._replace(choices=tree.choices._asdict())._asdict()
+    with put_in_place(description(tree.folder), lasting=False) as file:
+        file.write((json.dumps({"form": FORM, **told}) + "\n").encode("ascii"))
+
+
+def read(folder):
+    """The tree in a folder."""
+    helps = "the folder that merge-tree --plan=FOLDER made"
+    try:
+        with open(description(folder), "rb") as file:
+            told = json.load(file)
+        if told.pop("form") != FORM:
+            raise ValueError
+        choices, files = Choices(**told.pop("choices")), [File(*pair) for pair in told.pop("files")]
+        return Tree(choices=choices, files=files, **{**told, "folder": os.path.abspath(folder)})
+    except FileNotFoundError:
+        raise Trouble(f"{folder} holds no tree", FAILED, helps) from None
+    except (ValueError, TypeError, KeyError, AttributeError):
+        raise Trouble(f"{description(folder)} describes no tree", FAILED, helps) from None
+
+
+def fresh_id():
+    return secrets.token_hex(8)

@@ -85,6 +85,8 @@ class Tree(Case):
 class Sums(Tree):
     """Whichever tree, the bytes are the same."""
 
+    takes = 20
+
     def test_a_thousand(self):
         ran = python(FLEET, "1000", "12", "fleet", folder=self.folder)
         self.expect(ran, DONE)
@@ -509,6 +511,8 @@ class Resumed(Tree):
 class Ended(Tree):
     """Ended by any signal nothing runs on, and what is done stays."""
 
+    takes = 20
+
     # Some merges are made, the others wait for ever.
     WAITS = "[ \"$(wc -l <\"${0%/fake/pgo}/calls\")\" -le 3 ] || exec sleep 600"
 
@@ -674,6 +678,11 @@ class Changing(Tree):
         fake = self.pgo_that("echo ' 9: 9' >>p/3")
         self.tells(self.merge(*self.files[:5], environment=fake), READ_FAULT, "p/3: it changed while it was read")
 
+    def test_a_file_that_gets_a_further_name(self):
+        """A snapshot by hard links is no change."""
+        fake = self.pgo_that("ln p/3 \"snapshot.$$\"")
+        self.expect(self.merge(*self.files[:5], environment=fake), DONE, self.sum_of(self.files[:5]))
+
     def test_a_sum_that_loses_something(self):
         fake = self.pgo_that(f"'{PGO}' \"$@\" | sed '$d'; exit 0")
         ran = self.merge("-o", "out", *self.files[:5], environment=fake)
@@ -694,7 +703,7 @@ class Fetched(Tree):
         self.tells(self.merge("--fetch=cp", *self.files, "gone"), READ_FAULT, "gone: read fault: cp ended with 1: .*No such file")
         self.tells(self.merge("--fetch=true", *self.files[:2]), READ_FAULT, "p/0: read fault: true ended with 0")
         self.tells(self.merge("--fetch=cp", "p/0", "p/0"), BAD_WORDS, "listed twice")
-        self.tells(self.merge("--fetch=no-such-command", "p/0"), READ_FAULT, "no-such-command")
+        self.tells(self.merge("--fetch=no-such-command", "p/0"), 127, "there is no program no-such-command")
 
 
 class Engines(Tree):

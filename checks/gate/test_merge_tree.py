@@ -85,6 +85,8 @@ class Tree(Case):
 class Sums(Tree):
     """Whichever tree, the bytes are the same."""
 
+    takes = 20
+
     def test_a_thousand(self):
         ran = python(FLEET, "1000", "12", "fleet", folder=self.folder)
         self.expect(ran, DONE)
@@ -509,6 +511,8 @@ class Resumed(Tree):
 class Ended(Tree):
     """Ended by any signal nothing runs on, and what is done stays."""
 
+    takes = 20
+
     # Some merges are made, the others wait for ever.
     WAITS = "[ \"$(wc -l <\"${0%/fake/pgo}/calls\")\" -le 3 ] || exec sleep 600"
 
@@ -577,28 +581,23 @@ class Ended(Tree):
 
     def test_killed_at_each_step(self):
         """At the N-th change of a file a part is killed: nothing is in place but a whole sum, and the next call makes it."""
-        files, ended = self.files[:4], 0
-        whole, driver = self.sum_of(files), self.file("driver.py", DRIVER)
-        for step in range(1, 200):
-            for name in ("out", "out.manifest"):
-                (self.folder / name).unlink(missing_ok=True)
-            ran = python(driver, TREE, str(step), "-j1", "-o", "out", "--part-size=2", *files, folder=self.folder)
-            if ran.status == DONE:
-                break
-            ended += 1
-            if (self.folder / "out").exists():
-                self.assertEqual((self.folder / "out").read_bytes(), whole)
-            self.expect(self.merge("-o", "out", "--resume", "--part-size=2", *files), DONE)
-            self.assertEqual((self.folder / "out").read_bytes(), whole)
-            self.assertEqual(self.manifest()["merged"], 4)
-        self.assertGreater(ended, 20)
+        ran = python(self.file("driver.py", DRIVER), TREE, *self.files[:4], folder=self.folder, limit=400, environment={"PGO": PGO})
+        self.expect(ran, DONE, ran.out)
+        self.assertGreater(int(ran.out), 20)
+        self.assertEqual((self.folder / "out").read_bytes(), self.sum_of(self.files[:4]))
+        self.assertEqual(self.manifest()["merged"], 4)
 
 
-# Runs merge-tree, and kills the process that makes the N-th change to a file, of all of them together.
+# Runs merge-tree again and again, and kills the process that makes the N-th change to a file, of all of them together; behind each
+# a call with --resume. Prints how often. All sums have to be the first one's.
 DRIVER = """
 import os, runpy, signal, sys
-tree, step = sys.argv[1], int(sys.argv[2])
-count = os.open("changes", os.O_RDWR | os.O_CREAT | os.O_TRUNC | os.O_APPEND)
+tree, files = sys.argv[1], sys.argv[2:]
+sys.argv[0] = tree
+main = runpy.run_path(tree)["main"]
+from pgo_tools import cli
+OPEN, step = os.open, 0
+
 def counted(real):
     def change(*words, **how):
         if real is not OPEN or words[1] & os.O_CREAT:
@@ -607,11 +606,35 @@ def counted(real):
                 os.kill(os.getpid(), signal.SIGKILL)
         return real(*words, **how)
     return change
-OPEN = os.open
-for name in ("replace", "unlink", "mkdir", "rmdir", "open"):
-    setattr(os, name, counted(getattr(os, name)))
-sys.argv = [tree, *sys.argv[3:]]
-runpy.run_path(tree, run_name="__main__")
+
+def call(killed, *words):
+    global count
+    pid = os.fork()
+    if pid:
+        return os.waitpid(pid, 0)[1]
+    cli.hear()
+    if killed:
+        os.dup2(os.open("/dev/null", os.O_WRONLY), 2)
+        count = os.open("changes", os.O_RDWR | os.O_CREAT | os.O_TRUNC | os.O_APPEND)
+        for name in ("replace", "unlink", "mkdir", "rmdir", "open"):
+            setattr(os, name, counted(getattr(os, name)))
+    os._exit(cli.ended(main, ["-j1", "-o", "out", "--part-size=2", *words, *files]))
+
+def out():
+    with open("out", "rb") as file:
+        return file.read()
+
+assert call(False) == 0
+whole = out()
+while True:
+    step += 1
+    for name in ("out", "out.manifest"):
+        os.unlink(name)
+    if call(True) == 0:
+        break
+    assert not os.path.exists("out") or out() == whole, step
+    assert call(False, "--resume") == 0 and out() == whole, step
+print(step - 1)
 """
 
 
@@ -655,6 +678,11 @@ class Changing(Tree):
         fake = self.pgo_that("echo ' 9: 9' >>p/3")
         self.tells(self.merge(*self.files[:5], environment=fake), READ_FAULT, "p/3: it changed while it was read")
 
+    def test_a_file_that_gets_a_further_name(self):
+        """A snapshot by hard links is no change."""
+        fake = self.pgo_that("ln p/3 \"snapshot.$$\"")
+        self.expect(self.merge(*self.files[:5], environment=fake), DONE, self.sum_of(self.files[:5]))
+
     def test_a_sum_that_loses_something(self):
         fake = self.pgo_that(f"'{PGO}' \"$@\" | sed '$d'; exit 0")
         ran = self.merge("-o", "out", *self.files[:5], environment=fake)
@@ -675,7 +703,7 @@ class Fetched(Tree):
         self.tells(self.merge("--fetch=cp", *self.files, "gone"), READ_FAULT, "gone: read fault: cp ended with 1: .*No such file")
         self.tells(self.merge("--fetch=true", *self.files[:2]), READ_FAULT, "p/0: read fault: true ended with 0")
         self.tells(self.merge("--fetch=cp", "p/0", "p/0"), BAD_WORDS, "listed twice")
-        self.tells(self.merge("--fetch=no-such-command", "p/0"), READ_FAULT, "no-such-command")
+        self.tells(self.merge("--fetch=no-such-command", "p/0"), 127, "there is no program no-such-command")
 
 
 class Engines(Tree):

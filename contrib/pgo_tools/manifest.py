@@ -14,6 +14,8 @@ from pgo_tools.files import put_in_place
 
 FORM = "merge-tree 1"
 BLOCK = 1 << 20
+# How many numbers of a stamp tell whether a file was written to.
+WRITTEN = 3
 
 # A body line's count, a function's head, a line of another kind than blank ones and comments, and the build that was sampled.
 COUNT = re.compile(rb"\n +[0-9.]+: ([0-9]+)(?![^ \n])")
@@ -125,8 +127,13 @@ class Manifest(NamedTuple):
 
 
 def stamp_of(seen):
-    """What the system tells of a file that changes when its bytes do."""
+    """What the system tells of a file that changes when its bytes do. The last number changes with its names and its mode, too."""
     return [seen.st_ino, seen.st_size, seen.st_mtime_ns, seen.st_ctime_ns]
+
+
+def written_of(seen):
+    """The same without what a further name changes: a snapshot by links may come while a file is read."""
+    return stamp_of(seen)[:WRITTEN]
 
 
 def stamp_at(path):

@@ -15,7 +15,7 @@ from typing import List, NamedTuple
 
 from pgo_tools import manifest as told
 from pgo_tools.children import call
-from pgo_tools.cli import DONE, FAILED, NO_FILE, NO_MEMORY, READ_FAULT, REFUSED, WRITE_FAULT, Trouble, say
+from pgo_tools.cli import DONE, FAILED, NO_FILE, NO_MEMORY, NO_PROGRAM, READ_FAULT, REFUSED, WRITE_FAULT, Trouble, say
 from pgo_tools.files import put_in_place, target_of
 from pgo_tools.names import text_of
 
@@ -62,10 +62,12 @@ def opened(path):
     return os.fdopen(handle, "rb"), seen
 
 
-def source_of(name, weight, path):
-    """A file as a source."""
+def source_of(name, weight, path, taken_away):
+    """A file as a source. One that was brought is taken away, and there for as long as it is open."""
     file, seen = opened(path)
     try:
+        if taken_away:
+            os.unlink(path)
         return Source(name, weight, file, told.facts_of(file), told.stamp_of(seen))
     except BaseException:
         file.close()
@@ -77,9 +79,10 @@ def fetched(tree, name, scratch):
     if not tree.choices.fetch:
         return name
     path = os.path.join(scratch, "fetched")
-    with contextlib.suppress(FileNotFoundError):
-        os.unlink(path)
-    status, said = call([*tree.choices.fetch, name, path], stdout=2)
+    try:
+        status, said = call([*tree.choices.fetch, name, path], stdout=2)
+    except (FileNotFoundError, PermissionError):
+        raise Trouble(f"--fetch: there is no program {tree.choices.fetch[0]}", NO_PROGRAM) from None
     if status or not os.path.exists(path):
         why = text_of(said).strip().replace("\n", "; ")
         raise OSError(errno.EIO, f"{tree.choices.fetch[0]} ended with {status}" + (f": {why}" if why else ""), name)
@@ -89,7 +92,7 @@ def fetched(tree, name, scratch):
 def asked(tree, entry, scratch):
     """A file of the list as a source, or why it is left out."""
     try:
-        source = source_of(entry.name, entry.weight, fetched(tree, entry.name, scratch))
+        source = source_of(entry.name, entry.weight, fetched(tree, entry.name, scratch), bool(tree.choices.fetch))
     except OSError as reason:
         missing = isinstance(reason, (FileNotFoundError, NotADirectoryError, PermissionError))
         why = (reason.strerror or str(reason)).lower() if missing else f"read fault: {reason.strerror}"
@@ -149,7 +152,7 @@ def merge(pgo, sources, target):
             number, why = at_fault(good, status, text_of(said).strip())
             refused.append(good.pop(number).left_out(why, status))
             continue
-        changed = [each for each in good if told.stamp_of(os.fstat(each.file.fileno())) != each.stamp]
+        changed = [each for each in good if told.written_of(os.fstat(each.file.fileno())) != each.stamp[: told.WRITTEN]]
         if not changed:
             break
         refused += [each.left_out("it changed while it was read", READ_FAULT) for each in changed]

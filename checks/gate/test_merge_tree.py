@@ -1,7 +1,7 @@
 """contrib/merge-tree: sums by any tree, and what it says and leaves behind where something goes wrong on the way."""
 import json
 import os
-import pathlib
+import resource
 import signal
 import subprocess
 import sys
@@ -9,7 +9,7 @@ import time
 import unittest
 
 from common import CONTRIB, DONE, FAILED, BAD_WORDS, MISSING, NO_MEMORY, PGO, READ_FAULT, REFUSED, TOP, WRITE_FAULT, Case, needs, needs_file
-from common import on_closed_output, python, run, terminated
+from common import on_closed_output, python, run
 
 TREE = CONTRIB / "merge-tree"
 FLEET = TOP / "bench" / "fleet.py"
@@ -652,6 +652,16 @@ class Rooms(Tree):
             self.nothing_out()
         self.expect(self.merge("-o", "out", "--resume", *names), DONE)
         self.assertEqual((self.folder / "out").read_bytes(), whole.out)
+
+    def test_a_limit_on_open_files(self):
+        """A good file that cannot be opened for want of room is not left out as a bad one."""
+        whole, ended = self.sum_of(self.files), set()
+        for limit in (8, 10, 12, 14, 16, 18, 20, 24, 64):
+            ran = self.merge("--skip-bad=100", "--part-size=20", "-j1", *self.files, prepare=lambda: resource.setrlimit(resource.RLIMIT_NOFILE, (limit, limit)))
+            self.assertTrue(ran.status or ran.out == whole, (limit, ran))
+            ended.add(ran.status)
+        self.assertIn(DONE, ended)
+        self.assertGreater(len(ended), 1)
 
     @needs("unshare", "mount")
     def test_a_full_disk(self):

@@ -26,7 +26,7 @@ all help:
 install:
 	$(INSTALL) -d '$(bin)' '$(share)/contrib' '$(man)'
 	$(INSTALL) -m 755 release/pgo release/pgo-cold '$(bin)'
-	$(INSTALL) -m 644 docs/pgo.1 docs/pgo-cold.1 '$(man)'
+	$(INSTALL) -m 644 $(wildcard docs/*.1) '$(man)'
 	$(INSTALL) -m 755 $(scripts) '$(share)/contrib'
 	for file in $(packages:contrib/%=%); do \
 	    $(INSTALL) -d "$(share)/contrib/$${file%/*}" && $(INSTALL) -m 644 "contrib/$$file" "$(share)/contrib/$$file" || exit; \
@@ -36,7 +36,7 @@ install:
 
 uninstall:
 	for name in $(scripts:contrib/%=%); do rm -f "$(bin)/pgo-$${name#pgo-}" || exit; done
-	rm -f '$(bin)/pgo' '$(bin)/pgo-cold' '$(man)/pgo.1' '$(man)/pgo-cold.1'
+	rm -f '$(bin)/pgo' '$(bin)/pgo-cold' $(patsubst docs/%,'$(man)/%',$(wildcard docs/*.1))
 	rm -rf '$(share)'
 
 # Neither rt nor git's folder nor a compiler is needed: what lacks is skipped, and told.

@@ -451,6 +451,15 @@ class Gate(Launcher):
         (self.top / "release" / "pgo").unlink()
         self.expect(self.call(), 0, "built\n")
 
+    def test_a_gate_that_leaves_no_program(self):
+        """What it proved is built then, and marked."""
+        self.script(self.bin / "rt", RT.replace("for crate in pgo_cli pgo_cold", "for crate in").replace("chmod +x crates/*/out/pgo_*", ":"))
+        ran = self.gate()
+        self.assertEqual(ran.status, 0, ran.said)
+        self.assertIn("the programs are not built here; nothing is marked", ran.said)
+        self.assertIn("pgo_cli run -- --version", self.called.read_text())
+        self.assertTrue((self.top / "out" / "built").is_file())
+
     def test_the_gate_fails(self):
         self.file("breaks")
         ran = self.gate()

@@ -478,7 +478,7 @@ class Several(Profiles):
         ran = self.make("--also=program", WORDS, TEXT)
         self.assertEqual(ran.status, 0)
         self.assertRegex(ran.out.decode(), r"85% of 4768 branches are of .*words, [0-9]+% of program\n")
-        self.assertEqual(len(re.findall(r"(?m)^# build ", self.made)), 2)
+        self.assertRegex(self.made, r"\n# also build [0-9a-f]+\n# build [0-9a-f]+\n\Z")
         merged = self.file("merged", self.made)
         self.assertEqual(self.run_here(PGO, "summary", merged).status, 0)
 

@@ -14,7 +14,6 @@ use Rattle.asked_laws.proofs.ListLemmas.{kept_more}
 -- a count that stands once for each way
 other_ways : (cmp : Way → Way → Ordering) → TellsApart cmp → (count : Way → ℕ) (way : Way) (ways : List Way) → (Among way ways → ⊥)
     → sum_by (λ c. c.1) (filter (λ (c : Way × ℕ). same_way way c.0) (map (λ w. (w, count w)) ways)) ≡ 0
-unfolding Among
 other_ways cmp t count way [] lacks = refl
 other_ways cmp t count way (w ∷ ways) lacks =
     kept_more (λ (c : Way × ℕ). same_way way c.0) (λ c. c.1) (w, count w) (map (λ w. (w, count w)) ways)
@@ -27,7 +26,7 @@ other_ways cmp t count way (w ∷ ways) lacks =
 pub own_count : (cmp : Way → Way → Ordering) → TellsApart cmp → (count : Way → ℕ) (way : Way) (ways : List Way) → IsStrictlySortedBy cmp ways
     → ((Among way ways → ⊥) → count way ≡ 0)
     → sum_by (λ c. c.1) (filter (λ (c : Way × ℕ). same_way way c.0) (map (λ w. (w, count w)) ways)) ≡ count way
-unfolding Among IsStrictlySortedBy
+unfolding IsStrictlySortedBy
 own_count cmp t count way [] up none = sym (none (λ there. there))
 own_count cmp t count way (w ∷ ways) up none =
     kept_more (λ (c : Way × ℕ). same_way way c.0) (λ c. c.1) (w, count w) (map (λ w. (w, count w)) ways)

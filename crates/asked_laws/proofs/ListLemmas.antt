@@ -79,7 +79,6 @@ largest_alike w v f g (a ∷ xs) same =
     largest_more w f a xs ∙ (λ i. max (same a i) (largest_alike w v f g xs same i)) ∙ sym (largest_more v g a xs)
 
 pub largest_none : (w : ℕ → ℕ) (f : ℕ → Bool) (xs : List ℕ) → ((a : ℕ) → Among a xs → f a ≡ false) → largest (map w (filter f xs)) ≡ 0
-unfolding Among
 largest_none w f [] none = refl
 largest_none w f (a ∷ xs) none =
     largest_more w f a xs ∙ (λ i. max (cond (none a (inl refl) i) (w a) 0) (largest_none w f xs (λ b there. none b (inr there)) i))
@@ -87,12 +86,10 @@ largest_none w f (a ∷ xs) none =
 -- ---- items of what is found
 
 one_more : {Y : Type 0} (o : Option Y) (y : Y) (ys : List Y) → Among y ys → Among y (cons_option o ys)
-unfolding Among
 one_more None y ys there = there
 one_more (Some z) y ys there = inr there
 
 pub among_found : {X Y : Type 0} (f : X → Option Y) (x : X) (y : Y) (xs : List X) → Among x xs → f x ≡ Some y → Among y (filter_map f xs)
-unfolding Among
 among_found f x y [] there is = absurd there
 among_found f x y (z ∷ xs) there is = elim there as (λ _. Among y (cons_option (f z) (filter_map f xs))) [
   | inl e ↦ subst (λ o. Among y (cons_option o (filter_map f xs))) (sym is ∙ ap f e) (inl refl)

@@ -121,6 +121,14 @@ class Programs(Case):
         good = WORDS.read_bytes()
         self.tells(run(SCRIPT, self.file("astray", good[:40] + b"\xff" * 8 + good[48:])), REFUSED, "astray is damaged or cut off")
 
+    def test_more_sections_than_a_file_has_room_for(self):
+        # Headers of no size, and as many as header 0 says.
+        raw = bytearray(WORDS.read_bytes())
+        at = int.from_bytes(raw[40:48], "little")
+        raw[58:62] = bytes(4)
+        raw[at + 32 : at + 40] = b"\xff" * 7 + b"\0"
+        self.tells(run(SCRIPT, self.file("many", bytes(raw))), REFUSED, "many is damaged or cut off")
+
     @needs("objcopy")
     def test_a_debug_file(self):
         subprocess.run(["objcopy", "--only-keep-debug", WORDS, self.folder / "words.debug"], check=True)
@@ -140,7 +148,7 @@ class Programs(Case):
                 at = drawn.randrange(4096) if drawn.random() < 0.5 else drawn.randrange(len(raw) - 4096, len(raw))
                 raw[at] = drawn.choice((0, 1, 0x7F, 0x80, 0xFF, drawn.randrange(256)))
             with self.subTest(seed=seed):
-                ran = self.run_here(SCRIPT, self.file("drawn", bytes(raw)), limit=30)
+                ran = self.run_here(SCRIPT, self.file("drawn", bytes(raw)), limit=120)
                 self.assertNotIn("Traceback", ran.said)
                 self.assertIn(ran.status, (DONE, FAILED, REFUSED))
                 self.assertEqual(ran.status == DONE, ran.out != b"")
@@ -168,7 +176,7 @@ class Objdump(Case):
         return {"PATH": f"{path.parent}:{os.environ['PATH']}"}
 
     def test_much_that_it_complains_of(self):
-        ran = run(SCRIPT, WORDS, environment=self.tool("yes 'objdump: odd' | head -c 2000000 >&2; exit 1"), limit=20)
+        ran = run(SCRIPT, WORDS, environment=self.tool("yes 'objdump: odd' | head -c 2000000 >&2; exit 1"), limit=120)
         self.tells(ran, REFUSED, "^blocks: objdump failed: objdump: odd")
         self.assertLess(len(ran.err), 1000)
 
@@ -180,7 +188,7 @@ class Objdump(Case):
                 while not (mark.exists() and mark.read_text().strip()):
                     time.sleep(0.01)
                 script.send_signal(by)
-                self.assertEqual((script.wait(20), script.stderr.read()), (128 + by, b""))
+                self.assertEqual((script.wait(60), script.stderr.read()), (128 + by, b""))
                 left = pathlib.Path(f"/proc/{mark.read_text().strip()}")
                 mark.unlink()
                 self.assertFalse(left.exists())

@@ -145,7 +145,7 @@ class Strangers(Another):
         held = self.tool(f"cat {self.folder}/named")
         profile = self.file("prof", "".join(f"f{k}:{100 - k}:1\n 0: 5\n" for k in range(len(names))))
         environment = {"MINE": "secret\n" * 99, **held}
-        ran = run(SCRIPT, "--top=50", "--bin=./words", *words, profile, folder=self.folder / "home", environment=environment, limit=60)
+        ran = run(SCRIPT, "--top=50", "--bin=./words", *words, profile, folder=self.folder / "home", environment=environment, limit=120)
         self.assertEqual((ran.status, ran.said), (DONE, ""))
         for k, name in enumerate(names):
             self.assertRegex(ran.out.decode(), rf"(?m) f{k} \+0 +{re.escape(os.path.basename(name))}:{k + 1}( |$)")
@@ -194,7 +194,7 @@ class Strangers(Another):
             for _ in range(50):
                 raw[drawn.randrange(12000, len(raw))] = drawn.randrange(256)
             with self.subTest(seed=seed):
-                ran = self.run_here(SCRIPT, f"--bin={self.file('drawn', bytes(raw))}", PROFILE, limit=30)
+                ran = self.run_here(SCRIPT, f"--bin={self.file('drawn', bytes(raw))}", PROFILE, limit=120)
                 self.assertNotIn("Traceback", ran.said)
                 self.assertIn(ran.status, (DONE, REFUSED))
 
@@ -210,7 +210,7 @@ class Tools(Another):
 
     def test_what_it_prints_is_no_program(self):
         for said in ("yes | head -c 3000000", "head -c 100000 /dev/urandom", "printf '0x1: DW_TAG_subprogram\\n DW_AT_decl_line\\t(99999999999999)\\n'"):
-            ran = self.run_here(SCRIPT, f"--bin={WORDS}", PROFILE, environment=self.tool(said), limit=30)
+            ran = self.run_here(SCRIPT, f"--bin={WORDS}", PROFILE, environment=self.tool(said), limit=120)
             self.tells(ran, DONE, "tells of none of these functions")
 
     def test_it_ends_with_the_script(self):
@@ -222,7 +222,7 @@ class Tools(Another):
                 while not (mark.exists() and mark.read_text().strip()):
                     time.sleep(0.01)
                 script.send_signal(by)
-                self.assertEqual((script.wait(20), script.stderr.read()), (128 + by, b""))
+                self.assertEqual((script.wait(60), script.stderr.read()), (128 + by, b""))
                 left = pathlib.Path(f"/proc/{mark.read_text().strip()}")
                 mark.unlink()
                 self.assertFalse(left.exists())

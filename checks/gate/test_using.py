@@ -2,6 +2,7 @@
 whether they print what stands there. Where the processor records no branches, a recording made of demo/words.txt stands in for that of
 `perf record -b`.
 """
+import shutil
 import unittest
 
 from common import HERE, TOP, Case, needs, python
@@ -41,7 +42,7 @@ def commands(page):
 class Using(Case):
     def setUp(self):
         super().setUp()
-        for name in ("demo", "pgo", "pgo-cold", "contrib"):
+        for name in ("demo", "pgo", "pgo-cold", "contrib", "bench"):
             (self.folder / name).symlink_to(TOP / name)
 
     def sh(self, command):
@@ -56,13 +57,13 @@ class Using(Case):
         return True
 
     def follow(self, name):
-        skipped = None
         for command, wanted in commands((TOP / name).read_text(encoding="utf-8")):
             with self.subTest(command):
+                if command.split()[0] in ("cmake", "make", "qemu-x86_64") and not shutil.which(command.split()[0]):
+                    self.skipTest(f"there is no {command.split()[0]}")
                 ran = self.sh(command)
                 if self.records_none(command, ran):
-                    skipped = f"no branches are recorded here: {ran.out.decode(errors='replace').strip().splitlines()[:1]}"
-                    self.skipTest(skipped)
+                    self.skipTest(f"no branches are recorded here: {' '.join(ran.out.decode(errors='replace').split())[:90]}")
                 printed = ran.out.decode(errors="replace").splitlines()
                 if not wanted:
                     self.assertEqual(ran.status, 0, printed[:5])

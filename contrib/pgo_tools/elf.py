@@ -76,7 +76,7 @@ class Elf:
             return
         first = struct.unpack_from("<IIQQQQIIQQ", self.data, at)
         count, names = count or first[5], first[6] if names == 0xFFFF else names
-        if at + size * count > len(self.data):
+        if size < 64 or at + size * count > len(self.data):
             raise ValueError("its table of sections passes its end")
         rows = [struct.unpack_from("<IIQQQQIIQQ", self.data, at + size * number) for number in range(count)]
         base = rows[names][4]

@@ -8,6 +8,7 @@ import os
 import shutil
 import stat
 import subprocess
+import sys
 import threading
 import zlib
 
@@ -119,6 +120,18 @@ def read_bytes(path, limit=1 << 28):
     """The bytes of a file of at most so many."""
     with open(path, "rb") as file:
         raw = file.read(limit + 1)
+    if len(raw) > limit:
+        raise Trouble(f"{path} has more than {limit} bytes", REFUSED)
+    return raw
+
+
+def read_packed(path, limit=1 << 28):
+    """The bytes of a file or pipe, or of the input for "-", unpacked, of at most so many."""
+    try:
+        with open_packed(path) if path != "-" else contextlib.nullcontext(sys.stdin.buffer) as file:
+            raw = file.read(limit + 1)
+    except OSError as reason:
+        raise OSError(reason.errno, reason.strerror, path) from None
     if len(raw) > limit:
         raise Trouble(f"{path} has more than {limit} bytes", REFUSED)
     return raw

@@ -97,6 +97,8 @@ class Steps(BlockTexts):
                 self.step()
                 self.judge("--steps", "program", mapped, "steps")
 
+    test_gcc.takes = test_clang_14.takes = test_clang_19.takes = 60
+
 
 if __name__ == "__main__":
     unittest.main()

@@ -31,6 +31,8 @@ class Drawn(unittest.TestCase):
         judging.drawn(self, PGO, 1000, judged.one)
         judged.all_at_once()
 
+    test_merges_and_summaries.takes = test_checked_repairs.takes = 40
+
 
 if __name__ == "__main__":
     unittest.main()

@@ -135,6 +135,8 @@ class Counts(Program):
             "refused: file 1 at 2: LineTooLong\n",
         )
 
+    test_a_gigabyte_in_little_memory.takes = 20
+
 
 class Words(Program):
     def test_words(self):

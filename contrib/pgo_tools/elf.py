@@ -48,7 +48,7 @@ class Elf:
     """A file of 64 bits, little-endian: `kind`, `machine`, `sections` and `segments`."""
 
     def __init__(self, path):
-        self.path = path
+        self.path, self.shares = path, None
         with open(path, "rb") as file:
             whole = os.fstat(file.fileno()).st_size
             self.data = mmap.mmap(file.fileno(), 0, access=mmap.ACCESS_READ) if whole else b""
@@ -157,12 +157,14 @@ class Elf:
 
     def makers(self):
         """Who made the code, by shares of the debugging information: [("clang", 0.9), ("gcc", 0.1)]; assembled parts are left out."""
-        sums = collections.Counter()
-        for producer, size in self.producers().items():
-            sums[maker(producer)] += size
-        del sums["as"]
-        whole = sum(sums.values())
-        return [(name, size / whole) for name, size in sums.most_common()]
+        if self.shares is None:
+            sums = collections.Counter()
+            for producer, size in self.producers().items():
+                sums[maker(producer)] += size
+            del sums["as"]
+            whole = sum(sums.values())
+            self.shares = [(name, size / whole) for name, size in sums.most_common()]
+        return self.shares
 
     def has_discriminators(self):
         """Line programs set discriminators (DWARF 5, 6.2.5.3): of clang and rustc only where they were asked for profiling.

@@ -71,6 +71,7 @@ def parts(program, *tried):
             part()
 
         test.__doc__ = part.__doc__
+        test.takes = getattr(part, "takes", 0)
         return test
 
     return type("Parts", (unittest.TestCase,), {f"test_{part.__name__}": test_of(part) for part in tried})

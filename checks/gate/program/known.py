@@ -1289,6 +1289,8 @@ def large():
     )
 
 
+large.takes = 20
+
 PARTS = [
     places, range_lists, other_places, chains, chained_profiles, refusals, words, profiles, touched, reports, bases_and_loads, builds,
     builds_with_options, block_texts, weights, checks, lifts, makes, large,

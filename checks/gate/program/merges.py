@@ -252,6 +252,8 @@ def size_limit():
     judge("the end of 2^28 bytes", refusal(1, 134217728, b"BadLine"), ["merge", "1", "p1"], p1=blank[:-1] + b"z")
 
 
+size_limit.takes = 20
+
 # Texts at random.
 KINDS = collections.Counter()
 

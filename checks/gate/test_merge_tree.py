@@ -8,7 +8,7 @@ import sys
 import time
 import unittest
 
-from common import CONTRIB, DONE, FAILED, BAD_WORDS, MISSING, NO_MEMORY, PGO, READ_FAULT, REFUSED, TOP, WRITE_FAULT, Case, needs, needs_file
+from common import CONTRIB, DONE, FAILED, BAD_WORDS, MISSING, NO_MEMORY, PGO, HERE, READ_FAULT, REFUSED, TOP, WRITE_FAULT, Case, needs, needs_file
 from common import on_closed_output, python, run
 
 TREE = CONTRIB / "merge-tree"
@@ -97,13 +97,12 @@ class Sums(Tree):
         self.expect(self.merge("--part-size=100", given=lines("", *names[:500], " ", *names[500:])), DONE, whole.out)
 
     def sums_by_a_second_program(self, names):
-        folders = [TOP / "checks" / "gate" / "program", TOP / "checks" / "program"]
-        sys.path[:0] = [str(folder) for folder in folders if (folder / "sums.py").exists()]
+        sys.path.insert(0, str(HERE / "program"))
         import sums
         made = {}
         for name in names:
             sums.add(made, sums.read((self.folder / name).read_bytes()), 1)
-        return sums.text_of(made).encode()
+        return sums.text_of(made)
 
     def test_trees_of_other_sizes(self):
         for count, size in ((1, 8), (8, 8), (9, 8), (20, 2), (17, 3), (7, 64), (20, 64)):

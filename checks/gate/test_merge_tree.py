@@ -1,15 +1,15 @@
 """contrib/merge-tree: sums by any tree, and what it says and leaves behind where something goes wrong on the way."""
 import json
 import os
-import pathlib
+import resource
 import signal
 import subprocess
 import sys
 import time
 import unittest
 
-from common import CONTRIB, DONE, FAILED, BAD_WORDS, MISSING, NO_MEMORY, PGO, READ_FAULT, REFUSED, TOP, WRITE_FAULT, Case, needs, needs_file
-from common import on_closed_output, python, run, terminated
+from common import CONTRIB, DONE, FAILED, BAD_WORDS, MISSING, NO_MEMORY, PGO, HERE, READ_FAULT, REFUSED, TOP, WRITE_FAULT, Case, needs, needs_file
+from common import on_closed_output, python, run
 
 TREE = CONTRIB / "merge-tree"
 FLEET = TOP / "bench" / "fleet.py"
@@ -97,13 +97,12 @@ class Sums(Tree):
         self.expect(self.merge("--part-size=100", given=lines("", *names[:500], " ", *names[500:])), DONE, whole.out)
 
     def sums_by_a_second_program(self, names):
-        folders = [TOP / "checks" / "gate" / "program", TOP / "checks" / "program"]
-        sys.path[:0] = [str(folder) for folder in folders if (folder / "sums.py").exists()]
+        sys.path.insert(0, str(HERE / "program"))
         import sums
         made = {}
         for name in names:
             sums.add(made, sums.read((self.folder / name).read_bytes()), 1)
-        return sums.text_of(made).encode()
+        return sums.text_of(made)
 
     def test_trees_of_other_sizes(self):
         for count, size in ((1, 8), (8, 8), (9, 8), (20, 2), (17, 3), (7, 64), (20, 64)):
@@ -653,6 +652,16 @@ class Rooms(Tree):
         self.expect(self.merge("-o", "out", "--resume", *names), DONE)
         self.assertEqual((self.folder / "out").read_bytes(), whole.out)
 
+    def test_a_limit_on_open_files(self):
+        """A good file that cannot be opened for want of room is not left out as a bad one."""
+        whole, ended = self.sum_of(self.files), set()
+        for limit in (8, 10, 12, 14, 16, 18, 20, 24, 64):
+            ran = self.merge("--skip-bad=100", "--part-size=20", "-j1", *self.files, prepare=lambda: resource.setrlimit(resource.RLIMIT_NOFILE, (limit, limit)))
+            self.assertTrue(ran.status or ran.out == whole, (limit, ran))
+            ended.add(ran.status)
+        self.assertIn(DONE, ended)
+        self.assertGreater(len(ended), 1)
+
     @needs("unshare", "mount")
     def test_a_full_disk(self):
         if run("unshare", "-m", "true").status:
@@ -705,85 +714,6 @@ class Fetched(Tree):
         self.tells(self.merge("--fetch=cp", "p/0", "p/0"), BAD_WORDS, "listed twice")
         self.tells(self.merge("--fetch=no-such-command", "p/0"), 127, "there is no program no-such-command")
 
-
-class Engines(Tree):
-    """One description of the tree, that engines run."""
-
-    def setUp(self):
-        super().setUp()
-        self.plan(size=3)
-
-    def engine(self, name):
-        ran = self.merge(f"--print={name}", "tree")
-        self.expect(ran, DONE, ran.out)
-        return self.file(name, ran.out)
-
-    def whole(self):
-        self.assertEqual((self.folder / "out").read_bytes(), self.sum_of(self.files))
-
-    @needs("make")
-    def test_make(self):
-        path = self.engine("make")
-        (self.folder / "p/9").rename(self.folder / "p/x")
-        ran = self.run_here("make", "-k", "-j3", "-f", path)
-        self.tells(ran, 2, "p/9: no such file")
-        self.nothing_out()
-        (self.folder / "p/x").rename(self.folder / "p/9")
-        self.expect(self.run_here("make", "-s", "-j3", "-f", path), DONE)
-        self.whole()
-
-    @needs("parallel", "seq")
-    def test_parallel(self):
-        path = self.engine("parallel")
-        (self.folder / "p/9").rename(self.folder / "p/x")
-        ran = self.run_here("sh", path, "-j2")
-        self.assertNotEqual(ran.status, DONE)
-        self.assertIn("p/9: no such file", ran.said)
-        self.nothing_out()
-        (self.folder / "p/x").rename(self.folder / "p/9")
-        self.assertEqual(self.run_here("sh", path, "-j2").status, DONE)
-        self.whole()
-
-    @needs("kubectl")
-    def test_kubernetes(self):
-        path = self.engine("kubernetes")
-        ran = self.run_here("kubectl", "label", "--local", "-f", path, "--dry-run=client", "-o", "json", "night=1")
-        if ran.status:
-            self.fail(ran.said)
-        self.assertEqual(ran.out.count(b'"kind": "Job"'), 3)
-        self.assertEqual([word for word in ran.out.split() if word.isdigit() or word[:-1].isdigit()][:2], [b"6,", b"7,"])
-
-    def test_slurm(self):
-        """By a stand-in for sbatch, which runs each array's jobs at once."""
-        stand_in = self.file("bin/sbatch", SBATCH)
-        stand_in.chmod(0o755)
-        path = self.engine("slurm")
-        ran = self.run_here("sh", path, "--partition=night", environment={"PATH": f"{stand_in.parent}:{os.environ['PATH']}"})
-        self.expect(ran, DONE, b"", ran.err)
-        self.whole()
-        log = (self.folder / "submitted").read_text().splitlines()
-        self.assertEqual(len(log), 3)
-        self.assertTrue(all("--kill-on-invalid-dep=yes" in line and "--partition=night" in line for line in log))
-        self.assertIn("--dependency=afterok:7 ", log[1])
-
-    def test_nomad(self):
-        self.assertIn(b"not run", self.merge("--print=nomad", "tree").out)
-
-
-SBATCH = """#!/bin/sh
-echo "$*" >>submitted
-for word; do
-    case $word in
-    --array=*) last=${word##*-} ;;
-    --wrap=*) wrap=${word#--wrap=} ;;
-    esac
-done
-for SLURM_ARRAY_TASK_ID in $(seq 0 "$last"); do
-    export SLURM_ARRAY_TASK_ID
-    sh -c "$wrap" || exit
-done
-echo 7
-"""
 
 if __name__ == "__main__":
     unittest.main()

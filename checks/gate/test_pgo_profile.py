@@ -10,7 +10,7 @@ import struct
 import subprocess
 import unittest
 
-from common import CONTRIB, PGO, TEXT, TOP, WORDS, Case, needs, on_closed_output, run, terminated
+from common import COLD, CONTRIB, PGO, TEXT, TOP, WORDS, Case, needs, on_closed_output, run, terminated
 
 SCRIPT = CONTRIB / "pgo-profile"
 LOAD = "words 7 PERF_RECORD_MMAP2 7/7: [0x401000(0x1000) @ 0x1000 08:02 5 0]: r-xp {}\n"
@@ -481,6 +481,26 @@ class Several(Profiles):
         self.assertRegex(self.made, r"\n# also build [0-9a-f]+\n# build [0-9a-f]+\n\Z")
         merged = self.file("merged", self.made)
         self.assertEqual(self.run_here(PGO, "summary", merged).status, 0)
+
+    def keeps_cold_lines(self):
+        """The pgo-cold that is tried keeps lines of count 0 of functions that its binary has not."""
+        text = self.file("cold.prof", "elsewhere:1:1\n 1: 1\n 2: 0\n")
+        return b" 2: 0\n" in self.run_here(COLD, WORDS, text).out
+
+    @needs("gcc", "nm")
+    def test_lines_of_count_0_of_both(self):
+        if not self.keeps_cold_lines():
+            self.skipTest("this pgo-cold drops the lines of count 0 that another one added")
+        source = self.file("shape.c", "int shape(int n)\n{\n    if (n > 5)\n        return n * 2;\n    if (n < -7)\n        n = n / 3;\n    return n + 1;\n}\n")
+        self.build("libshape.so", "-O1", "-g", "-shared", "-fPIC", source=source, cc="gcc")
+        told = self.run_here("nm", "libshape.so").out.decode()
+        start = 0x20000000000 + int(re.search(r"([0-9a-f]+) T shape", told)[1], 16)
+        load = "words 7 PERF_RECORD_MMAP2 7/7: [0x20000000000(0x10000) @ 0 08:02 6 0]: r-xp /srv/app/libshape.so\n"
+        samples = f"0x{start + 1:x}/0x{start:x} 0x{start + 1:x}/0x{start:x}\n" * 50
+        ran = self.make("--also=libshape.so", WORDS, self.file("loaded", load + TEXT.read_text() + samples))
+        self.assertEqual(ran.status, 0, ran.said)
+        for name in ("shape", "main"):
+            self.assertRegex(self.made, rf"(?m)^{name}:[0-9:]+\n(?: .*\n)* +[0-9.]+: 0$")
 
     def test_one_of_nothing(self):
         self.file("other", WORDS.read_bytes())

@@ -4,8 +4,7 @@ import os
 import sys
 
 from pgo_tools.cli import FAILED, USAGE, Trouble
-from pgo_tools.files import is_same
-from pgo_tools.names import raw_of, text_of
+from pgo_tools.names import text_of
 from pgo_tools.tree import File
 
 MOST_WEIGHT = 65535
@@ -87,15 +86,9 @@ def check_builds(files, choice):
 
 def check_out(files, out):
     """Refuses an output that is listed: the sum of last night would go into that of this one."""
+    if not os.path.exists(out):
+        return
+    key = identity(out)
     for name, _ in files:
-        if os.path.basename(name) == os.path.basename(out) and is_same(out, name):
-            raise Trouble(f"{out} is listed to be merged, too", USAGE, "a folder of its own for it, or a list without it")
-    if os.path.exists(out):
-        key = identity(out)
-        for name, _ in files:
-            if identity(name) == key:
-                raise Trouble(f"{out} is listed to be merged, too: {name}", USAGE, "a list without it")
-
-
-def bytes_of(name):
-    return raw_of(name)
+        if identity(name) == key:
+            raise Trouble(f"{out} is listed to be merged, too: {name}", USAGE, "a folder of its own for it, or a list without it")

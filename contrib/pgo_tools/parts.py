@@ -26,6 +26,8 @@ ANY = "any"
 SAID = re.compile("(no such file|read fault|refused): (?:file )?([1-8])((?: at .*)?)")
 # What may be so of a good file too, by what it is added to.
 OF_SUMS = "CountTooLarge"
+# Why a good file may not be opened: the system has no room for it.
+OF_SYSTEM = (errno.EMFILE, errno.ENFILE, errno.ENOMEM, errno.ENOBUFS)
 
 
 class Faults(Trouble):
@@ -94,6 +96,8 @@ def asked(tree, entry, scratch):
     try:
         source = source_of(entry.name, entry.weight, fetched(tree, entry.name, scratch), bool(tree.choices.fetch))
     except OSError as reason:
+        if reason.errno in OF_SYSTEM:
+            raise Trouble(f"{entry.name}: {reason.strerror}", NO_MEMORY, "fewer jobs at once (-j), smaller parts, ulimit -n") from None
         missing = isinstance(reason, (FileNotFoundError, NotADirectoryError, PermissionError))
         why = (reason.strerror or str(reason)).lower() if missing else f"read fault: {reason.strerror}"
         return told.LeftOut(entry.name, entry.weight, why.replace("no such file or directory", "no such file"),
@@ -134,7 +138,8 @@ def at_fault(sources, status, said):
     if not match:
         raise Trouble(said or f"pgo ended without a word, with status {status}", status)
     source, why = sources[int(match[2]) - 1], match[1] + match[3]
-    if OF_SUMS in why or not isinstance(source, Source):
+    # What was read here a moment ago is there: that pgo cannot open or read it is no fault of the file.
+    if OF_SUMS in why or match[1] != "refused" or not isinstance(source, Source):
         name = f"{source.name} and those before it" if isinstance(source, Source) else f"the sum of {source.name}"
         raise Trouble(f"{name}: {why}", status, "smaller weights" if OF_SUMS in why else "")
     return int(match[2]) - 1, why

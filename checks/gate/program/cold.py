@@ -52,7 +52,7 @@ def with_count_0():
     made("in an inlined call", f % b"" + b"  7.3: 0\n 4: h:0\n  5: k:0\n   6: 0\n", b"f0000:2:0\n 1: 2\n 2.1: g:9\n  7.3: 0\n 4: h:1\n  5: k:0\n   6: 0\n")
     made("a call without a line does not", f % b"", b"f0000:2:0\n 1: 2\n 4: h:0\n")
     made("a function that has no others gets no more", b"f0000:0:0\n 0: 0\n 3: 0\n", b"f0000:0:0\n 3: 0 k:0\n 0: 0\n")
-    made("nor does it stand for another", b"f0000:0:0\n 0: 0\nf0001:1:0\n 0: 0\n 1: 1\n 2.2: 0\n 3: 0\n 2.1: g:0\n  1: 0\n", b"f0001:1:0\n 1: 1\nf0000:0:0\n 0: 0\n", TWO)
+    made("nor does it stand for another", b"f0001:1:0\n 0: 0\n 1: 1\n 2.2: 0\n 3: 0\n 2.1: g:0\n  1: 0\nf0000:0:0\n 0: 0\n", b"f0000:0:0\n 0: 0\nf0001:1:0\n 1: 1\n", TWO)
     made("functions that the binary has not", b"main:9:3\n 2: 0\n 7: 9\n_Z3foov:0:0\n 1: 0\n", b"_Z3foov:0:0\n 1: 0\nmain:9:3\n 7: 9\n 2: 0\n")
 
 

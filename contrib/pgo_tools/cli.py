@@ -57,6 +57,13 @@ def out():
     return sys.stdout.buffer
 
 
+def given():
+    """The input as bytes; a Trouble where it is closed."""
+    if sys.stdin is None:
+        raise Trouble("the input is closed, and no file is named", USAGE)
+    return sys.stdin.buffer
+
+
 def stop(number, _frame):
     """The handler of signals. Only the first one counts, so that nothing cuts the way out short."""
     for each in (signal.SIGINT, signal.SIGTERM, signal.SIGHUP):

@@ -12,7 +12,7 @@ import sys
 import threading
 import zlib
 
-from pgo_tools.cli import READ_FAULT, REFUSED, USAGE, WRITE_FAULT, Trouble
+from pgo_tools.cli import READ_FAULT, REFUSED, USAGE, WRITE_FAULT, Trouble, given
 from pgo_tools.names import text_of
 
 # What a file is by its first bytes.
@@ -21,6 +21,8 @@ MAGICS = [
     (b"BZh", "bz2"), (b"!<arch>\n", "archive"), (b"!<thin>\n", "archive"), (b"#!", "script"),
 ]
 PACKED = ("gz", "xz", "zst", "bz2")
+# A profile, a block text or a repair has at most so many bytes (docs/FORMATS.md).
+MOST_TEXT = 1 << 28
 
 
 def kind_by(head):
@@ -116,30 +118,29 @@ def open_packed(path):
             yield stream
 
 
-def read_bytes(path, limit=1 << 28):
-    """The bytes of a file of at most so many."""
-    with open(path, "rb") as file:
-        raw = file.read(limit + 1)
-    if len(raw) > limit:
-        raise Trouble(f"{path} has more than {limit} bytes", REFUSED)
-    return raw
+def too_large(path, limit):
+    return Trouble(f"{path} has more than {limit} bytes", REFUSED)
 
 
-def read_packed(path, limit=1 << 28):
+def read_packed(path, limit=MOST_TEXT):
     """The bytes of a file or pipe, or of the input for "-", unpacked, of at most so many."""
     try:
-        with open_packed(path) if path != "-" else contextlib.nullcontext(sys.stdin.buffer) as file:
+        with open_packed(path) if path != "-" else contextlib.nullcontext(given()) as file:
             raw = file.read(limit + 1)
     except OSError as reason:
         raise OSError(reason.errno, reason.strerror, path) from None
     if len(raw) > limit:
-        raise Trouble(f"{path} has more than {limit} bytes", REFUSED)
+        raise too_large(path, limit)
     return raw
 
 
-def lines_of(file):
-    """The lines of a stream of bytes as texts, without their line feeds, each with its number."""
-    for number, line in enumerate(file, 1):
+def lines_of(file, path):
+    """The lines of a stream of bytes as texts, without their line feeds, each with its number. A packed one may have no end."""
+    number, left = 0, MOST_TEXT
+    while line := file.readline(left + 1):
+        number, left = number + 1, left - len(line)
+        if left < 0:
+            raise too_large(path, MOST_TEXT)
         yield number, text_of(line[:-1] if line.endswith(b"\n") else line)
 
 

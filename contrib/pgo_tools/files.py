@@ -1,6 +1,7 @@
 """Files: what their first bytes say that they are, packed ones read as plain ones, and outputs put in place whole."""
 import bz2
 import contextlib
+import errno
 import gzip
 import io
 import lzma
@@ -132,6 +133,16 @@ def read_packed(path, limit=MOST_TEXT):
     if len(raw) > limit:
         raise too_large(path, limit)
     return raw
+
+
+def opened(path):
+    """A file that is open, and what the system tells of it. It is one that can be read again."""
+    handle = os.open(path, os.O_RDONLY | os.O_CLOEXEC | os.O_NONBLOCK)
+    seen = os.fstat(handle)
+    if not stat.S_ISREG(seen.st_mode):
+        os.close(handle)
+        raise IsADirectoryError(errno.EISDIR, "it is a folder" if stat.S_ISDIR(seen.st_mode) else "it is no file", path)
+    return os.fdopen(handle, "rb"), seen
 
 
 def lines_of(file, path):

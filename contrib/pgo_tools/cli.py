@@ -7,6 +7,7 @@ import errno
 import os
 import signal
 import sys
+import threading
 
 from pgo_tools.names import printable
 
@@ -69,6 +70,22 @@ def stop(number, _frame):
     for each in (signal.SIGINT, signal.SIGTERM, signal.SIGHUP):
         signal.signal(each, signal.SIG_IGN)
     raise Stopped(number)
+
+
+@contextlib.contextmanager
+def undisturbed():
+    """A signal that comes within the block is heard behind it: what is begun there is then known, and what is ended there is gone."""
+    late, is_main = [], threading.current_thread() is threading.main_thread()
+    heard = [each for each in (signal.SIGINT, signal.SIGTERM, signal.SIGHUP) if is_main and signal.getsignal(each) == stop]
+    for each in heard:
+        signal.signal(each, lambda number, _: late.append(number))
+    try:
+        yield
+    finally:
+        for each in heard:
+            signal.signal(each, stop)
+    if late:
+        stop(late[0], None)
 
 
 def hear():

@@ -10,10 +10,11 @@ import shutil
 import stat
 import subprocess
 import sys
+import tempfile
 import threading
 import zlib
 
-from pgo_tools.cli import READ_FAULT, REFUSED, USAGE, WRITE_FAULT, Trouble, given
+from pgo_tools.cli import READ_FAULT, REFUSED, USAGE, WRITE_FAULT, Trouble, given, undisturbed
 from pgo_tools.names import text_of
 
 # What a file is by its first bytes.
@@ -196,6 +197,20 @@ def created(place):
 
 
 @contextlib.contextmanager
+def scratch_folder(prefix, above=None):
+    """A new folder, which goes with the block; where TMPDIR says, or in another one."""
+    path = None
+    try:
+        with undisturbed():
+            path = tempfile.mkdtemp(prefix=prefix, dir=above)
+        yield path
+    finally:
+        if path is not None:
+            with undisturbed():
+                shutil.rmtree(path, ignore_errors=True)
+
+
+@contextlib.contextmanager
 def put_in_place(path, inputs=(), lasting=True):
     """A file to write bytes to, which stands at the path once the block has ended well, and else leaves nothing behind.
 
@@ -203,8 +218,10 @@ def put_in_place(path, inputs=(), lasting=True):
     not outlive a loss of power is not waited for on its way to the disk.
     """
     place = target_of(path, inputs)
-    handle, new = created(place)
+    new = None
     try:
+        with undisturbed():
+            handle, new = created(place)
         with os.fdopen(handle, "wb") as file:
             yield file
             file.flush()
@@ -218,5 +235,6 @@ def put_in_place(path, inputs=(), lasting=True):
             raise
         raise Trouble(f"{path}: {reason.strerror}", WRITE_FAULT, "room on the disk") from None
     finally:
-        with contextlib.suppress(OSError):
-            os.unlink(new)
+        if new is not None:
+            with contextlib.suppress(OSError):
+                os.unlink(new)

@@ -63,12 +63,16 @@ def within_limits():
 
 def answer(tool, text):
     """What a demangler prints of these lines; "" where it fails, or would need too much."""
-    with tempfile.TemporaryFile() as given, tempfile.TemporaryFile() as told:
-        given.write(raw_of(text))
-        given.seek(0)
-        ran = subprocess.run([tool], stdin=given, stdout=told, stderr=subprocess.DEVNULL, preexec_fn=within_limits, check=False)
-        told.seek(0)
-        return "" if ran.returncode else text_of(told.read())
+    try:
+        with tempfile.TemporaryFile() as given, tempfile.TemporaryFile() as told:
+            given.write(raw_of(text))
+            given.seek(0)
+            ran = subprocess.run([tool], stdin=given, stdout=told, stderr=subprocess.DEVNULL, preexec_fn=within_limits, check=False)
+            told.seek(0)
+            return "" if ran.returncode else text_of(told.read())
+    except OSError:
+        # No room for it, or no such program any more: names are then told as they stand.
+        return ""
 
 
 def demangled(names):

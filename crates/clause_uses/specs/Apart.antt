@@ -17,8 +17,8 @@ IsIn a block = (block.lo ≤ a) × (a < block.hi)
 -- A text is bad where an address is in two blocks of a function.
 abbrev pub SharedPlacesAreBad : Type 0
 SharedPlacesAreBad =
-    (file : ℕ) (text : List ℕ) (n : ℕ) (fun : Function) (i j : ℕ) (block : Block) (a : ℕ) → n < length (functions_of text)
-    → i < j → j < length (function_at text n fun).blocks
+    (file : ℕ) (text : List ℕ) (n : ℕ) (fun : Function) (i j : ℕ) (block : Block) (a : ℕ)
+    → n < length (functions_of text) → i < j → j < length (function_at text n fun).blocks
     → IsIn a (slice_index_or (function_at text n fun).blocks i block)
     → IsIn a (slice_index_or (function_at text n fun).blocks j block) → first_bad_of_text file text ≢ None
 

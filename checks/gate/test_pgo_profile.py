@@ -478,6 +478,9 @@ class Spoiled(Profiles):
 
     def test_few_samples(self):
         self.judge(0, "too few samples: .* times as many: record longer", WORDS, self.file("few", b" ".join(ONE.split()[:4]) + b"\n"))
+        # A loop in one sample: each of its lines was met often, by branches that hang together.
+        again = "           401330" + " 0x4013df/0x401397" * 32 + "\n"
+        self.judge(0, "too few samples: 288 branches in all", WORDS, self.file("few", again * 9))
 
 
 class Several(Profiles):

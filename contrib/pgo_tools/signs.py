@@ -10,6 +10,8 @@ from pgo_tools.names import text_of
 
 # A function's hot lines are those that make up this share of all counts; below this count the least of them is chance.
 HOT_SHARE, FEW_SAMPLES = 0.9, 10
+# Fewer branches are of ten samples or so, and those of one sample hang together.
+FEW_BRANCHES = 320
 # So many lines without a discriminator are no chance.
 MANY_LINES = 20
 # Names as rustc's old mangling has them.
@@ -153,7 +155,9 @@ def look_at_unread(path):
     """What helps where a file could not be read."""
     if os.path.isdir(path):
         return "a file: this is a folder"
-    if os.path.exists(path) and not os.access(path, os.R_OK):
+    if not os.path.exists(path):
+        return "its name: there is no such file"
+    if not os.access(path, os.R_OK):
         return "leave to read it (chmod)"
     return ""
 
@@ -175,7 +179,7 @@ def of_text(text, parts):
     if not text.ends():
         yield Sign(f"{text.name} does not end with a line feed, so it may have been cut off, and its last address with it",
                    "print the text again, and see that perf ended well")
-    yield from few_samples([part.profile for part in parts])
+    yield from few_samples([part.profile for part in parts], parts[0].report["branches"])
 
 
 def other_binary(part, text):
@@ -243,8 +247,8 @@ def unfit_build(program, profile):
                    "sample a build by the very rustc that takes the profile; else -C symbol-mangling-version=v0 on both")
 
 
-def few_samples(profiles):
-    """The hot lines were met so seldom that chance has a say in them."""
+def few_samples(profiles, branches):
+    """The hot lines were met so seldom that chance has a say in them, or of so few samples all together."""
     nodes = [each for profile in profiles for node in profile.values() for each in node.walk()]
     counts = sorted((line.count for node in nodes for line in node.lines.values()), reverse=True)
     left, least = HOT_SHARE * sum(counts), 0
@@ -255,3 +259,5 @@ def few_samples(profiles):
     if 0 < least < FEW_SAMPLES:
         yield Sign(f"too few samples: some of the lines that make up {HOT_SHARE:.0%} of all counts were met {least} time{'s' * (least > 1)}",
                    f"{-(-FEW_SAMPLES // least)} times as many: record longer, or at a higher rate (perf record -F)")
+    elif branches < FEW_BRANCHES:
+        yield Sign(f"too few samples: {branches} branches in all", "record longer, or at a higher rate (perf record -F)")

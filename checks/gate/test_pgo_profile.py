@@ -195,6 +195,7 @@ class Words(Profiles):
     def test_misspelt(self):
         rows = [
             ("it takes three files.* here are 4", [WORDS, TEXT, "extra"]),
+            ("there is no option -o: the third file is the profile", [WORDS, TEXT, "-o"]),
             ("there is no option --edges", ["--edges", WORDS, TEXT]),
             ("the name stands behind --map= without a space", ["--map=", WORDS, TEXT]),
             ("the name stands behind --map= without a space", ["--map", "/srv/app/words", WORDS, TEXT]),

@@ -55,7 +55,7 @@ class Compare(Case):
     def test_bounds(self):
         for words, status, said in (
             (["--least=50"], DONE, "^$"), (["--least=50.1"], FAILED, "the lines are 50.0% alike, less than 50.1%"),
-            (["--least-total=1000"], BAD_WORDS, "a number of percent"), (["--least-total=100"], DONE, "^$"), (["--least=nan"], BAD_WORDS, "a number of percent"),
+            (["--least-total=1000"], BAD_WORDS, "a number from 0 to 100"), (["--least-total=100"], DONE, "^$"), (["--least=nan"], BAD_WORDS, "a number from 0 to 100"),
             (["--least=0", "--top=1"], DONE, "^$"), (["--top=0"], BAD_WORDS, "a number from 1 up"),
         ):
             with self.subTest(words):

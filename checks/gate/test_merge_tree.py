@@ -514,6 +514,48 @@ class Resumed(Tree):
         self.assertEqual((self.folder / "out").read_bytes(), self.sum_of(self.files))
 
 
+class InTheWay(Tree):
+    """Links and pipes where it writes and reads: no file is written through one, and it waits for none."""
+
+    count = 3
+
+    def refused(self, status, pattern, *words):
+        self.tells(self.merge("-o", "out", *words, *self.files, limit=20), status, pattern)
+        self.assertFalse((self.folder / "out").exists())
+
+    def test_links(self):
+        self.file("others", "precious")
+        self.file("folder/others", "precious")
+        for name, there in (("lock", "others"), ("tree", "others"), ("1.0.prof", "others"), ("1.0.manifest", "others"), ("merge-tree.1", "folder")):
+            with self.subTest(name):
+                (self.folder / "out.tree").mkdir()
+                (self.folder / "out.tree" / name).symlink_to(self.folder / there)
+                for words in ([], ["--resume"]):
+                    self.refused(WRITE_FAULT, "out.tree is there, and is no tree of merge-tree", *words)
+                (self.folder / "out.tree" / name).unlink()
+                (self.folder / "out.tree").rmdir()
+        self.assertEqual([(self.folder / name).read_text() for name in ("others", "folder/others")], ["precious"] * 2)
+
+    def test_a_link_for_its_lock(self):
+        self.file("others", "precious")
+        self.expect(self.merge("-o", "out", "--plan=tree", *self.files), DONE)
+        (self.folder / "tree/lock").unlink()
+        (self.folder / "tree/lock").symlink_to(self.folder / "others")
+        self.tells(self.merge("--run", "tree"), READ_FAULT, "lock: Too many levels of symbolic links")
+        self.assertEqual((self.folder / "others").read_text(), "precious")
+
+    def test_pipes(self):
+        (self.folder / "out.tree").mkdir()
+        for name in ("lock", "tree", "1.0.manifest"):
+            os.mkfifo(self.folder / "out.tree" / name)
+            self.refused(WRITE_FAULT, "out.tree is there, and is no tree of merge-tree", "--resume")
+            (self.folder / "out.tree" / name).unlink()
+        os.mkfifo(self.folder / "out.manifest")
+        self.refused(READ_FAULT, "out.manifest: it is no file", "--resume")
+        os.mkfifo(self.folder / "out.tree/tree")
+        self.tells(self.merge("--run", "out.tree", limit=20), READ_FAULT, "out.tree/tree: it is no file")
+
+
 class Ended(Tree):
     """Ended by any signal nothing runs on, and what is done stays."""
 

@@ -259,6 +259,15 @@ class Words(Profiles):
         whole = len(self.run_here(PGO, "profile", "--base", WORDS, TEXT).out)
         self.judge(6, "made/prof was not made: write fault", WORDS, TEXT, prepare=lambda: limit_files(whole))
 
+    def test_programs_that_are_ended(self):
+        """A signal is no status, and is told."""
+        self.judge(6, "made/prof was not made: write fault: .*higher ulimit -f", WORDS, TEXT, prepare=lambda: limit_files(100))
+        for name, said in (("pgo", "pgo was ended by signal 9"), ("pgo-cold", "pgo-cold was ended by signal 9")):
+            with self.subTest(name):
+                fake = self.file(f"fake/{name}", "#!/bin/sh\nkill -9 $$\n")
+                fake.chmod(0o755)
+                self.judge(1, f"made/prof was not made: {said}", WORDS, TEXT, environment={"PGO_COLD" if name == "pgo-cold" else "PGO": str(fake)})
+
     def test_alone(self):
         shutil.copy(SCRIPT, self.folder)
         ran = self.run_here("./pgo-profile", WORDS, TEXT, "prof", environment={"PYTHONPATH": None})

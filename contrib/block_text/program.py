@@ -39,9 +39,6 @@ class Program(Elf):
         except FAULTS as fault:
             raise Refused(f"{path} is damaged or cut off: {fault}") from None
 
-    def name_at(self, offset):
-        return self.text_at(self.data, offset)
-
     def read_symbols(self):
         """The functions by address with all their names, and the sized objects."""
         tables = [it for it in self.sections if it.kind == SYMBOLS] or [it for it in self.sections if it.kind == DYNAMIC_SYMBOLS]
@@ -53,10 +50,10 @@ class Program(Elf):
                 if not index or index >= len(self.sections):
                     continue
                 # clang gives the parts of a function no type.
-                part = info & 15 == 0 and size and PART_NAME.match(self.name_at(base + name))
+                part = info & 15 == 0 and size and PART_NAME.match(self.text_at(base + name))
                 if info & 15 in (2, 10) or part:
                     rank = ({1: 0, 2: 1}.get(info >> 4, 2), size == 0, len(self.names))
-                    self.names.setdefault(value, []).append((rank, self.name_at(base + name)))
+                    self.names.setdefault(value, []).append((rank, self.text_at(base + name)))
                     self.sizes[value] = max(size, self.sizes.get(value, 0))
                 elif info & 15 == 1 and size:
                     objects.append((value, value + size))
@@ -77,7 +74,7 @@ class Program(Elf):
             for address, info, _ in struct.iter_unpack("<QQq", piece):
                 if info & 0xFFFFFFFF in (6, 7):
                     name, = struct.unpack_from("<I", self.data, symbols.offset + 24 * (info >> 32))
-                    self.slots[address] = self.name_at(names + name)
+                    self.slots[address] = self.text_at(names + name)
         self.pieces, self.filled_in = pieces, None
 
     def filled(self, address):
@@ -135,15 +132,14 @@ class Functions:
     """The code that belongs to each function: the part with its entry, and parts that were laid out elsewhere."""
 
     def __init__(self, program):
-        code = sorted((it for it in program.loaded if it.flags & EXECUTE), key=lambda it: it.address)
-        if not code:
+        if not any(it.flags & EXECUTE for it in program.loaded):
             raise Refused("the program has no code: give the program itself, and no debug file of it")
         self.entries, self.ends = [], []
-        addresses = sorted(at for at in program.names if any(it.address <= at < it.address + it.size for it in code))
+        addresses = sorted(at for at in program.names if self.is_code(program.section_of(at)))
         if not addresses:
             raise Refused("the program has no symbols of functions: give it as it was before it was stripped")
         for k, at in enumerate(addresses):
-            section = next(it for it in code if it.address <= at < it.address + it.size)
+            section = program.section_of(at)
             end = section.address + section.size
             if k + 1 < len(addresses):
                 end = min(end, addresses[k + 1])
@@ -153,6 +149,10 @@ class Functions:
             self.ends.append(end)
         self.names = [program.names[at] for at in addresses]
         self.parents = self.find_parents()
+
+    @staticmethod
+    def is_code(section):
+        return section is not None and section.flags & EXECUTE
 
     def find_parents(self):
         """For each part that may be one of another function, these functions, by their names."""

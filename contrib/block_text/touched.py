@@ -52,14 +52,14 @@ class Touch:
 
     @staticmethod
     def read(file, path, places, ranges):
-        for number, line in enumerate(file, 1):
-            load = branch_text.load_of(number, line.rstrip(b"\n"))
+        for number, line in branch_text.lines(file):
+            load = branch_text.load_of(number, line)
             if load:
                 places.add(load)
             if not branch_text.is_sample(line):
                 continue
             after = None
-            for source, target in branch_text.sample_of(number, line.rstrip(b"\n"), path).branches:
+            for source, target in branch_text.sample_of(number, line, path).branches:
                 source, target = places.place(source), places.place(target)
                 # A branch's ends are touched whatever stands between them; so is what ran from its target to the next branch.
                 ranges.update({(source, source), (target, target)})

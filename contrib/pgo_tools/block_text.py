@@ -73,7 +73,7 @@ def refused(path, number, kind):
 def functions(file, path="the block text"):
     """Each function of a stream of bytes; a Trouble at the first bad line."""
     function, number = None, 0
-    for number, line in lines_of(file):
+    for number, line in lines_of(file, path):
         fields = re.split("[ \t]+", line.strip(" \t"))
         if line.startswith("#") or fields == [""]:
             continue

@@ -8,8 +8,8 @@ from pgo_tools.names import text_of
 LONGEST, MOST_ENTRIES = 65536, 1024
 RECORD = b"PERF_RECORD_"
 LOAD = re.compile(
-    rb"PERF_RECORD_MMAP2 (?:[^ \t]+[ \t]+)*?[^ \t]*:[ \t]+\[0x([0-9a-fA-F]+)\(0x([0-9a-fA-F]+)\)[ \t]+@[ \t]+(0|0x[0-9a-fA-F]+)"
-    rb"[ \t]+((?:[^ \t]+[ \t]+)*?[^ \t]*\]):[ \t]+([^ \t]+)[ \t](.+)", re.DOTALL)
+    rb"PERF_RECORD_MMAP2 (?:[^ \t]*[^ \t:][ \t]+)*[^ \t]*:[ \t]+\[0x([0-9a-fA-F]+)\(0x([0-9a-fA-F]+)\)[ \t]+@[ \t]+(0|0x[0-9a-fA-F]+)"
+    rb"[ \t]+((?:(?![^ \t]*\]:[ \t])[^ \t]+[ \t]+)*[^ \t]*\]):[ \t]+([^ \t]+)[ \t](.+)", re.DOTALL)
 BUILD = re.compile(rb"<([0-9a-fA-F]+)>\]$")
 POINTER = re.compile(rb"(?:0x)?[0-9a-fA-F]+")
 BEGINS = re.compile(rb"[ \t]*(?:0x)?[0-9a-fA-F]+[ \t]+0x[0-9a-fA-F]+/0x|[^\n]*PERF_RECORD_")
@@ -64,26 +64,36 @@ def is_sample(line):
     return not line.startswith(b"#") and bool(line.strip(b" \t")) and RECORD not in line
 
 
+def lines(file):
+    """The lines of a stream of bytes without their line feeds, each with its number. Of one that is too long a piece is given,
+    which is too long as well, so that no line is held whole however long it is."""
+    number, is_begun = 0, False
+    while piece := file.readline(LONGEST + 2):
+        number += not is_begun
+        if not is_begun:
+            yield number, piece[:-1] if piece.endswith(b"\n") else piece
+        is_begun = not piece.endswith(b"\n")
+
+
 def loads(file):
     """The load lines of a stream of bytes, from its first line to its last."""
-    for number, line in enumerate(file, 1):
-        if RECORD in line:
-            load = load_of(number, line.rstrip(b"\n"))
+    for number, line in lines(file):
+        if RECORD in line and len(line) <= LONGEST:
+            load = load_of(number, line)
             if load:
                 yield load
 
 
 def samples(file, path="the branch text"):
     """Each sample of a stream of bytes; a Trouble at the first bad line."""
-    for number, line in enumerate(file, 1):
-        line = line[:-1] if line.endswith(b"\n") else line
-        if len(line) > LONGEST:
-            raise Trouble(f"{path}: refused at {number}: LineTooLong", REFUSED)
+    for number, line in lines(file):
         if is_sample(line):
             yield sample_of(number, line, path)
 
 
 def sample_of(number, line, path):
+    if len(line) > LONGEST:
+        raise Trouble(f"{path}: refused at {number}: LineTooLong", REFUSED)
     fields = re.split(rb"[ \t]+", line.strip(b" \t"))
     pointer = None
     if b"/" not in fields[0]:

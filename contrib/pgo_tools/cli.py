@@ -7,6 +7,7 @@ import errno
 import os
 import signal
 import sys
+import threading
 
 from pgo_tools.names import printable
 
@@ -57,11 +58,34 @@ def out():
     return sys.stdout.buffer
 
 
+def given():
+    """The input as bytes; a Trouble where it is closed."""
+    if sys.stdin is None:
+        raise Trouble("the input is closed, and no file is named", USAGE)
+    return sys.stdin.buffer
+
+
 def stop(number, _frame):
     """The handler of signals. Only the first one counts, so that nothing cuts the way out short."""
     for each in (signal.SIGINT, signal.SIGTERM, signal.SIGHUP):
         signal.signal(each, signal.SIG_IGN)
     raise Stopped(number)
+
+
+@contextlib.contextmanager
+def undisturbed():
+    """A signal that comes within the block is heard behind it: what is begun there is then known, and what is ended there is gone."""
+    late, is_main = [], threading.current_thread() is threading.main_thread()
+    heard = [each for each in (signal.SIGINT, signal.SIGTERM, signal.SIGHUP) if is_main and signal.getsignal(each) == stop]
+    for each in heard:
+        signal.signal(each, lambda number, _: late.append(number))
+    try:
+        yield
+    finally:
+        for each in heard:
+            signal.signal(each, stop)
+    if late:
+        stop(late[0], None)
 
 
 def hear():

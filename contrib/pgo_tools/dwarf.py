@@ -16,6 +16,8 @@ FIXED = {
 WORDS = (0x0E, 0x10, 0x17, 0x1D, 0x1F, 0x1F20, 0x1F21)
 NUMBERS = (0x0D, 0x0F, 0x15, 0x1A, 0x1B, 0x22, 0x23)
 BLOCKS = {0x03: "<H", 0x04: "<I", 0x0A: "<B"}
+# An entry has at most so many attributes; a text of at most so many bytes is passed over, and so many of it are kept.
+MOST_ATTRIBUTES, LONGEST_TEXT, KEPT_TEXT = 256, 1 << 16, 256
 STRING, STRP, LINE_STRP, STRX = 0x08, 0x0E, 0x1F, {0x1A: 0, 0x25: 1, 0x26: 2, 0x27: 3, 0x28: 4}
 
 
@@ -44,10 +46,10 @@ class Reader:
                 raise ValueError("a number is too long")
 
     def text(self):
-        end = self.data.find(b"\0", self.at)
+        end = self.data.find(b"\0", self.at, self.at + LONGEST_TEXT)
         if end < 0:
             raise ValueError("a text has no end")
-        raw, self.at = self.data[self.at : end], end + 1
+        raw, self.at = self.data[self.at : min(end, self.at + KEPT_TEXT)], end + 1
         return raw
 
 
@@ -72,15 +74,15 @@ class Unit:
         self.facts = self.read_entry(read) if self.version in (2, 3, 4, 5) else {}
 
     def read_entry(self, read):
-        code, facts = read.uleb(), {}
-        for name, form, constant in self.units.abbreviations(self.table).get(code, (0, []))[1]:
+        facts = {}
+        for name, form, constant in self.units.abbreviation(self.table, read.uleb()):
             facts.setdefault(name, self.value(read, form, constant))
         return facts
 
     def value(self, read, form, constant=None):
         """A value's form and number or bytes; the reader stands behind it."""
         if form == 0x16:
-            return self.value(read, read.uleb())
+            form = read.uleb()
         if form in FIXED:
             return form, constant if form == 0x21 else read.number(FIXED[form])
         if form in WORDS:
@@ -115,30 +117,43 @@ class Units:
     """The units of a file."""
 
     def __init__(self, elf):
-        self.elf, self.cache, self.tables = elf, {}, {}
+        self.elf, self.cache, self.rows = elf, {}, {}
         self.info = self.bytes_of(".debug_info")
+        # No unit needs bytes of the tables again that another one has read: tables that overlap end it.
+        self.left = 4 * len(self.bytes_of(".debug_abbrev")) + LONGEST_TEXT
 
     def bytes_of(self, name):
         if name not in self.cache:
             self.cache[name] = self.elf.bytes_of(name)
         return self.cache[name]
 
-    def abbreviations(self, at):
-        """A table of abbreviations: for each code its tag, and its attributes as (name, form, constant)."""
-        if at in self.tables:
-            return self.tables[at]
-        read, table = Reader(self.bytes_of(".debug_abbrev"), at), {}
-        while code := read.uleb():
-            tag, _, row = read.uleb(), read.number(1), []
+    def abbreviation(self, at, wanted):
+        """The attributes that a table says of entries with a code, as (name, form, constant); none where it has no such code."""
+        if (at, wanted) not in self.rows:
+            read = Reader(self.bytes_of(".debug_abbrev"), at)
             while True:
-                name, form = read.uleb(), read.uleb()
-                constant = read.uleb() if form == 0x21 else None
-                if not name and not form:
+                start, code = read.at, read.uleb()
+                row = self.attributes(read) if code else []
+                self.left -= read.at - start
+                if self.left < 0:
+                    raise ValueError("tables of abbreviations overlap")
+                if code in (0, wanted):
                     break
-                row.append((name, form, constant))
-            table[code] = (tag, row)
-        self.tables[at] = table
-        return table
+            self.rows[at, wanted] = row
+        return self.rows[at, wanted]
+
+    @staticmethod
+    def attributes(read):
+        """The rest of an abbreviation behind its code."""
+        read.uleb(), read.number(1)
+        row = []
+        while len(row) <= MOST_ATTRIBUTES:
+            name, form = read.uleb(), read.uleb()
+            constant = read.uleb() if form == 0x21 else None
+            if not name and not form:
+                return row
+            row.append((name, form, constant))
+        raise ValueError("an entry has too many attributes")
 
     def each(self):
         """The units from first to last; it ends at one that is damaged."""

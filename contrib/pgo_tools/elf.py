@@ -17,6 +17,10 @@ X86_64 = 62
 # An extended operation of few bytes with the number 4.
 DISCRIMINATOR = re.compile(rb"\x00[\x02-\x06]\x04")
 FAULTS = (struct.error, IndexError, ValueError, OverflowError, KeyError, zlib.error)
+# Names are read once each. Those that overlap, as suffixes do, have so many times the file's bytes at most.
+MOST_OVERLAP = 4
+# Notes are looked at up to this one, and no longer than these bytes: a table may name the same ones again and again.
+MOST_NOTES, LONGEST_NOTE = 1 << 16, 256
 
 
 class Section(NamedTuple):
@@ -48,7 +52,7 @@ class Elf:
     """A file of 64 bits, little-endian: `kind`, `machine`, `sections` and `segments`."""
 
     def __init__(self, path):
-        self.path, self.shares = path, None
+        self.path, self.shares, self.texts, self.read_of_texts = path, None, {}, 0
         with open(path, "rb") as file:
             whole = os.fstat(file.fileno()).st_size
             self.data = mmap.mmap(file.fileno(), 0, access=mmap.ACCESS_READ) if whole else b""
@@ -81,14 +85,19 @@ class Elf:
         rows = [struct.unpack_from("<IIQQQQIIQQ", self.data, at + size * number) for number in range(count)]
         base = rows[names][4]
         for name, kind, flags, address, offset, length, link, _, align, _ in rows:
-            yield Section(self.text_at(self.data, base + name), kind, flags, address, offset, length, link, align)
+            yield Section(self.text_at(base + name), kind, flags, address, offset, length, link, align)
 
-    @staticmethod
-    def text_at(data, offset):
-        end = data.find(b"\0", offset)
-        if end < 0:
-            raise ValueError("a name has no end")
-        return text_of(data[offset:end])
+    def text_at(self, offset):
+        """The text that begins at an offset of the file, and ends with a NUL."""
+        if offset not in self.texts:
+            end = self.data.find(b"\0", offset)
+            if end < 0:
+                raise ValueError("a name has no end")
+            self.read_of_texts += end - offset
+            if self.read_of_texts > MOST_OVERLAP * len(self.data):
+                raise ValueError("its names overlap")
+            self.texts[offset] = text_of(self.data[offset:end])
+        return self.texts[offset]
 
     def section(self, name):
         """The first section of this name, or None."""
@@ -121,12 +130,14 @@ class Elf:
         """The notes as (owner, kind, bytes), wherever they stand."""
         places = [(each.offset, each.file_size, each.align) for each in self.segments if each.kind == LOADED_NOTE]
         places += [(each.offset, each.size, each.align) for each in self.sections if each.kind == NOTE]
-        for at, size, align in places:
+        left = MOST_NOTES
+        for at, size, align in dict.fromkeys(places):
             align, end = 8 if align == 8 else 4, min(at + size, len(self.data))
-            while at + 12 <= end:
+            while at + 12 <= end and left:
+                left -= 1
                 owner, told, kind = struct.unpack_from("<III", self.data, at)
                 first = at + 12 + -(-owner // align) * align if align == 4 else at + -(-(12 + owner) // align) * align
-                yield self.data[at + 12 : at + 12 + owner], kind, self.data[first : first + told]
+                yield self.data[at + 12 : at + 12 + min(owner, LONGEST_NOTE)], kind, self.data[first : first + min(told, LONGEST_NOTE)]
                 at = first + -(-told // align) * align
 
     def build_id(self):
@@ -142,10 +153,6 @@ class Elf:
             return None
         return text_of(name), struct.unpack_from("<I", raw, at)[0]
 
-    def comments(self):
-        """What compilers and linkers have left in `.comment`: the C library's files name gcc in clang's programs, too."""
-        return [text_of(each) for each in self.bytes_of(".comment").split(b"\0") if each]
-
     def producers(self):
         """For each DW_AT_producer of a unit how many bytes of debugging information it made, the most first."""
         from pgo_tools.dwarf import Units
@@ -153,7 +160,6 @@ class Elf:
             return Units(self).producers()
         except FAULTS:
             return collections.Counter()
-
 
     def makers(self):
         """Who made the code, by shares of the debugging information: [("clang", 0.9), ("gcc", 0.1)]; assembled parts are left out."""
@@ -173,15 +179,6 @@ class Elf:
         """
         lines = self.bytes_of(".debug_line", 1 << 26)[: 1 << 26]
         return len(DISCRIMINATOR.findall(lines)) * 4000 > len(lines)
-
-
-def is_elf(path):
-    """The file at a path begins as an ELF file does."""
-    try:
-        with open(path, "rb") as file:
-            return file.read(4) == b"\x7fELF"
-    except OSError:
-        return False
 
 
 MAKERS = [("rustc", "rustc"), ("clang", "clang"), ("LLVM", "clang"), ("GNU", "gcc"), ("Go ", "go")]

@@ -1,6 +1,7 @@
 """Files: what their first bytes say that they are, packed ones read as plain ones, and outputs put in place whole."""
 import bz2
 import contextlib
+import errno
 import gzip
 import io
 import lzma
@@ -9,10 +10,11 @@ import shutil
 import stat
 import subprocess
 import sys
+import tempfile
 import threading
 import zlib
 
-from pgo_tools.cli import READ_FAULT, REFUSED, USAGE, WRITE_FAULT, Trouble
+from pgo_tools.cli import READ_FAULT, REFUSED, USAGE, WRITE_FAULT, Trouble, given, undisturbed
 from pgo_tools.names import text_of
 
 # What a file is by its first bytes.
@@ -28,6 +30,8 @@ FOREIGN = {
     "tar": "it is a tar archive: unpack it", "utf-16": "it is text of 16 bits a letter: iconv -f UTF-16 -t UTF-8",
 }
 HEAD = 512
+# A profile, a block text or a repair has at most so many bytes (docs/FORMATS.md).
+MOST_TEXT = 1 << 28
 
 
 def kind_by(head):
@@ -125,30 +129,39 @@ def open_packed(path):
             yield stream
 
 
-def read_bytes(path, limit=1 << 28):
-    """The bytes of a file of at most so many."""
-    with open(path, "rb") as file:
-        raw = file.read(limit + 1)
-    if len(raw) > limit:
-        raise Trouble(f"{path} has more than {limit} bytes", REFUSED)
-    return raw
+def too_large(path, limit):
+    return Trouble(f"{path} has more than {limit} bytes", REFUSED)
 
 
-def read_packed(path, limit=1 << 28):
+def read_packed(path, limit=MOST_TEXT):
     """The bytes of a file or pipe, or of the input for "-", unpacked, of at most so many."""
     try:
-        with open_packed(path) if path != "-" else contextlib.nullcontext(sys.stdin.buffer) as file:
+        with open_packed(path) if path != "-" else contextlib.nullcontext(given()) as file:
             raw = file.read(limit + 1)
     except OSError as reason:
         raise OSError(reason.errno, reason.strerror, path) from None
     if len(raw) > limit:
-        raise Trouble(f"{path} has more than {limit} bytes", REFUSED)
+        raise too_large(path, limit)
     return raw
 
 
-def lines_of(file):
-    """The lines of a stream of bytes as texts, without their line feeds, each with its number."""
-    for number, line in enumerate(file, 1):
+def opened(path):
+    """A file that is open, and what the system tells of it. It is one that can be read again."""
+    handle = os.open(path, os.O_RDONLY | os.O_CLOEXEC | os.O_NONBLOCK)
+    seen = os.fstat(handle)
+    if not stat.S_ISREG(seen.st_mode):
+        os.close(handle)
+        raise IsADirectoryError(errno.EISDIR, "it is a folder" if stat.S_ISDIR(seen.st_mode) else "it is no file", path)
+    return os.fdopen(handle, "rb"), seen
+
+
+def lines_of(file, path):
+    """The lines of a stream of bytes as texts, without their line feeds, each with its number. A packed one may have no end."""
+    number, left = 0, MOST_TEXT
+    while line := file.readline(left + 1):
+        number, left = number + 1, left - len(line)
+        if left < 0:
+            raise too_large(path, MOST_TEXT)
         yield number, text_of(line[:-1] if line.endswith(b"\n") else line)
 
 
@@ -193,6 +206,20 @@ def created(place):
 
 
 @contextlib.contextmanager
+def scratch_folder(prefix, above=None):
+    """A new folder, which goes with the block; where TMPDIR says, or in another one."""
+    path = None
+    try:
+        with undisturbed():
+            path = tempfile.mkdtemp(prefix=prefix, dir=above)
+        yield path
+    finally:
+        if path is not None:
+            with undisturbed():
+                shutil.rmtree(path, ignore_errors=True)
+
+
+@contextlib.contextmanager
 def put_in_place(path, inputs=(), lasting=True):
     """A file to write bytes to, which stands at the path once the block has ended well, and else leaves nothing behind.
 
@@ -200,8 +227,10 @@ def put_in_place(path, inputs=(), lasting=True):
     not outlive a loss of power is not waited for on its way to the disk.
     """
     place = target_of(path, inputs)
-    handle, new = created(place)
+    new = None
     try:
+        with undisturbed():
+            handle, new = created(place)
         with os.fdopen(handle, "wb") as file:
             yield file
             file.flush()
@@ -215,5 +244,6 @@ def put_in_place(path, inputs=(), lasting=True):
             raise
         raise Trouble(f"{path}: {reason.strerror}", WRITE_FAULT, "room on the disk") from None
     finally:
-        with contextlib.suppress(OSError):
-            os.unlink(new)
+        if new is not None:
+            with contextlib.suppress(OSError):
+                os.unlink(new)

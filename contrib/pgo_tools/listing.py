@@ -1,9 +1,8 @@
 """The list of profiles that are to be merged: names with weights, and what the files show before any is merged."""
 import collections
 import os
-import sys
 
-from pgo_tools.cli import FAILED, USAGE, Trouble
+from pgo_tools.cli import FAILED, USAGE, Trouble, given
 from pgo_tools.names import text_of
 from pgo_tools.tree import File
 
@@ -24,9 +23,7 @@ def weighed(line):
 
 def from_input(zeros):
     """The files that the input lists, one a line, or each up to a NUL."""
-    if sys.stdin is None:
-        raise Trouble("the input is closed, and no file is named", USAGE)
-    lines = text_of(sys.stdin.buffer.read()).split("\0" if zeros else "\n")
+    lines = text_of(given().read()).split("\0" if zeros else "\n")
     return [weighed(line) for line in lines if line.strip()]
 
 

@@ -10,7 +10,7 @@ import re
 from typing import List, NamedTuple, Optional
 
 from pgo_tools.cli import FAILED, Trouble
-from pgo_tools.files import put_in_place
+from pgo_tools.files import opened, put_in_place
 
 FORM = "merge-tree 1"
 BLOCK = 1 << 20
@@ -163,7 +163,7 @@ def write(path, manifest, more=(), lasting=True):
 def read(path) -> Optional[Manifest]:
     """The manifest at a path; None where there is none, or what stands there is none that was written to its end."""
     try:
-        with open(path, "rb") as file:
+        with opened(path)[0] as file:
             told = json.load(file)
         if told.get("form") != FORM:
             return None

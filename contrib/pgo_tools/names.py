@@ -1,12 +1,17 @@
 """Names of functions and files as people read them: demangled, printable, and quoted for a shell."""
 import re
+import resource
 import shlex
 import shutil
 import subprocess
+import tempfile
 
 # Control bytes of either set, what has no place in UTF-8, and what turns the direction of writing.
 UNPRINTED = re.compile("[\x00-\x1f\x7f-\x9f\ud800-\udfff\u200e\u200f\u2028-\u202e\u2066-\u2069]")
 DEMANGLERS = ["llvm-cxxfilt", "c++filt"] + [f"llvm-cxxfilt-{number}" for number in range(30, 13, -1)]
+
+# What a demangler may take: a name of some hundred bytes can stand for one of terabytes. Memory, seconds, and bytes that it prints.
+DEMANGLER_LIMITS = ((resource.RLIMIT_AS, 1 << 30), (resource.RLIMIT_CPU, 20), (resource.RLIMIT_FSIZE, 1 << 28))
 
 
 def text_of(raw):
@@ -49,17 +54,31 @@ def cut_middle(text, width):
     return text[:first] + ".." + text[len(text) - (width - 2 - first) :]
 
 
+def within_limits():
+    """Sets the limits of a demangler, in its process."""
+    for kind, most in DEMANGLER_LIMITS:
+        hard = resource.getrlimit(kind)[1]
+        resource.setrlimit(kind, (most if hard == resource.RLIM_INFINITY else min(most, hard), hard))
+
+
+def answer(tool, text):
+    """What a demangler prints of these lines; "" where it fails, or would need too much."""
+    with tempfile.TemporaryFile() as given, tempfile.TemporaryFile() as told:
+        given.write(raw_of(text))
+        given.seek(0)
+        ran = subprocess.run([tool], stdin=given, stdout=told, stderr=subprocess.DEVNULL, preexec_fn=within_limits, check=False)
+        told.seek(0)
+        return "" if ran.returncode else text_of(told.read())
+
+
 def demangled(names):
-    """Each name as its program's source has it, where a demangler is there, and else as it stands."""
+    """Each name as its program's source has it, where a demangler is there and can tell of all, and else as it stands."""
     names = list(names)
     tool = next(filter(shutil.which, DEMANGLERS), None)
     asked = [name for name in names if name.startswith(("_Z", "__Z", "_R")) and "\n" not in name]
     shown = {name: name for name in names}
-    if not tool or not asked:
-        return shown
-    text = "".join(f"{name}\n" for name in asked).encode("utf-8", "surrogateescape")
-    told = subprocess.run([tool], input=text, stdout=subprocess.PIPE, stderr=subprocess.DEVNULL, check=False)
-    lines = told.stdout.decode("utf-8", "surrogateescape").split("\n")
-    if told.returncode == 0 and len(lines) == len(asked) + 1:
-        shown.update(zip(asked, lines))
+    if tool and asked:
+        lines = answer(tool, "".join(f"{name}\n" for name in asked)).split("\n")
+        if len(lines) == len(asked) + 1:
+            shown.update(zip(asked, lines))
     return shown

@@ -7,16 +7,14 @@ import contextlib
 import errno
 import os
 import re
-import shutil
 import signal
-import stat
 import tempfile
 from typing import List, NamedTuple
 
 from pgo_tools import manifest as told
 from pgo_tools.children import call
 from pgo_tools.cli import DONE, FAILED, NO_FILE, NO_MEMORY, NO_PROGRAM, READ_FAULT, REFUSED, WRITE_FAULT, Trouble, say
-from pgo_tools.files import put_in_place, target_of
+from pgo_tools.files import opened, put_in_place, scratch_folder, target_of
 from pgo_tools.names import text_of
 
 MERGED_AT_ONCE = 8
@@ -52,16 +50,6 @@ class Source(NamedTuple):
 
 
 # Files, as they are read.
-
-
-def opened(path):
-    """A file that is open, and what the system tells of it. It is one that can be read again."""
-    handle = os.open(path, os.O_RDONLY | os.O_CLOEXEC | os.O_NONBLOCK)
-    seen = os.fstat(handle)
-    if not stat.S_ISREG(seen.st_mode):
-        os.close(handle)
-        raise IsADirectoryError(errno.EISDIR, "it is a folder" if stat.S_ISDIR(seen.st_mode) else "it is no file", path)
-    return os.fdopen(handle, "rb"), seen
 
 
 def source_of(name, weight, path, taken_away):
@@ -303,14 +291,9 @@ def add_parts(tree, part, pgo, target, scratch):
     return parts, manifests
 
 
-@contextlib.contextmanager
 def scratch_of(tree, part):
     """A folder for what a part needs on the way: where TMPDIR says, else in the tree's own."""
-    path = tempfile.mkdtemp(prefix=f"merge-tree.{part}.", dir=os.environ.get("TMPDIR") or tree.folder)
-    try:
-        yield path
-    finally:
-        shutil.rmtree(path, ignore_errors=True)
+    return scratch_folder(f"merge-tree.{part}.", os.environ.get("TMPDIR") or tree.folder)
 
 
 def make(tree, part, pgo):

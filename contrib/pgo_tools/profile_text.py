@@ -101,7 +101,7 @@ def entries(file, path="the profile"):
     Lines that stand twice are not looked for: `read` does that.
     """
     opened = 0
-    for number, line in lines_of(file):
+    for number, line in lines_of(file, path):
         shown = line.lstrip(" ")
         if not line.strip(" \t") or shown.startswith("#"):
             continue
@@ -164,27 +164,3 @@ def add(functions, opened, said):
     group[key] = node
     opened.append(node)
     return True
-
-
-def text_of_functions(functions):
-    """The lines of a profile, in the orders of docs/FORMATS.md: totals are made anew."""
-    totals = {name: node.total() for name, node in functions.items()}
-    for name in sorted(functions, key=lambda each: (-totals[each], each.encode("utf-8", "surrogateescape"))):
-        yield f"{name}:{totals[name]}:{functions[name].head}"
-        yield from below(functions[name], 1)
-
-
-def below(node, depth):
-    """The lines of a node, and behind them its calls with theirs."""
-    space = " " * depth
-    for (offset, disc), line in sorted(node.lines.items()):
-        targets = sorted(line.targets, key=lambda each: (-each[1], each[0].encode("utf-8", "surrogateescape")))
-        yield f"{space}{place(offset, disc)}: {line.count}" + "".join(f" {callee}:{times}" for callee, times in targets)
-    for offset, disc, callee in sorted(node.calls, key=lambda each: (*each[:2], each[2].encode("utf-8", "surrogateescape"))):
-        call = node.calls[offset, disc, callee]
-        yield f"{space}{place(offset, disc)}: {callee}:{call.total()}"
-        yield from below(call, depth + 1)
-
-
-def place(offset, disc):
-    return f"{offset}.{disc}" if disc else f"{offset}"

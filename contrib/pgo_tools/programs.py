@@ -2,12 +2,10 @@
 import contextlib
 import os
 import shutil
-import signal
 import subprocess
 import sys
-import threading
 
-from pgo_tools.cli import NO_PROGRAM, Trouble, stop
+from pgo_tools.cli import NO_PROGRAM, Trouble, undisturbed
 from pgo_tools.names import text_of
 
 
@@ -59,20 +57,10 @@ def running(words, **how):
 
     A signal that comes while the program is started is heard once it can be ended, too.
     """
-    late, process = [], None
-    heard = [each for each in (signal.SIGINT, signal.SIGTERM, signal.SIGHUP) if signal.getsignal(each) == stop]
-    if threading.current_thread() is not threading.main_thread():
-        heard = []
-    for each in heard:
-        signal.signal(each, lambda number, _: late.append(number))
+    process = None
     try:
-        try:
+        with undisturbed():
             process = subprocess.Popen(words, env=plain_words(), **how)
-        finally:
-            for each in heard:
-                signal.signal(each, stop)
-        if late:
-            stop(late[0], None)
         yield process
     except BaseException:
         if process:

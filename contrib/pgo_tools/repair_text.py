@@ -51,7 +51,7 @@ def weight_of(text):
 def functions(file, path="the repair"):
     """Each repair of a stream of bytes, in its order; a Trouble at the first line that is none of a repair."""
     repair, number = None, 0
-    for number, line in lines_of(file):
+    for number, line in lines_of(file, path):
         if repair is None and not line.startswith("# function "):
             continue
         shown = " ".join(re.split("[ \t]+", line.strip(" \t")))

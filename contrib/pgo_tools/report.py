@@ -35,7 +35,7 @@ class Report:
 def read(file):
     """The report in a stream of bytes; other lines are passed over."""
     report = Report()
-    for _, line in lines_of(file):
+    for _, line in lines_of(file, "the report"):
         if line.startswith("#"):
             add(report, line)
     return report

@@ -15,6 +15,8 @@ VERSIONS = range(30, 13, -1)
 ENTRY = re.compile(r"0x[0-9a-f]+: +DW_TAG_(\w+)")
 ATTRIBUTE = re.compile(r'\s*DW_AT_(\w+)\t\((?:0x[0-9a-f]+ )?(?:"(.*)"|([^)]*))\)')
 MOST_BYTES, MOST_NAME, MOST_PATH, MOST_ASKED = 1 << 26, 4096, 4096, 256
+# A program may name files without end, by paths of a thousand folders. So many files are looked for, each by so long an end of its path.
+MOST_FILES, MOST_PARTS = 256, 64
 # What the kernel makes up, whatever folder is allowed.
 MADE_UP = ("/proc/", "/sys/", "/dev/")
 
@@ -118,6 +120,8 @@ class Sources:
 
     def of(self, path):
         if path not in self.lines:
+            if len(self.lines) >= MOST_FILES:
+                return []
             tried = map(self.read, self.candidates(path))
             self.lines[path] = next(filter(None, tried), [])
         return self.lines[path]
@@ -126,7 +130,7 @@ class Sources:
         if len(path) > MOST_PATH or "\0" in path:
             return
         yield path
-        parts = path.strip("/").split("/")
+        parts = path.strip("/").split("/")[-MOST_PARTS:]
         for folder in self.folders:
             for k in range(len(parts)):
                 yield os.path.join(folder, *parts[k:])

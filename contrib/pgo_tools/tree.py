@@ -11,7 +11,7 @@ import secrets
 from typing import List, NamedTuple, Optional
 
 from pgo_tools.cli import FAILED, USAGE, Trouble
-from pgo_tools.files import put_in_place
+from pgo_tools.files import opened, put_in_place
 
 FORM = "merge-tree's tree 1"
 
@@ -119,7 +119,7 @@ def read(folder):
     """The tree in a folder."""
     helps = "the folder that merge-tree --plan=FOLDER made"
     try:
-        with open(description(folder), "rb") as file:
+        with opened(description(folder))[0] as file:
             told = json.load(file)
         if told.pop("form") != FORM:
             raise ValueError

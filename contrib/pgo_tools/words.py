@@ -1,4 +1,4 @@
-"""Words of a call: options stand anywhere, and what stands behind `--` is no option."""
+"""Words of a call: options stand anywhere, what stands behind `--` is no option, and some are numbers."""
 import argparse
 
 
@@ -11,3 +11,21 @@ def taken(parser, argv):
         parser.error(f"there is no option {strange[0]}: a name that begins with - stands behind --")
     found.rest += argv[cut + 1 :]
     return found
+
+
+def percent(word):
+    """For argparse: a number of percent."""
+    try:
+        value = float(word)
+    except ValueError:
+        value = -1
+    if not 0 <= value <= 100:
+        raise argparse.ArgumentTypeError("a number from 0 to 100")
+    return value
+
+
+def at_least_one(word):
+    """For argparse: a whole number."""
+    if not (word.isascii() and word.isdigit() and int(word) > 0):
+        raise argparse.ArgumentTypeError(f"a number from 1 up, and not {word}")
+    return int(word)

@@ -19,6 +19,10 @@ import unittest
 from typing import Callable, NamedTuple, Optional
 
 sys.dont_write_bytecode = True
+# A shell has what it starts behind it pass signals over, and so would all that is started here, which is to be tried with them.
+for each in (signal.SIGINT, signal.SIGHUP):
+    if signal.getsignal(each) == signal.SIG_IGN:
+        signal.signal(each, signal.default_int_handler if each == signal.SIGINT else signal.SIG_DFL)
 HERE = pathlib.Path(__file__).resolve().parent
 # What holds the programs to what is known of them.
 sys.path.insert(0, str(HERE / "program"))

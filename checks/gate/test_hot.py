@@ -174,6 +174,7 @@ class Strangers(Another):
         out = self.shown(["controls.c"])
         self.assertNotIn(b"\x1b", out)
         self.assertIn(rb"\x1b]0;owned\x07", out)
+        self.file("\x1b[2J")
         ran = self.run_here(SCRIPT, "--bin=\x1b[2J", PROFILE, environment=self.tool("echo oh; exit 1"))
         self.tells(ran, REFUSED, r"^hot: \\x1b\[2J: llvm-dwarfdump fails")
 
@@ -234,6 +235,10 @@ class Words(Case):
         self.tells(self.run_here(SCRIPT, "none"), MISSING, "^hot: none: No such file or directory$")
         self.tells(self.run_here(SCRIPT, self.file("empty")), FAILED, "^hot: the profile is empty")
         self.tells(self.run_here(SCRIPT, self.file("binary", b"\252\0profile\n")), REFUSED, "binary: refused at 1: BadLine .*llvm-profdata merge")
+        for text, said in (("f:1:1\r\n", "CR at its end"), ("401036 0x1/0x2\n", "a recording"), ("func f\n", "a block text"), ("\x7fELF\n", "a program")):
+            self.tells(self.run_here(SCRIPT, self.file("other", text)), REFUSED, f"other: refused at 1: BadLine .*{said}")
+        self.tells(self.run_here(SCRIPT, WORDS, PROFILE), BAD_WORDS, "one profile: the program stands behind --bin=")
+        self.tells(self.run_here(SCRIPT, "--bin=none", PROFILE), MISSING, "^hot: none: No such file or directory$")
         self.tells(self.run_here(SCRIPT, self.folder), 5, "Is a directory")
 
     def test_names_and_numbers_of_strangers(self):

@@ -169,8 +169,8 @@ class Refusals(Tree):
             (REFUSED, f"{here}/bad: refused at 2: BadLine", [*self.files, "bad"]),
             (READ_FAULT, f"{here}/p: read fault: it is a folder", ["p/0", "p"]),
             (READ_FAULT, f"{here}/pipe: read fault: it is no file", ["pipe", "p/0"]),
-            (REFUSED, f"{here}/empty: empty: no line of it says anything", [*self.files, "empty"]),
-            (REFUSED, f"{here}/comments: empty: no line of it says anything", [*self.files, "comments"]),
+            (REFUSED, f"{here}/empty: empty: no line of it says anything (--empty-ok takes such)", [*self.files, "empty"]),
+            (REFUSED, f"{here}/comments: empty: no line of it says anything (--empty-ok takes such)", [*self.files, "comments"]),
         ):
             with self.subTest(said):
                 self.refused(status, f"merge-tree: {said}\n", *words)
@@ -181,6 +181,11 @@ class Refusals(Tree):
         here = self.folder
         self.refused(REFUSED, f"merge-tree: {here}/bad: refused at 2: BadLine\nmerge-tree: {here}/worse: refused at 1: BadLine\nmerge-tree: {here}/gone: no such file\n",
                      *self.files[:4], "bad", "p/4", "worse", *self.files[5:], "gone")
+
+    def test_a_launcher_that_says_something_first(self):
+        self.file("bad", BAD)
+        self.file("pgo", f'#!/bin/sh\necho "pgo: something" >&2\nexec "{PGO}" "$@"\n').chmod(0o755)
+        self.tells(self.merge("p/0", "bad", environment={"PGO": str(self.folder / "pgo")}), REFUSED, "^merge-tree: .*/bad: refused at 2: BadLine$")
 
     def test_sums_that_are_too_large(self):
         self.file("half", HALF)
@@ -332,6 +337,8 @@ class Builds(Tree):
         path.write_text(f"# build {TWO}\n" + profile(3) + "# ranges 1\n" * 1000)
         self.tells(self.merge(*self.files[:15]), FAILED, "several builds")
         self.tells(self.merge(*[name for name in self.files[:15] if name not in ("p/0", "p/1", "p/2")], "--part-size=2"), FAILED, "several builds")
+        path.write_bytes(profile(3, ONE).replace("\n", "\r\n").encode())
+        self.tells(self.merge(*self.files[:15]), REFUSED, "p/3: refused at 1: BadLine")
         path.write_text(f"# build {TWO}\n" + profile(3, ONE))
         self.tells(self.merge(*self.files[:15]), REFUSED, "p/3: it is of several builds")
 

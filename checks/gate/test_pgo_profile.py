@@ -149,7 +149,7 @@ class Forms(Profiles):
         self.same(WORDS, "/dev/stdin", given=path.read_bytes())
         self.same("--pid=7", WORDS, path)
         self.same("--comm=words", WORDS, path)
-        self.judge(1, "has no branches|is empty", "--comm=other", WORDS, path)
+        self.judge(1, "has no branches of --comms=other.*-F comm,pid", "--comm=other", WORDS, path)
         self.judge(4, "at 1: BadLine.*it is a recording: perf script -i bad .*perf script says: ", WORDS, self.file("bad", path.read_bytes()[:200]).name)
 
     def test_a_recording_without_perf(self):
@@ -195,10 +195,12 @@ class Words(Profiles):
     def test_misspelt(self):
         rows = [
             ("it takes three files.* here are 4", [WORDS, TEXT, "extra"]),
+            ("there is no option -o: the third file is the profile", [WORDS, TEXT, "-o"]),
             ("there is no option --edges", ["--edges", WORDS, TEXT]),
             ("the name stands behind --map= without a space", ["--map=", WORDS, TEXT]),
             ("the name stands behind --map= without a space", ["--map", "/srv/app/words", WORDS, TEXT]),
             ("the number stands behind --pid= without a space", ["--pid", "7", WORDS, TEXT]),
+            ("the number stands behind --pid=", ["--pid=words", WORDS, TEXT]),
             ("--map stands twice", ["--map=a", "--map=b", WORDS, TEXT]),
             ("options stand in front of the files: --base", [WORDS, TEXT, "--base"]),
             ("a file has no name", ["", TEXT]),
@@ -210,21 +212,26 @@ class Words(Profiles):
     def test_places(self):
         def judge(status, said, out, *words):
             self.tells(self.run_here(SCRIPT, *(words or (WORDS, TEXT)), out), status, said)
-        judge(6, "none/prof was not made: nothing can be written there", "none/prof")
+        judge(6, "none/prof was not made: there is no folder .*none what helps: mkdir -p .*none", "none/prof")
         os.mkfifo(self.folder / "pipe")
         judge(6, "it is a device or a pipe", "pipe")
         os.mkdir(self.folder / "there")
         judge(6, "it is a folder", "there")
+        judge(2, "- is no name of one", "-")
         os.symlink("there/prof", self.folder / "link")
         judge(0, "^$", "link")
         judge(0, "^$", "link")
         self.assertTrue((self.folder / "link").is_symlink())
         self.assertEqual(self.names("there"), ["prof"])
         os.symlink("there/none/prof", self.folder / "astray")
-        judge(6, "nothing can be written there", "astray")
+        judge(6, "there is no folder .*none", "astray")
         own = self.file("own", WORDS.read_bytes())
         judge(2, "it is the program or the text: own", "own", "own", TEXT)
         self.assertEqual(own.read_bytes(), WORDS.read_bytes())
+        for taken in (TEXT.read_bytes(), load_line("/srv/app/words"), gzip.compress(b"4011c0"), b"PERFILE2", WORDS.read_bytes()):
+            # Two recordings and no profile: the second one stays.
+            judge(2, "taken stays as it was: it is a program or a recording.*several recordings", self.file("taken", taken).name)
+        (self.folder / "taken").unlink()
         self.file("-text", TEXT.read_bytes())
         judge(0, "^$", "-prof", WORDS, "-text")
         self.assertEqual(self.names(), ["-prof", "-text", "astray", "link", "own", "pipe", "there"])
@@ -232,7 +239,7 @@ class Words(Profiles):
     def test_files(self):
         rows = [
             (3, "no such file: 1", ["none", TEXT]), (3, "no such file: 2", [WORDS, "none"]), (3, "no such file: 2 .*/dev/stdin", [WORDS, "-"]),
-            (4, "NotElf.*the program first", [TEXT, WORDS]), (5, "read fault: file 2 .*this is a folder", [WORDS, "made"]),
+            (4, "NotElf.*the program first.*words is a program, and .*words.txt is none", [TEXT, WORDS]), (5, "read fault: file 2 .*this is a folder", [WORDS, "made"]),
             (4, "at 1: BadLine.*it is a program", [WORDS, WORDS]),
         ]
         for status, said, words in rows:
@@ -242,6 +249,11 @@ class Words(Profiles):
                           ("is empty", b""), ("is packed", gzip.compress(WORDS.read_bytes()))):
             with self.subTest(said):
                 self.judge(4, f"NotElf.*bad {said}", self.file("bad", raw).name, TEXT)
+        tar = b"words.txt".ljust(257, b"\0") + b"ustar  \0"
+        for said, raw in (("a zip archive", b"PK\3\4\n\r"), ("a tar archive", tar), ("packed by lz4", b"\x04\x22\x4d\x18\nwords 7"), ("iconv", b"\xff\xfe4\0\n\0")):
+            with self.subTest(said):
+                self.judge(4, rf"BadLine \(bad\).*{said}", WORDS, self.file("bad", raw).name)
+        self.judge(4, "BadLine.*it is no text", WORDS, self.file("bad", b"\xaa\0\n").name)
 
     def test_no_room(self):
         whole = len(self.run_here(PGO, "profile", "--base", WORDS, TEXT).out)
@@ -311,7 +323,7 @@ class Empty(Profiles):
         self.judge(1, "none of .* branches is of .*the binary that ran", WORDS, self.file("elsewhere", elsewhere))
 
     def test_programs(self):
-        rows = [("has no debugging information", ["-no-pie"]), ("split, or of DWARF 2 or 3", ["-no-pie", "-gdwarf-2"]), ("split", ["-no-pie", "-g", "-gsplit-dwarf"])]
+        rows = [("has no debugging information .*build with -g", ["-no-pie"]), ("it is stripped .*before strip", ["-no-pie", "-s"]), ("split, or of DWARF 2 or 3", ["-no-pie", "-gdwarf-2"]), ("split", ["-no-pie", "-g", "-gsplit-dwarf"])]
         for said, flags in rows:
             with self.subTest(said):
                 self.judge(1, said, self.build("program", "-O1", *flags), TEXT)
@@ -476,6 +488,9 @@ class Spoiled(Profiles):
 
     def test_few_samples(self):
         self.judge(0, "too few samples: .* times as many: record longer", WORDS, self.file("few", b" ".join(ONE.split()[:4]) + b"\n"))
+        # A loop in one sample: each of its lines was met often, by branches that hang together.
+        again = "           401330" + " 0x4013df/0x401397" * 32 + "\n"
+        self.judge(0, "too few samples: 288 branches in all", WORDS, self.file("few", again * 9))
 
 
 class Several(Profiles):

@@ -12,6 +12,7 @@ LOAD = re.compile(
     rb"[ \t]+((?:(?![^ \t]*\]:[ \t])[^ \t]+[ \t]+)*[^ \t]*\]):[ \t]+([^ \t]+)[ \t](.+)", re.DOTALL)
 BUILD = re.compile(rb"<([0-9a-fA-F]+)>\]$")
 POINTER = re.compile(rb"(?:0x)?[0-9a-fA-F]+")
+BEGINS = re.compile(rb"[ \t]*(?:0x)?[0-9a-fA-F]+[ \t]+0x[0-9a-fA-F]+/0x|[^\n]*PERF_RECORD_")
 ENTRY = re.compile(rb"(0x[0-9a-fA-F]+)/(0x[0-9a-fA-F]+)(?:/.*)?", re.DOTALL)
 
 
@@ -47,6 +48,15 @@ def load_of(number, line):
     build = BUILD.search(match[4])
     numbers = [int(match[place], 16) for place in (1, 2, 3)]
     return Load(number, *numbers, text_of(match[5]), text_of(match[6]), text_of(build[1]).lower() if build else "")
+
+
+def is_at(path):
+    """The file at a path begins as a branch text does."""
+    try:
+        with open(path, "rb") as file:
+            return bool(BEGINS.match(file.read(256)))
+    except OSError:
+        return False
 
 
 def is_sample(line):
@@ -113,6 +123,8 @@ LOOKS = [(re.compile(form), said) for form, said in [
 
 def remedy(line, is_last=False):
     """What helps with a line that is refused."""
+    if "\0" in line:
+        return "it is no text: what perf script -F ip,brstack prints is one"
     # What is not printed is looked at as if it were a character, and a CR at the end as what it is.
     shown = re.sub(r"[^\x20-\x7e]", "?", line[:100])
     for form, said in LOOKS:

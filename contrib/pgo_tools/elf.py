@@ -57,7 +57,7 @@ class Elf:
             whole = os.fstat(file.fileno()).st_size
             self.data = mmap.mmap(file.fileno(), 0, access=mmap.ACCESS_READ) if whole else b""
         if self.data[:6] != b"\x7fELF\x02\x01":
-            raise Trouble(f"{path} is no ELF file of 64 bits, little-endian", REFUSED)
+            raise Trouble(f"{path} is no ELF file of 64 bits, little-endian", REFUSED, "the program itself: no text, and nothing packed")
         try:
             self.kind, self.machine = struct.unpack_from("<HH", self.data, 16)
             self.segments = list(self.read_segments())

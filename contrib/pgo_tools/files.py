@@ -20,17 +20,26 @@ from pgo_tools.names import text_of
 # What a file is by its first bytes.
 MAGICS = [
     (b"\x7fELF", "program"), (b"PERFILE2", "recording"), (b"\x1f\x8b", "gz"), (b"\xfd7zXZ\0", "xz"), (b"\x28\xb5\x2f\xfd", "zst"),
-    (b"BZh", "bz2"), (b"!<arch>\n", "archive"), (b"!<thin>\n", "archive"), (b"#!", "script"),
+    (b"BZh", "bz2"), (b"!<arch>\n", "archive"), (b"!<thin>\n", "archive"), (b"#!", "script"), (b"PK\3\4", "zip"), (b"7z\xbc\xaf", "7z"),
+    (b"\x04\x22\x4d\x18", "lz4"), (b"\xff\xfe", "utf-16"), (b"\xfe\xff", "utf-16"),
 ]
 PACKED = ("gz", "xz", "zst", "bz2")
+# What no script here reads, and what helps.
+FOREIGN = {
+    "zip": "it is a zip archive: unpack it", "7z": "it is a 7z archive: unpack it", "lz4": "it is packed by lz4: unpack it",
+    "tar": "it is a tar archive: unpack it", "utf-16": "it is text of 16 bits a letter: iconv -f UTF-16 -t UTF-8",
+}
+HEAD = 512
 # A profile, a block text or a repair has at most so many bytes (docs/FORMATS.md).
 MOST_TEXT = 1 << 28
 
 
 def kind_by(head):
-    """What a file is that begins with these bytes: a word of MAGICS, "empty", or "" for anything else."""
+    """What a file is that begins with these bytes: a word of MAGICS, "tar", "empty", or "" for anything else."""
     if not head:
         return "empty"
+    if head[257:262] == b"ustar":
+        return "tar"
     return next((kind for magic, kind in MAGICS if head.startswith(magic)), "")
 
 
@@ -40,7 +49,7 @@ def kind_of(path):
         if not os.path.isfile(path):
             return ""
         with open(path, "rb") as file:
-            return kind_by(file.read(8))
+            return kind_by(file.read(HEAD))
     except OSError:
         return ""
 

@@ -19,12 +19,13 @@ DEBUG_FOLDER = "/usr/lib/debug"
 
 class Text(NamedTuple):
     """A branch text: its name as the user gave it, the plain file, what perf said where it could not print it, and the numbers of
-    builds that it has by the names of their files."""
+    builds that it has by the names of their files; and the words by which its samples were chosen."""
 
     name: str
     path: str
     said: str = ""
     builds: tuple = ()
+    asked: tuple = ()
 
     def is_file(self):
         return os.path.isfile(self.path)
@@ -95,7 +96,7 @@ def printed(name, path, folder, asked):
         return Text(name, path, "perf script says: " + (said.split("\n") or [""])[-1])
     told = programs.answer(perf, "buildid-list", "-i", os.path.abspath(path))
     builds = re.findall(r"^([0-9a-f]{8,}) (/.*)$", told, re.MULTILINE)
-    return Text(name, copy, "", tuple((each, number) for number, each in builds))
+    return Text(name, copy, "", tuple((each, number) for number, each in builds), tuple(asked))
 
 
 class Program(NamedTuple):

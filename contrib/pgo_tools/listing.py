@@ -63,7 +63,7 @@ def build_at_end(name):
             return ""
         with open(name, "rb") as file:
             file.seek(max(0, os.stat(name).st_size - TAIL))
-            lines = file.read(TAIL).split(b"\n")
+            lines = file.read(TAIL).splitlines()
     except OSError:
         return ""
     told = [line[8:] for line in lines if line.startswith(b"# build ")]
@@ -76,7 +76,7 @@ def check_builds(files, choice):
         return
     counts = collections.Counter(filter(None, (build_at_end(name) for name, _ in files)))
     if len(counts) > 1:
-        said = ", ".join(f"{build} ({count} files)" for build, count in counts.most_common(5))
+        said = ", ".join(f"{build} ({count} file{'s' * (count > 1)})" for build, count in counts.most_common(5))
         raise Trouble(f"the profiles are of {len(counts)} builds: {said}", FAILED,
                       "--build=ID takes those of one and leaves the others out, --build=any adds up all")
 

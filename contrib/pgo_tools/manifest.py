@@ -21,7 +21,7 @@ WRITTEN = 3
 COUNT = re.compile(rb"\n +[0-9.]+: ([0-9]+)(?![^ \n])")
 HEAD = re.compile(rb"\n[^ \n#][^\n]*:([0-9]+)(?![^\n])")
 SAYS = re.compile(rb"\n *[^ \n#]")
-BUILD = re.compile(rb"\n# build ([^\n]*)")
+BUILD = re.compile(rb"\n# build ([^\r\n]*)")
 
 
 class Facts(NamedTuple):

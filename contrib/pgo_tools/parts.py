@@ -100,7 +100,7 @@ def asked(tree, entry, scratch):
 def reason_against(tree, facts):
     """Why a text does not go in: the reason, the status, and whether that is a fault of the text."""
     if not facts.says:
-        return () if tree.choices.empty_ok else ("empty: no line of it says anything", REFUSED, True)
+        return () if tree.choices.empty_ok else ("empty: no line of it says anything (--empty-ok takes such)", REFUSED, True)
     if len(facts.builds) > 1:
         return f"it is of several builds: {', '.join(facts.builds)}", REFUSED, True
     build = facts.builds[0] if facts.builds else ""
@@ -110,6 +110,11 @@ def reason_against(tree, facts):
 
 
 # Merges.
+
+
+def last_line(said):
+    """What pgo says: the launcher may have said something before."""
+    return text_of(said).strip().rpartition("\n")[2]
 
 
 def at_fault(sources, status, said):
@@ -142,7 +147,7 @@ def merge(pgo, sources, target):
         target.truncate()
         status, said = call([pgo, "merge", *words], stdout=target, pass_fds=[each.file.fileno() for each in good])
         if status:
-            number, why = at_fault(good, status, text_of(said).strip())
+            number, why = at_fault(good, status, last_line(said))
             refused.append(good.pop(number).left_out(why, status))
             continue
         changed = [each for each in good if told.written_of(os.fstat(each.file.fileno())) != each.stamp[: told.WRITTEN]]
@@ -181,8 +186,8 @@ def merge_sums(pgo, sums, target):
     words = [word for each in sums for word in ("1", f"/dev/fd/{each.file.fileno()}")]
     status, said = call([pgo, "merge", *words], stdout=target, pass_fds=[each.file.fileno() for each in sums])
     if status:
-        at_fault(sums, status, text_of(said).strip())
-        raise Trouble(text_of(said).strip(), status)
+        at_fault(sums, status, last_line(said))
+        raise Trouble(last_line(said), status)
     for each in sums:
         each.file.close()
 

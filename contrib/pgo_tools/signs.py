@@ -5,11 +5,13 @@ from typing import NamedTuple
 
 from pgo_tools import branch_text, found, programs
 from pgo_tools.elf import X86_64
-from pgo_tools.files import PACKED, kind_of
+from pgo_tools.files import FOREIGN, PACKED, kind_of
 from pgo_tools.names import text_of
 
 # A function's hot lines are those that make up this share of all counts; below this count the least of them is chance.
 HOT_SHARE, FEW_SAMPLES = 0.9, 10
+# Fewer branches are of ten samples or so, and those of one sample hang together.
+FEW_BRANCHES = 320
 # So many lines without a discriminator are no chance.
 MANY_LINES = 20
 # Names as rustc's old mangling has them.
@@ -27,14 +29,14 @@ class Sign(NamedTuple):
     helps: str
 
 
-SHOW_LOADS = "perf script --show-mmap-events -F ip,brstack, which tells where files were loaded, and --map=NAME (docs/USING.md, step 2)"
+SHOW_LOADS = "perf script --show-mmap-events -F ip,brstack, which tells where files were loaded (docs/USING.md, step 2)"
 
 
-def help_to_map(program, text):
+def help_to_map(program, text, first=""):
     names = found.names_to_choose(program, text.loads())
     if not names:
         return SHOW_LOADS
-    return f"the name by which it was loaded, whole; {text.name} has\n{found.as_options(names)}"
+    return f"{first}the name by which it was loaded, whole; {text.name} has\n{found.as_options(names)}"
 
 
 def sums_of(report, program):
@@ -53,6 +55,8 @@ def why_empty(program, text, name, report):
         return without_branches(text)
     if not report["units read"]:
         return without_units(program, report)
+    if program.elf.is_position_independent() and is_debug_file(program):
+        return debug_file_sign(program)
     if name and foreign == branches and any(load.name == name for load in text.loads()):
         return Sign(f"no branch is of {name}, though it was loaded",
                     "the program itself, no debug file of it (eu-unstrip of elfutils puts the two together); in a recording of "
@@ -60,7 +64,8 @@ def why_empty(program, text, name, report):
     if name and foreign == branches:
         return Sign(f"no load line has this name: {name}", help_to_map(program, text))
     if not name and program.elf.is_position_independent():
-        return Sign(f"{program.name} is position-independent, and ran at other addresses than it says", help_to_map(program, text))
+        where = "no load line has its name" if found.names_to_choose(program, text.loads()) else "ran at other addresses than it says"
+        return Sign(f"{program.name} is position-independent, and {where}", help_to_map(program, text, "the binary that ran, or "))
     if near:
         return Sign(f"{near} of {branches} branches are of {program.name}, but it has no functions with lines there",
                     "build with -g, without -gsplit-dwarf; the binary that ran")
@@ -68,9 +73,21 @@ def why_empty(program, text, name, report):
                 "the binary that ran; brstack and not brstackoff; of a recording of several programs perf script --comms= or --pid=")
 
 
+def is_debug_file(program):
+    code = program.elf.code()
+    return bool(code) and not code[0].file_size
+
+
+def debug_file_sign(program):
+    return Sign(f"{program.name} is a debug file, and has other offsets than the program that was loaded",
+                "the program itself; eu-unstrip of elfutils puts the two together")
+
+
 def without_branches(text):
+    if text.asked:
+        return Sign(f"{text.name} has no branches of {' and '.join(text.asked)}", f"perf script -i {text.name} -F comm,pid shows whose it has")
     if text.is_file() and not os.path.getsize(text.path):
-        return Sign(f"{text.name} is empty", "what perf script said when it made it")
+        return Sign(f"{text.name} is empty", "what perf record or perf script said when it made it")
     return Sign(f"{text.name} has no branches", "perf record -b, then perf script -F ip,brstack")
 
 
@@ -78,12 +95,14 @@ def without_units(program, report):
     if report["units passed"]:
         return Sign(f"the debugging information of {program.name} is split, or of DWARF 2 or 3",
                     "build with -gdwarf-4 or -gdwarf-5, without -gsplit-dwarf")
-    what = f"{program.name} has no debugging information, or has it compressed the old way"
-    helps = "build with -g; give it as it was before strip; objcopy --decompress-debug-sections"
     if program.debug:
-        what = f"{program.name} has its debugging information in {program.debug}, and the two could not be joined"
-        helps = f"eu-unstrip -o {program.base_name()}.whole {program.name} {program.debug} (elfutils)"
-    return Sign(what, helps)
+        return Sign(f"{program.name} has its debugging information in {program.debug}, and the two could not be joined",
+                    f"eu-unstrip -o {program.base_name()}.whole {program.name} {program.debug} (elfutils)")
+    if program.elf.section(".zdebug_info"):
+        return Sign(f"{program.name} has its debugging information compressed the old way", "objcopy --decompress-debug-sections")
+    if program.elf.section(".symtab"):
+        return Sign(f"{program.name} has no debugging information", "build with -g, and for clang -fdebug-info-for-profiling")
+    return Sign(f"{program.name} has no debugging information, nor symbols: it is stripped", "the program as it was before strip, built with -g")
 
 
 # Of a line that is refused, and of a file that is none.
@@ -98,6 +117,8 @@ def look_at_line(text, number):
         return f"it is a recording: perf script -i {text.name} -F ip,brstack prints its text{said}"
     if kind in PACKED:
         return "it is packed: unpack it"
+    if kind in FOREIGN:
+        return FOREIGN[kind]
     if kind == "program":
         return "it is a program: the program first, then the text"
     line, is_last = line_at(text.path, number)
@@ -115,11 +136,13 @@ def line_at(path, number):
     return text_of(line), True
 
 
-def look_at_program(program):
+def look_at_program(program, text):
     """What helps with what is no program, by what it is instead; "" where pgo's own help says it."""
     kind, name = kind_of(program.path), program.name
-    if kind in PACKED:
-        return f"{name} is packed: unpack it"
+    if kind in PACKED or kind in FOREIGN:
+        return f"{name} is packed: unpack it" if kind in PACKED else f"{name}: {FOREIGN[kind]}"
+    if kind_of(text.path) == "program":
+        return f"the program first, then the text: {text.name} is a program, and {name} is none"
     return {
         "empty": f"{name} is empty: see what the linker said when it made it",
         "recording": f"{name} is a recording: the program first, then what perf script -F ip,brstack prints of the recording",
@@ -132,7 +155,9 @@ def look_at_unread(path):
     """What helps where a file could not be read."""
     if os.path.isdir(path):
         return "a file: this is a folder"
-    if os.path.exists(path) and not os.access(path, os.R_OK):
+    if not os.path.exists(path):
+        return "its name: there is no such file"
+    if not os.access(path, os.R_OK):
         return "leave to read it (chmod)"
     return ""
 
@@ -154,16 +179,15 @@ def of_text(text, parts):
     if not text.ends():
         yield Sign(f"{text.name} does not end with a line feed, so it may have been cut off, and its last address with it",
                    "print the text again, and see that perf ended well")
-    yield from few_samples([part.profile for part in parts])
+    yield from few_samples([part.profile for part in parts], parts[0].report["branches"])
 
 
 def other_binary(part, text):
     """The binary may be another one than ran: by its build, by its branches, or by the sums where those cannot be seen."""
     program, same = part.program, same_binary(part.program)
-    code, entries, crossing = program.elf.code(), part.report["entries"], part.report["ranges crossing"]
-    if part.name and code and not code[0].file_size:
-        yield Sign(f"{program.name} is a debug file, and has other offsets than the program that was loaded",
-                   "the program itself; eu-unstrip of elfutils puts the two together")
+    entries, crossing = part.report["entries"], part.report["ranges crossing"]
+    if part.name and is_debug_file(program):
+        yield debug_file_sign(program)
         return
     if part.built:
         yield Sign(f"the build {part.built} ran, and {program.name} is {program.elf.build_id()}", same)
@@ -223,8 +247,8 @@ def unfit_build(program, profile):
                    "sample a build by the very rustc that takes the profile; else -C symbol-mangling-version=v0 on both")
 
 
-def few_samples(profiles):
-    """The hot lines were met so seldom that chance has a say in them."""
+def few_samples(profiles, branches):
+    """The hot lines were met so seldom that chance has a say in them, or of so few samples all together."""
     nodes = [each for profile in profiles for node in profile.values() for each in node.walk()]
     counts = sorted((line.count for node in nodes for line in node.lines.values()), reverse=True)
     left, least = HOT_SHARE * sum(counts), 0
@@ -235,3 +259,5 @@ def few_samples(profiles):
     if 0 < least < FEW_SAMPLES:
         yield Sign(f"too few samples: some of the lines that make up {HOT_SHARE:.0%} of all counts were met {least} time{'s' * (least > 1)}",
                    f"{-(-FEW_SAMPLES // least)} times as many: record longer, or at a higher rate (perf record -F)")
+    elif branches < FEW_BRANCHES:
+        yield Sign(f"too few samples: {branches} branches in all", "record longer, or at a higher rate (perf record -F)")

@@ -46,7 +46,10 @@ def starts(binary, names):
     for k in range(0, len(asked) if dump else 0, MOST_ASKED):
         status, said, err = call([dump, *asked[k : k + MOST_ASKED], as_file(binary)])
         if status:
-            raise Trouble(f"{binary}: {one_line(err) or 'llvm-dwarfdump fails'}", REFUSED)
+            # A file that is not there, or a folder, is told as such.
+            open(binary, "rb").close()
+            said = one_line(err).replace(f"error: {binary}: ", "")
+            raise Trouble(f"{binary}: {said or 'llvm-dwarfdump fails'}", REFUSED)
         note_all(found, text_of(said).split("\n"))
     return {name: Place(file, line) for name, (_, file, line) in found.items()}
 

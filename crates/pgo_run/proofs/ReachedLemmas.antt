@@ -125,6 +125,10 @@ reaches command store before name judge rest opens opens_now opens_after k so_fa
       opened = opens-with command store before name judge rest opens opens_now opens_after so_far rose;
     })
 
+-- how many files are opened of one that is named or not
+abbrev one_if : Bool → ℕ
+one_if t = cond t 1 0
+
 -- where one file more opens one file more, that file is named
 named-there : (n : ℕ) (files : List Asked) → opens_of (take (suc n) files) ≡ opens_of (take n files) + 1
     → IsSomeAnd (slice_get files n) (λ file. is_named file.source ≡ true)
@@ -136,7 +140,7 @@ named-there zero (file ∷ files) more = by_test (is_named file.source) refl
     by_test true is = is
     by_test false is =
         let one = sum_by-cons (λ (f : Asked). cond (is_named f.source) 1 0) file [] in
-        let none : cond (is_named file.source) 1 0 ≡ 0 = ap (λ t. cond t 1 0) is in
+        let none : one_if (is_named file.source) ≡ 0 = ap one_if is in
         absurd (omega (arith, more, one, none))
 named-there (suc n) (file ∷ files) more =
     let front = sum_by-cons (λ (f : Asked). cond (is_named f.source) 1 0) file (take (suc n) files) in

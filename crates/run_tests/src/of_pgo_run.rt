@@ -1,10 +1,11 @@
 // What clauses leave open: that good files give an output and no `NoMemory`, that a bad line is
 // refused before the text was read to its end, and that time is no more than files' sizes ask for.
-// What is written of many more words and files is in checks/program.
+// What is written of many more words and files is in checks/gate/program.
 ghost use Rattle.std.specs.Prelude.{◌<◌};
 
 use case_maker::{CasePart, CaseStop, make};
-use io_edge::{Fail, Items, MemoryInputs, MemorySink, StoredFile};
+use io_edge::{Fail, MemoryInputs, MemorySink, StoredFile};
+use item_lists::Items;
 use memchr::memchr;
 use pgo_run::{Status, run};
 use refusal::{Kind, NoMemory, Place};

@@ -689,6 +689,7 @@ print(step - 1)
 class Rooms(Tree):
     """Where there is no room, that is said with the status of a write fault, and what is done stays."""
 
+    @needs("prlimit")
     def test_a_limit_on_files(self):
         self.expect(python(FLEET, "9", "400", "fleet", folder=self.folder), DONE)
         names = [f"fleet/{number}.prof" for number in range(1, 10)]

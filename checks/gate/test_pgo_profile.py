@@ -322,6 +322,7 @@ class Empty(Profiles):
         elsewhere = re.sub(r"0x([0-9a-f]+)/0x([0-9a-f]+)", r"0x55d0\1/0x55d0\2", TEXT.read_text())
         self.judge(1, "none of .* branches is of .*the binary that ran", WORDS, self.file("elsewhere", elsewhere))
 
+    @needs("cc")
     def test_programs(self):
         rows = [("has no debugging information .*build with -g", ["-no-pie"]), ("it is stripped .*before strip", ["-no-pie", "-s"]), ("split, or of DWARF 2 or 3", ["-no-pie", "-gdwarf-2"]), ("split", ["-no-pie", "-g", "-gsplit-dwarf"])]
         for said, flags in rows:

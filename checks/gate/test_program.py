@@ -6,6 +6,7 @@ byte is known is tried by test_known.py.
 import os
 import random
 import re
+import shutil
 import unittest
 
 from common import (
@@ -433,7 +434,7 @@ class Files(Program):
         text.chmod(0)
         words = [PGO, "counts", text]
         if os.getuid() == 0:
-            if self.run_here("setpriv", "--version").status:
+            if not shutil.which("setpriv"):
                 self.skipTest("root reads every file, and there is no setpriv")
             self.folder.chmod(0o755)
             own = self.file("program", bytes_of(PGO))

@@ -89,6 +89,7 @@ class SmallFiles(Case):
         self.file("text", b"PERF_RECORD_MMAP2 " + b"x: [0x1(0x1) @ 0 " * 3800 + b"\n")
         self.ends(FAILED, "text has no branches", "pgo-profile", WORDS, "text", "made")
 
+    @needs("objdump")
     def test_a_packed_line_without_an_end(self):
         pieces = gzip.compress(bytes(1 << 24)) * 100
         self.file("packed", pieces)
@@ -96,6 +97,7 @@ class SmallFiles(Case):
         self.ends(REFUSED, "packed has more than 268435456 bytes", "compare", "profile", "packed")
         self.ends(REFUSED, "packed: refused at 1: LineTooLong", "blocks", "--perf", "packed", WORDS)
 
+    @needs("objdump")
     def test_a_closed_input(self):
         for words in (["hot", "-"], ["hot", "--blocks=text", "-"], ["draw", "f"], ["blocks", "--names=-", WORDS], ["merge-tree"]):
             with self.subTest(words):

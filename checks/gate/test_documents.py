@@ -28,6 +28,9 @@ class Documents(Case):
     def test_rooms(self):
         self.passes(python(TOP / "checks" / "rooms"))
 
+    def test_parts(self):
+        self.passes(python(TOP / "checks" / "parts"))
+
 
 if __name__ == "__main__":
     unittest.main()

@@ -31,6 +31,9 @@ class Documents(Case):
     def test_parts(self):
         self.passes(python(TOP / "checks" / "parts"))
 
+    def test_reading(self):
+        self.passes(python(TOP / "checks" / "reading"))
+
 
 if __name__ == "__main__":
     unittest.main()

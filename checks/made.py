@@ -15,12 +15,14 @@ def text_of(path: str) -> str:
 def put(path: str, text: str) -> None:
     """Puts a text in place whole."""
     new = TOP / f"{path}.new"
-    try:
-        with open(new, "x", encoding="utf-8") as file:
+    with open(new, "x", encoding="utf-8") as file:
+        try:
             file.write(text)
-        os.replace(new, TOP / path)
-    finally:
-        new.unlink(missing_ok=True)
+            file.flush()
+            os.replace(new, TOP / path)
+        except BaseException:
+            new.unlink()
+            raise
 
 
 def paragraph_at(lines: Iterable[str], mark: str) -> str:

@@ -1,7 +1,23 @@
-"""The layout, what crates list and say of themselves, and documents that say the same."""
+"""The layout, what crates list and say of themselves, and documents that say the same and lead to what is there."""
+import re
 import unittest
 
 from common import TOP, Case, needs, needs_file, python, run
+
+# Where pages are named: themselves, scripts, checks and the code.
+NAMING = ("README.md", "CHANGELOG.md", "docs/*.md", "pgo", "Makefile", "contrib/*", "contrib/*/*.py", "checks/*", "checks/gate/*.py", "checks/gate/program/*.py",
+          "bench/*", "bench/*/*", "crates/*/src/*.rt", "crates/*/specs/*.antt")
+PAGE = re.compile(r"\bdocs/(\w+\.(?:md|1|svg))\b")
+LINK = re.compile(r"\]\(([^)#:]+)\)")
+SECTION = re.compile(r'\b([A-Z]+\.md)\)?,? \(?"([^"\n]+)"')
+
+
+def texts():
+    """Each text file that may name a page, with its text."""
+    for pattern in NAMING:
+        for path in sorted(TOP.glob(pattern)):
+            if path.is_file():
+                yield path, path.read_bytes().decode("utf-8", "replace")
 
 
 class Documents(Case):
@@ -27,6 +43,31 @@ class Documents(Case):
 
     def test_rooms(self):
         self.passes(python(TOP / "checks" / "rooms"))
+
+    def test_parts(self):
+        self.passes(python(TOP / "checks" / "parts"))
+
+    def test_reading(self):
+        self.passes(python(TOP / "checks" / "reading"))
+
+    def test_limits(self):
+        self.passes(python(TOP / "checks" / "limits"))
+
+    def test_pages_are_there(self):
+        """Each page that a text names, and each file to which a page links."""
+        for path, text in texts():
+            named = {TOP / "docs" / page for page in PAGE.findall(text)}
+            if path.suffix == ".md":
+                named |= {path.parent / link for link in LINK.findall(text)}
+            self.assertEqual([str(it) for it in sorted(named) if not it.exists()], [], str(path))
+
+    def test_sections_are_there(self):
+        """Each section that a text names behind its page."""
+        for path, text in texts():
+            for page, section in SECTION.findall(text):
+                where = TOP / page if page == "README.md" else TOP / "docs" / page
+                opens = re.compile(rf"^(?:#+ |- \*\*|\*\*){re.escape(section)}", re.M)
+                self.assertRegex(where.read_text(encoding="utf-8"), opens, f"{path} names it")
 
 
 if __name__ == "__main__":

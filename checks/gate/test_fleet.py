@@ -1,10 +1,11 @@
-"""The tree of contrib/merge-tree as engines run it, and the commands of docs/FLEET.md as they stand, with the demo for a service."""
+"""The tree of contrib/merge-tree as engines run it, and the commands of the chapter on a fleet in docs/USING.md as they stand, with
+the demo for a service."""
 import os
 import unittest
 
 from common import DONE, TOP, Case, needs
 import test_merge_tree
-from test_using import commands
+from test_using import chapters, commands
 
 
 class Engines(test_merge_tree.Tree):
@@ -93,7 +94,7 @@ class FleetPage(Case):
     def test_its_commands(self):
         for name in ("demo", "pgo", "pgo-cold", "contrib"):
             (self.folder / name).symlink_to(TOP / name)
-        for command, _ in commands((TOP / "docs" / "FLEET.md").read_text(encoding="utf-8")):
+        for command, _ in commands(chapters()[1]):
             with self.subTest(command):
                 ran = self.run_here("sh", "-c", command)
                 self.assertEqual(ran.status, DONE, ran.said)

@@ -1,5 +1,5 @@
 """Runs the commands of README.md and docs/USING.md as they stand, those of a page one behind the other, and looks at what they leave and
-whether they print what stands there. Where the processor records no branches, a recording made of demo/words.txt stands in for that of
+whether they print what stands there; those of the chapter on a fleet test_fleet runs. Where the processor records no branches, a recording made of demo/words.txt stands in for that of
 `perf record -b`.
 """
 import shutil
@@ -18,6 +18,16 @@ def blocks(page):
             inside = [] if inside is None else None
         elif inside is not None:
             inside.append(line)
+
+
+FLEET = "\n## A fleet"
+
+
+def chapters():
+    """docs/USING.md in two: up to the chapter on a fleet, and this one, which has a folder of its own."""
+    page, mark, fleet = (TOP / "docs/USING.md").read_text(encoding="utf-8").partition(FLEET)
+    assert mark, "docs/USING.md has no chapter on a fleet"
+    return page, mark + fleet
 
 
 def commands(page):
@@ -56,8 +66,8 @@ class Using(Case):
         self.assertEqual(made.status, 0, made.said)
         return True
 
-    def follow(self, name):
-        for command, wanted in commands((TOP / name).read_text(encoding="utf-8")):
+    def follow(self, page):
+        for command, wanted in commands(page):
             with self.subTest(command):
                 if command.split()[0] in ("cmake", "make", "qemu-x86_64") and not shutil.which(command.split()[0]):
                     self.skipTest(f"there is no {command.split()[0]}")
@@ -76,10 +86,10 @@ class Using(Case):
             self.assertTrue((self.folder / one).read_bytes() == (self.folder / other).read_bytes(), f"{one} and {other} differ")
 
     def test_readme(self):
-        self.follow("README.md")
+        self.follow((TOP / "README.md").read_text(encoding="utf-8"))
 
     def test_using(self):
-        self.follow("docs/USING.md")
+        self.follow(chapters()[0])
         counts = [self.run_here("./pgo", "counts", text).out for text in ("demo/words.txt", "words.txt")]
         with self.subTest("perf script prints the branches that were recorded"):
             self.assertEqual(*counts)

@@ -1,0 +1,180 @@
+"""The definitions of the crates' `specs/`, one by one: how long each is, what its comments say, and which others it names."""
+import re
+from functools import lru_cache
+from typing import Container, Dict, Iterable, Iterator, List, NamedTuple, Set, Tuple
+
+from made import TOP
+
+OPENING = re.compile(r"(?:abbrev |unfoldable )?(?:pub )?(?:(?:record|data) )?(\S+)")
+WORDS = ("abbrev ", "unfoldable ", "pub ", "record ", "data ")
+NAME = re.compile(r"[\w'«»]+(?:\.[\w'«»]+)*")
+IMPORT = re.compile(r"^(?:pub |ghost )?use Rattle\.([\w.]+?)(?:\.\{([^}]*)\}| as (\w+));?$", re.M)
+
+
+class Name(NamedTuple):
+    """A definition: its file, as crate/specs/File.antt, or the Rust file of a type; and its name there."""
+
+    path: str
+    name: str
+
+
+class Definition(NamedTuple):
+    lines: int  # with its comment, without empty lines
+    comment: str
+    text: str  # without comments
+
+
+class File(NamedTuple):
+    said: str  # the first comment of the file
+    definitions: Dict[str, Definition]
+    owners: Dict[str, str]  # of each constructor the definition that has it
+    names: Dict[str, Name]  # what each name in it stands for
+    modules: Dict[str, str]  # the file that a name stands for
+
+
+def path_of(module: str) -> "Tuple[str, str]":
+    """The file of a module below Rattle, and the type where it is one of Rust's; ("", "") of the library."""
+    crate, _, rest = module.partition(".specs.")
+    if not rest or not (TOP / "crates" / crate / "specs").is_dir():
+        return "", ""
+    if rest.startswith("declared."):
+        parts = rest.split(".")
+        return f"{crate}/src/{parts[1]}.rt", parts[2] if len(parts) > 2 else ""
+    return f"{crate}/specs/{rest.replace('.', '/')}.antt", ""
+
+
+def imported(text: str) -> "Tuple[Dict[str, Name], Dict[str, str]]":
+    """What the `use` lines of a file name: definitions, and files by another name."""
+    names: Dict[str, Name] = {}
+    modules: Dict[str, str] = {}
+    for module, listed, alias in IMPORT.findall(text):
+        path, rust_type = path_of(module)
+        if not path:
+            continue
+        if alias:
+            modules[alias] = path
+        for item in listed.split(",") if listed else ():
+            there, _, here = item.strip().partition(" as ")
+            names[here or there] = Name(path, rust_type or there)
+    return names, modules
+
+
+def opened(line: str) -> str:
+    """The name of the definition that a line opens, or nothing."""
+    return OPENING.match(line)[1] if line.startswith(WORDS) else ""
+
+
+def blocks(lines: List[str]) -> "Iterator[Tuple[str, List[str]]]":
+    """Each definition of a file with its lines, comments in front of it and fixities too."""
+    name, block, ahead = "", [], []
+    for line in lines:
+        if line.startswith(("--", "infix")) or not line.strip():
+            ahead.append(line)
+            continue
+        if opened(line):
+            if name:
+                yield name, block
+            name, block = opened(line), []
+        block += [*ahead, line]
+        ahead = []
+    if name:
+        yield name, block
+
+
+def definition(block: List[str]) -> Definition:
+    comment = " ".join(line.strip()[2:].strip() for line in block if line.strip().startswith("--"))
+    text = "\n".join(line for line in block if not line.strip().startswith("--"))
+    return Definition(sum(bool(line.strip()) for line in block), comment, text)
+
+
+def rust_types(text: str) -> Dict[str, Definition]:
+    """The types of a Rust file, without what stands on them."""
+    found = {}
+    for match in re.finditer(r"((?:^///.*\n)*)(?:^#\[.*\n)*^pub (?:struct|enum) (\w+)[^;{]*(?:;|\{\n(?:.*\n)*?^\}$)", text, re.M):
+        block = match[0].splitlines()
+        comment = " ".join(line[3:].strip() for line in match[1].splitlines())
+        found[match[2]] = Definition(sum(bool(line.strip()) for line in block), comment, "")
+    return found
+
+
+@lru_cache(maxsize=None)
+def file_of(path: str) -> File:
+    text = (TOP / "crates" / path).read_text(encoding="utf-8")
+    if path.endswith(".rt"):
+        return File("", rust_types(text), {}, {}, {})
+    lines = text.splitlines()
+    head = next((at for at, line in enumerate(lines) if not line.startswith("--")), len(lines))
+    said = " ".join(line[2:].strip() for line in lines[:head])
+    body = [line for line in lines[head:] if not re.match(r"(?:pub |ghost )?use ", line)]
+    definitions = {name: definition(block) for name, block in blocks(body)}
+    owners = {made: name for name, it in definitions.items() if re.match(r"\s*(?:pub )?data ", it.text) for made in re.findall(r"^  (\w+) :", it.text, re.M)}
+    names, modules = imported(text)
+    names.update({name: Name(path, name) for name in [*definitions, *owners]})
+    return File(said, definitions, owners, names, modules)
+
+
+def owner(name: Name) -> Name:
+    """The definition itself, the one whose constructor the name is, or the one that its file hands on."""
+    file = file_of(name.path)
+    if name.name in file.owners:
+        return Name(name.path, file.owners[name.name])
+    handed_on = file.names.get(name.name, name)
+    return name if name.name in file.definitions or handed_on == name else owner(handed_on)
+
+
+def stands_in(operator: str, text: str) -> bool:
+    """Whether a text uses an operator; a `do` block uses the one that chains."""
+    if re.search(r"\bdo$", text, re.M) and operator == "◌>>=◌":
+        return True
+    return all(f" {sign} " in f" {text} " for sign in operator.replace("◌", " ").split())
+
+
+def in_module(path: str, rest: str) -> Name:
+    """What `rest` is of a file that a text calls by another name."""
+    inner = rest.partition(".")[0]
+    return Name(path, next(iter(file_of(path).definitions), inner) if path.endswith(".rt") else inner)
+
+
+def mentioned(text: str, names: Dict[str, Name], modules: Dict[str, str]) -> List[Name]:
+    """The definitions that a text names, in its order; operators come last."""
+    found: Dict[Name, None] = {}
+    for word in NAME.findall(text):
+        head, _, rest = word.partition(".")
+        if head in modules and rest:
+            found[owner(in_module(modules[head], rest))] = None
+        elif head in names:
+            found[owner(names[head])] = None
+    found.update({owner(name): None for operator, name in names.items() if "◌" in operator and stands_in(operator, text)})
+    return list(found)
+
+
+def definition_of(name: Name) -> Definition:
+    """The definition of a name; `LookupError` where its file has none."""
+    found = file_of(name.path).definitions.get(name.name)
+    if not found:
+        raise LookupError(f"crates/{name.path} has no definition {name.name}")
+    return found
+
+
+def named_by(name: Name) -> List[Name]:
+    """The definitions that a definition names."""
+    file = file_of(name.path)
+    return [other for other in mentioned(definition_of(name).text, file.names, file.modules) if other != name]
+
+
+def reached(roots: Iterable[Name], stops: Container[Name]) -> List[Name]:
+    """All definitions that the roots lead to without the stops, each in front of those that it names."""
+    seen: Set[Name] = set()
+    ended: List[Name] = []
+
+    def visit(name: Name) -> None:
+        if name in seen or name in stops:
+            return
+        seen.add(name)
+        for other in reversed(named_by(name)):
+            visit(other)
+        ended.append(name)
+
+    for root in reversed(list(roots)):
+        visit(root)
+    return ended[::-1]

@@ -14,12 +14,13 @@ man = $(DESTDIR)$(PREFIX)/share/man/man1
 scripts = $(filter-out contrib/release, $(shell find contrib -maxdepth 1 -type f -perm -100 | LC_ALL=C sort))
 packages = $(shell find contrib -mindepth 2 -maxdepth 2 -name '*.py' | LC_ALL=C sort)
 
-.PHONY: all help install uninstall check prove
+.PHONY: all help install uninstall check demo prove
 
 all help:
 	@echo 'make install [PREFIX=$(PREFIX)] [DESTDIR=]   programs, scripts and man pages'
 	@echo 'make uninstall [PREFIX=$(PREFIX)] [DESTDIR=] takes them away'
 	@echo 'make check                                   the checks, in some minutes: release/, scripts, documents'
+	@echo 'make demo                                    a program before and behind its profile, with what it gains (clang, qemu-user)'
 	@echo 'make prove                                   the gate: proves, builds and tests every crate by rt, in hours'
 
 # The scripts stand with their packages in share/pgo/contrib, where they find the programs in the folder above.
@@ -42,6 +43,10 @@ uninstall:
 # Neither rt nor git's folder nor a compiler is needed: what lacks is skipped, and told.
 check:
 	$(PYTHON) checks/run
+
+# It ends in some seconds.
+demo:
+	demo/demo
 
 # What was built is marked, so that ./pgo and the checks take it.
 prove:

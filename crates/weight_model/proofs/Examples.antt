@@ -2,12 +2,13 @@
 use Rattle.std.proofs.Common.{◌≡◌, ◌≤◌, ◌<◌, ℕ, zero, suc, ◌∷◌, [], List, Option, None, Some, refl, map, arith}
 use Rattle.block_model.specs.declared.parts.Block.{Block}
 use Rattle.block_model.specs.declared.parts.Edge.{Edge}
+use Rattle.block_model.specs.declared.parts.Weight.{Weight}
 use Rattle.block_model.specs.declared.parts.Weight.TheVariants.{Unknown, Known}
 use Rattle.block_model.specs.Function.{unbounded}
 use Rattle.sample_model.specs.declared.pair.Pair.{Pair}
 use Rattle.profile_model.specs.declared.ran_range.RanRange.{RanRange}
 use Rattle.weight_model.specs.Blocks.{IsWeightOf}
-use Rattle.weight_model.specs.Edges.{edge_weight, passed, taken}
+use Rattle.weight_model.specs.Edges.{weight_by, passed, taken}
 use Rattle.std.proofs.Common.{false}
 
 block : ℕ → ℕ → Block
@@ -39,6 +40,10 @@ branches = branch 0x401038 0x401036 2 ∷ branch 0x40100c 0x401020 1 ∷ branch 
 ran : List RanRange
 unfolding range
 ran = range 0x401020 0x401038 ∷ range 0x401000 0x40100c ∷ range 0x401010 0x401038 ∷ []
+
+-- the weight of an edge by sampled branches and the ranges that ran
+abbrev edge_weight : List Pair → List RanRange → List Block → List Weight → Edge → Weight
+edge_weight branches ran blocks weights edge = weight_by (taken branches) (passed ran) blocks weights edge
 
 each_edge_once : map (edge_weight branches ran blocks (Known 1 ∷ Known 1 ∷ Known 1 ∷ Known 2 ∷ [])) edges ≡ Known 1 ∷ Known 1 ∷ Known 1 ∷ Known 1 ∷ []
 unfolding block edge branch range blocks edges branches ran

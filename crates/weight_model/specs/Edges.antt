@@ -50,7 +50,3 @@ weight_between taken passed (Some from) (Some to) = Known (went_over taken passe
 abbrev pub weight_by : (Block → ℕ → ℕ) → (ℕ → ℕ) → List Block → List Weight → Edge → Weight
 weight_by taken passed blocks weights edge =
     weight_between taken passed (known_block blocks weights edge.from) (known_block blocks weights edge.to)
-
--- The same by sampled branches and the ranges that ran.
-abbrev pub edge_weight : List Pair → List RanRange → List Block → List Weight → Edge → Weight
-edge_weight branches ran blocks weights edge = weight_by (taken branches) (passed ran) blocks weights edge

@@ -1,12 +1,17 @@
-"""Hostile families in small: whatever a file holds, a command ends soon, by itself, and with a status that docs/FORMATS.md states.
+"""Hostile files: whatever a file holds, a command ends soon, by itself, and with a status that docs/FORMATS.md states; and no time grows
+faster than the file.
 
-checks/by_hand/hostile times the same families at full size.
+The families of make.py are tried in small here, and those of growing.py at two sizes; checks/by_hand/hostile times both at full size.
 """
+import pathlib
 import re
+import shutil
+import tempfile
 import unittest
 
 from common import COLD, DONE, PGO, Case
 
+import growing
 import make
 
 SIZES = (1, 2, 7, 40)
@@ -65,6 +70,75 @@ class Hostile(Case):
 
     def test_families_3(self):
         self.try_part(3)
+
+
+# The families of growing.py that are known to be slow, with what is known; docs/LIMITS.md has their figures. These are tried in small
+# alone. A row goes with what it tells of.
+KNOWN_SLOW = {
+    "one long name": "each function reads and hashes the name anew",
+    "one long name of lines": "each function reads and hashes the name anew",
+    "one origin": "each function reads and hashes the name anew",
+    "tails of a name": "each name is a text of its own",
+    "one range list": "each function reads the list anew",
+    "one range list of units": "each function reads the list anew",
+    "tails of a table": "each table is read and kept whole",
+    "blocks over all": "the largest count is looked for in all segments of each block",
+    "nested loads": "the load that moves an address is looked for anew behind each load line",
+    "names of one hash, merge": "the hasher has a fixed seed",
+    "names of one hash, summary": "the hasher has a fixed seed",
+    "names of one hash, pgo-cold": "the hasher has a fixed seed",
+    "keys of one hash": "the hasher has a fixed seed",
+    "branches of one hash": "the hasher has a fixed seed",
+    "ladder": "the plain run makes a way for each edge of the middle in each step",
+    "ladder of great counts, scaled": "counts above 2^36 are solved by the plain run",
+}
+# How often both sizes are run, the quickest of each being taken; once more so often where that is not enough.
+TURNS = 3
+
+
+class Growth(Case):
+    """Twice the input takes at most three times as long (a ladder 4.5), and none of these sizes more than five seconds of a processor."""
+
+    def folder_of(self, family, size) -> pathlib.Path:
+        folder = pathlib.Path(tempfile.mkdtemp(dir=self.folder))
+        family.write(folder, size)
+        return folder
+
+    def seconds(self, family, folder):
+        """What a run takes, which has to have its answer."""
+        ended = family.run(folder, growing.MOST_SECONDS + 1)
+        self.assertLessEqual(ended.seconds, growing.MOST_SECONDS, "seconds of a processor")
+        self.assertEqual(family.wrong(ended), "")
+        return ended.seconds
+
+    def try_family(self, family):
+        if family.compiled and not shutil.which("cc"):
+            self.skipTest("there is no cc")
+        if family.name in KNOWN_SLOW:
+            self.seconds(family, self.folder_of(family, family.size // 40))
+            self.skipTest(f"known to be slow, tried in small alone: {KNOWN_SLOW[family.name]}")
+        folders = [self.folder_of(family, size) for size in family.sizes()]
+        took = []
+        for turn in range(2 * TURNS):
+            took.append([self.seconds(family, folder) for folder in folders])
+            small, large = map(min, zip(*took))
+            if turn + 1 >= TURNS and large <= family.growth * max(small, growing.LEAST_SECONDS):
+                return
+        self.fail(f"{family.sizes()} bytes take {small:.2f} and {large:.2f} s")
+
+    def test_all_that_is_known_to_be_slow_is_a_family(self):
+        self.assertLessEqual(set(KNOWN_SLOW), {family.name for family in growing.FAMILIES})
+
+
+def test_of(family):
+    """The test of a family; the long ones are begun first."""
+    test = lambda self: self.try_family(family)
+    test.takes = 1 if family.name in KNOWN_SLOW else 10
+    return test
+
+
+for family in growing.FAMILIES:
+    setattr(Growth, "test_" + re.sub("[^a-z]+", "_", family.name), test_of(family))
 
 
 if __name__ == "__main__":

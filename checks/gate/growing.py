@@ -1,0 +1,308 @@
+#!/usr/bin/env python3
+"""growing.py [NAME..]: what is made to be slow, in one way each: families of inputs whose time may not grow faster than they do.
+
+test_hostile.py judges each family at two sizes. By hand this tells what each takes at a quarter, at half and at the whole of the size that
+docs/LIMITS.md speaks of: bytes, how it ended, the processor's seconds in user mode and in the system, as the least of three runs.
+"""
+import functools
+import importlib.machinery
+import importlib.util
+import os
+import pathlib
+import re
+import resource
+import signal
+import struct
+import subprocess
+import sys
+import tempfile
+from typing import Callable, NamedTuple
+
+from common import COLD, CONTRIB, HERE, PGO, TOP
+
+import make
+from make import CODE, DECL_LINE, HIGH, LOADED, LOW, NAME, ORIGIN, RANGES, STRING, abbreviation, elf, function_text, load_line
+
+# What no run of the gate may pass: seconds of a processor, and how many times as long as half the input takes.
+MOST_SECONDS, MOST_GROWTH = 5, 3
+# Times below this are taken for this, as the start of a program is part of them.
+LEAST_SECONDS = 0.03
+
+
+class Ended(NamedTuple):
+    """How a run ended: its status (negative for a signal), its first line, what it said, and seconds of a processor."""
+
+    status: int
+    first: bytes
+    said: bytes
+    seconds: float
+
+
+def timed(words, folder, seconds, megabytes) -> Ended:
+    """Runs a program within so many seconds of a processor and so large an address space."""
+
+    def limited():
+        resource.setrlimit(resource.RLIMIT_CPU, (seconds, seconds + 1))
+        resource.setrlimit(resource.RLIMIT_AS, (megabytes << 20, megabytes << 20))
+
+    with open(folder / "written", "w+b") as out, open(folder / "said", "w+b") as err:
+        started = subprocess.Popen(words, cwd=folder, stdin=subprocess.DEVNULL, stdout=out, stderr=err, preexec_fn=limited, start_new_session=True)
+        try:
+            _, status, used = os.wait4(started.pid, 0)
+        except BaseException:
+            os.killpg(started.pid, signal.SIGKILL)
+            raise
+        started.returncode = os.waitstatus_to_exitcode(status)
+        out.seek(0)
+        err.seek(0)
+        return Ended(started.returncode, out.readline().rstrip(b"\n"), err.read(300), used.ru_utime + used.ru_stime)
+
+
+# Binaries.
+
+ADDRX1, DATA1, LINE_STRP, REF1, RNGLISTX, STRX1, SECTION = 0x29, 0x0B, 0x1F, 0x11, 0x23, 0x25, 0x17
+STR_OFFSETS_BASE, ADDR_BASE, RNGLISTS_BASE = 0x72, 0x73, 0x74
+
+
+def versioned(behind, body):
+    """A table of DWARF 5: its length, its version, what stands behind these, and its body."""
+    return struct.pack("<IH", len(behind) + len(body) + 2, 5) + behind + body
+
+
+def short_forms(function, entries, more=b"", **others):
+    """A binary of one unit whose functions have these attributes, in short forms that mean the first text and the first address."""
+    bases = ((STR_OFFSETS_BASE, SECTION), (ADDR_BASE, SECTION), (RNGLISTS_BASE, SECTION))
+    abbrevs = abbreviation(1, 0x11, 1, *bases) + abbreviation(2, 0x2E, 0, *function) + more + b"\0"
+    unit = versioned(bytes([1, 8]) + bytes(4), b"\x01" + struct.pack("<III", 8, 8, 12) + entries + b"\0")
+    tables = {"str_offsets": versioned(bytes(2), bytes(4)), "addr": versioned(bytes([8, 0]), struct.pack("<Q", CODE)), **others}
+    sections = [(b".debug_abbrev", abbrevs), (b".debug_info", unit)]
+    return elf(sections + [(b".debug_" + name.encode(), data) for name, data in tables.items()], 16)
+
+
+def one_long_name(size):
+    """Functions of 4 bytes that all have one name, which is half of the file."""
+    function = ((NAME, STRX1), (LOW, ADDRX1), (HIGH, DATA1))
+    return short_forms(function, b"\x02\0\0\x10" * (size // 8), str=b"n" * (size // 2) + b"\0")
+
+
+def one_range_list(size):
+    """Functions of 3 bytes that all have one list of ranges in no code: 65,536, or as many as half of the file has room for."""
+    ranges = b"\x04\x01\x02" * min(size // 6, 65536) + b"\0"
+    lists = versioned(bytes([8, 0]) + struct.pack("<I", 1), struct.pack("<I", 4) + ranges)
+    entries = b"\x02\0\0" * ((size - len(ranges)) // 3)
+    return short_forms(((NAME, STRX1), (RANGES, RNGLISTX)), entries, str=b"f\0", rnglists=lists)
+
+
+def one_name_of_lines(size):
+    """Functions of 7 bytes that all have one name among the texts of line programs, which is half of the file."""
+    function = ((NAME, LINE_STRP), (LOW, ADDRX1), (HIGH, DATA1))
+    return short_forms(function, b"\x02\0\0\0\0\0\x10" * (size // 14), line_str=b"n" * (size // 2) + b"\0")
+
+
+def one_origin(size):
+    """Functions of 5 bytes that all have the name of another one, which stands in its entry and is half of the file."""
+    function = ((ORIGIN, REF1), (DECL_LINE, DATA1), (LOW, ADDRX1), (HIGH, DATA1))
+    entries = b"\x03" + b"n" * (size // 2) + b"\0" + b"\x02\x19\0\0\x10" * (size // 10)
+    return short_forms(function, entries, more=abbreviation(3, 0x2E, 0, (NAME, STRING)))
+
+
+def range_list_of_units(size):
+    """Units of 25 bytes, each with a function that has one list of ranges in no code, which is half of the file at most."""
+    ranges = b"\x04\x01\x02" * min(size // 6, 65536) + b"\0"
+    lists = versioned(bytes([8, 0]) + struct.pack("<I", 1), struct.pack("<I", 4) + ranges)
+    abbrevs = abbreviation(1, 0x11, 1, (RNGLISTS_BASE, SECTION)) + abbreviation(2, 0x2E, 0, (RANGES, RNGLISTX)) + b"\0"
+    unit = versioned(bytes([1, 8]) + bytes(4), b"\x01" + struct.pack("<I", 12) + b"\x02\0\0")
+    return elf([(b".debug_abbrev", abbrevs), (b".debug_info", unit * ((size - len(ranges)) // len(unit))), (b".debug_rnglists", lists)], 16)
+
+
+def tails_of_a_name(size):
+    return make.tails_of_a_name(size // 19)
+
+
+def tails_of_a_table(size):
+    return make.tails_of_a_table(size * 10 // 191)
+
+
+def lines_of_a_byte(count):
+    """A binary of a function of so many addresses, each of which has a line, whose row is a byte."""
+    return make.with_lines(make.set_address(CODE) + b"\x03\x09\x01" + b"\x21" * count + make.END, count)
+
+
+def one_line(count):
+    """A binary of a function of so many addresses and of one line."""
+    return make.with_lines(make.set_address(CODE) + b"\x03\x09\x01\x02" + make.uleb(count) + make.END, count)
+
+
+# Texts.
+
+
+def times_until(size, one):
+    """The text so often that it comes to about this size."""
+    return one * (size // len(one))
+
+
+def blocks_over_all(size):
+    """A binary of many lines, and functions of one block each, which is all of it."""
+    count = size // 3
+    one = function_text(b"f", [(CODE, CODE + count)], [], {0})
+    return {"bin": lines_of_a_byte(count), "perf": make.ranges_within(80), "cfg": times_until(size - count, one)}
+
+
+def branches_of_an_edge(size):
+    """Branches from each address of a block to the one behind it, and functions that have that edge."""
+    count = size // 36
+    one = function_text(b"f", [(CODE, CODE + count), (CODE + count, CODE + count + 1)], [(0, 1)], {1})
+    return {"bin": one_line(count + 1), "perf": make.calls_to_one(count), "cfg": times_until(size // 2, one)}
+
+
+def nested_loads(size):
+    """Load lines, each within the one before, with a range behind each."""
+    one = lambda start, count: load_line(start, count) + b"0x%x/0x9 0x9/0x%x\n" % (start, LOADED)
+    count = size // len(one(LOADED, 1 << 16))
+    return {"bin": one_line(count), "perf": b"".join(one(LOADED + k, 2 * (count - k)) for k in range(count))}
+
+
+@functools.lru_cache(maxsize=None)
+def alike(what, count):
+    """What program/alike.c prints."""
+    with tempfile.TemporaryDirectory(prefix="pgo-check-") as folder:
+        subprocess.run(["cc", "-O2", "-o", f"{folder}/alike", HERE / "program" / "alike.c"], check=True)
+        return subprocess.run([f"{folder}/alike", what, str(count)], check=True, stdout=subprocess.PIPE).stdout
+
+
+def names_of_one_hash(size):
+    return {"prof": alike("names", size // 17), "bin": make.small(1)}
+
+
+def keys_of_one_hash(size):
+    return {"prof": alike("keys", size // 14)}
+
+
+def branches_of_one_hash(size):
+    return {"perf": make.colliding_branches(size // 25)}
+
+
+# What takes many augmentations, by bench/ladder.
+LOADER = importlib.machinery.SourceFileLoader("ladder", str(TOP / "bench" / "ladder"))
+LADDER = importlib.util.module_from_spec(importlib.util.spec_from_loader("ladder", LOADER))
+LOADER.exec_module(LADDER)
+
+
+def ladder(size, unit=1):
+    """A ladder twice as large has twice as many steps for twice as many edges between its rows."""
+    width = round((size / 62) ** 0.5)
+    return {"bin": make.small(1), "perf": b"", "cfg": LADDER.text_of(width, size // 410, unit).encode()}
+
+
+def ladder_of_great_counts(size):
+    """The same with counts above 2^36, from which `--scaled` does not go on in phases of its own."""
+    return ladder(size, 1000000)
+
+
+def drawn(size, edges_of):
+    """The repair of a function with so many edges."""
+    count = size // 73
+    lines = [b"# function f flow"] + [b"# block %d weight 5 count 5 in 0 out 0" % k for k in range(count)]
+    lines += [b"# edge %d %d weight 5 count 5" % edge for edge in edges_of(count)]
+    return {"built": b"\n".join(lines) + b"\n# end 0\n"}
+
+
+def chain(size):
+    return drawn(size, lambda count: [(k, k + 1) for k in range(count - 1)])
+
+
+def star(size):
+    return drawn(size, lambda count: [(0, k) for k in range(1, count)])
+
+
+# The families.
+
+
+class Family(NamedTuple):
+    """Inputs of one kind, what is run on them, the first line of its answer (a pattern), the size that docs/LIMITS.md speaks of, the
+    address space in megabytes that suffices for it, whether making them takes a C compiler, and how many times as long twice the input may take."""
+
+    name: str
+    files: "Callable[[int], dict[str, bytes]]"
+    words: list
+    first: bytes
+    size: int
+    megabytes: int = 400
+    compiled: bool = False
+    growth: float = MOST_GROWTH
+
+    def sizes(self):
+        """The sizes of the gate: a quarter of that size, and half of it."""
+        return self.size // 4, self.size // 2
+
+    def write(self, folder: pathlib.Path, size: int) -> int:
+        """Writes the files, and gives their size."""
+        files = self.files(size)
+        for name, content in files.items():
+            (folder / name).write_bytes(content)
+        return sum(map(len, files.values()))
+
+    def run(self, folder: pathlib.Path, seconds: int = 60) -> Ended:
+        return timed(self.words, folder, seconds, self.megabytes)
+
+    def wrong(self, ended: Ended) -> str:
+        """What is wrong with the answer, however long it took, or nothing."""
+        if ended.status == 0 and not ended.said and re.fullmatch(self.first, ended.first):
+            return ""
+        return f"status {ended.status}, first line {ended.first[:80]!r}, {ended.said[:200]!r}"
+
+
+def binary(made):
+    return lambda size: {"bin": made(size)}
+
+
+MB = 1000000
+WHERE, MERGE = [PGO, "where", "bin", "401000"], [PGO, "merge", "1", "prof"]
+# Twice a ladder has twice as many ways from an edge to a want, and each is looked for among twice as many blocks.
+LADDER_GROWTH = 4.5
+BUILT, WITH_EDGES, SCALED = ([PGO, "build", *option, "bin", "perf", "cfg"] for option in ((), ("--edges",), ("--scaled",)))
+MERGED, BUILT_LADDER = rb"n[0-9a-f]{10}[A-Z]:0:1", b"# function ladder flow"
+DRAWN = [sys.executable, CONTRIB / "draw", "--svg", "f", "built"]
+FAMILIES = [
+    Family("one long name", binary(one_long_name), WHERE, b"noline", MB),
+    Family("one long name of lines", binary(one_name_of_lines), WHERE, b"noline", MB),
+    Family("one origin", binary(one_origin), WHERE, b"noline", MB),
+    Family("tails of a name", binary(tails_of_a_name), WHERE, b"noline", MB),
+    Family("one range list", binary(one_range_list), WHERE, b"outside", MB),
+    Family("one range list of units", binary(range_list_of_units), WHERE, b"outside", MB),
+    Family("tails of a table", binary(tails_of_a_table), WHERE, b"outside", 56000 * 2),
+    Family("blocks over all", blocks_over_all, BUILT, b"f:[0-9]+:[0-9]+", MB),
+    Family("branches of an edge", branches_of_an_edge, WITH_EDGES, b"# function f flow", 8 * MB),
+    Family("nested loads", nested_loads, [PGO, "profile", "--map=/bin/x", "bin", "perf"], b"f:[0-9]+:[0-9]+", 16 * MB),
+    Family("names of one hash, merge", names_of_one_hash, MERGE, MERGED, 2 * MB, compiled=True),
+    Family("names of one hash, summary", names_of_one_hash, [PGO, "summary", "prof"], b"functions [0-9]+", 2 * MB, compiled=True),
+    Family("names of one hash, pgo-cold", names_of_one_hash, [COLD, "bin", "prof"], MERGED, 2 * MB, compiled=True),
+    Family("keys of one hash", keys_of_one_hash, MERGE, b"f:[0-9]+:0", 2 * MB, compiled=True),
+    Family("branches of one hash", branches_of_one_hash, [PGO, "counts", "perf"], b"0x0 0x[0-9a-f]+ 1", 2 * MB),
+    Family("ladder", ladder, BUILT, BUILT_LADDER, 64000, growth=LADDER_GROWTH),
+    Family("ladder, scaled", ladder, SCALED, BUILT_LADDER, 64000, growth=LADDER_GROWTH),
+    Family("ladder of great counts, scaled", ladder_of_great_counts, SCALED, BUILT_LADDER, 64000, growth=LADDER_GROWTH),
+    Family("a chain, drawn", chain, DRAWN, b"<svg .*", 600000),
+    Family("a star, drawn", star, DRAWN, b"<svg .*", 600000),
+]
+
+
+def least(family, folder, size):
+    """The size of the input, and the quickest of three runs."""
+    made = family.write(folder, size)
+    return made, min((family.run(folder) for _ in range(3)), key=lambda it: it.seconds)
+
+
+def main(names):
+    for family in FAMILIES:
+        if names and not any(name in family.name for name in names):
+            continue
+        for part in (4, 2, 1):
+            with tempfile.TemporaryDirectory(prefix="pgo-check-") as folder:
+                size, ended = least(family, pathlib.Path(folder), family.size // part)
+            told = family.wrong(ended) or "its answer"
+            print(f"{family.name:32} {size:10} bytes  {ended.seconds:7.2f} s  {told}", flush=True)
+
+
+if __name__ == "__main__":
+    main(sys.argv[1:])

@@ -7,4 +7,4 @@ use Rattle.block_weights.proofs.blocks.weights.Given as goal
 
 abbrev pub invariant-loop-block : goal.invariant-loop-block
 invariant-loop-block l =
-    AllZip (IsWeightOf (key_told l.segments) (count_in l.counts)) (take l.block-index l.block-items) l.made.items
+    AllZip (IsWeightOf (key_told l.counted.segments) (count_in l.counted.counts)) (take l.block-index l.block-items) l.made.items

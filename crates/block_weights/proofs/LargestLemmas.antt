@@ -28,11 +28,6 @@ one v first zero is = absurd (omega arith)
 one v first (suc zero) is = omega arith
 one v first (suc (suc n)) is = absurd (omega arith)
 
-pub largest-first : (v : List ℕ) (first end : ℕ) → first < end → largest_in v first end ≡ max (slice_index v first) (largest_in v (first + 1) end)
-largest-first v first end some =
-    largest-parts v first (first + 1) end (omega arith) (omega arith)
-    ∙ ap (λ (n : ℕ). max n (largest_in v (first + 1) end)) (one v first (first + 1 - first) (omega arith))
-
 pub largest-last : (v : List ℕ) (first last end : ℕ) → end ≡ last + 1 → first ≤ last → largest_in v first end ≡ max (slice_index v last) (largest_in v first last)
 largest-last v first last end is some =
     let parts = largest-parts v first last end some (omega arith) in

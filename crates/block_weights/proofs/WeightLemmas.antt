@@ -74,6 +74,3 @@ weight_of_run segments counts lo hi first end are some more run =
           let count = value_at counts segments held.0 no_segment held.1 in
           omega (arith, bound, count, ap (count_in counts) held.4);
     }
-
-pub no_addresses : (segments : List Seg) (lo hi : ℕ) → hi ≤ lo → (a : ℕ) → lo ≤ a → a < hi → key_told segments a ≡ None
-no_addresses segments lo hi none a low high = absurd (omega (arith, none, low, high))

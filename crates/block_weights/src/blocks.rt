@@ -29,8 +29,11 @@ pub fn weights(
         → AreWeights (length fun.now.blocks) made.items) }
 {
     let mut made = Vec::new(alloc);
+    let mut near = 0;
     for block in fun.blocks.as_slice() {
-        made.push(counted.weight_of(block))?;
+        let (weight, last) = counted.weight_of(block, near);
+        made.push(weight)?;
+        near = last;
     }
     Ok(made)
 }

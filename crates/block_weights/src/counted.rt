@@ -1,4 +1,4 @@
-ghost use Rattle.std.specs.Prelude.{◌≡◌, ◌<◌, ◌≤◌, length, IfOk};
+ghost use Rattle.std.specs.Prelude.{◌≡◌, ◌<◌, ◌≤◌, length, true, IfOk};
 ghost use Rattle.std.specs.List.{AllWithin};
 ghost use Rattle.key_types.specs.Segments.{AreSegments, key_told};
 ghost use Rattle.weight_model.specs.Blocks.{IsWeightOf};
@@ -12,7 +12,8 @@ use refusal::NoMemory;
 use std::alloc::Global;
 use std::marker::Model;
 
-/// How many segments of a block are looked through before its last one is searched for.
+/// How many segments are looked through for the first or the last one of a block before that is
+/// searched for.
 const NEAR: usize = 16;
 
 /// The segments of a program, which tell the key of each address, and the count of each key at its
@@ -62,23 +63,26 @@ impl<'s> SegmentCounts<'s> {
         })
     }
 
-    /// The weight of a block.
+    /// The weight of a block, and the place of its last segment. Its first one is looked for from
+    /// the place `near` on, and searched for if it is not there.
     ///
-    /// It takes a search or two, and looks at few segments.
-    pub(crate) fn weight_of(&self, block: &Block) -> Weight
-        ensures { IsWeightOf (key_told self.now.segments) (count_in self.now.counts)
-            block.now result }
+    /// It takes two searches at most, and looks at few segments.
+    pub(crate) fn weight_of(&self, block: &Block, near: usize) -> (Weight, usize)
+        requires { near ≤ length self.now.segments }
+        ensures weight { IsWeightOf (key_told self.now.segments) (count_in self.now.counts)
+            block.now result.0 }
+        ensures near { result.1 ≤ length self.now.segments }
     {
         let Block { lo, hi, .. } = *block;
         if hi <= lo {
-            return Weight::Unknown;
+            return (Weight::Unknown, near);
         }
-        let first = first_behind(self.segments, lo);
+        let first = first_behind(self.segments, near, lo);
         let end = end_below(self.segments, first, hi);
         if end <= first {
-            return Weight::Unknown;
+            return (Weight::Unknown, first);
         }
-        Weight::Known(self.largest(first, end))
+        (Weight::Known(self.largest(first, end)), end - 1)
     }
 
     /// The largest count of the segments from one place on up to another.
@@ -100,15 +104,64 @@ impl<'s> SegmentCounts<'s> {
     }
 }
 
-/// The place of the first segment that reaches behind an address.
-fn first_behind(segments: &[Seg], lo: u64) -> usize
-    requires { AreSegments segments.now }
+/// The place of the first segment that reaches behind an address. It is looked for from `near` on,
+/// and searched for if it is not there.
+fn first_behind(segments: &[Seg], near: usize, lo: u64) -> usize
+    requires segments { AreSegments segments.now }
+    requires near { near ≤ length segments.now }
     ensures within { result ≤ length segments.now }
     ensures passed { AllWithin (λ segment. segment.hi ≤ lo) segments.now 0 result }
     ensures ahead { AllWithin (λ segment. lo < segment.hi) segments.now result
         (length segments.now) }
 {
+    let place = behind_near(segments, near, lo);
+    if are_passed(segments, place, lo) && are_ahead(segments, place, lo) {
+        return place;
+    }
     segments.partition_point(|segment| segment.hi <= lo)
+}
+
+/// The place of the first segment from `near` on that reaches behind an address, or of one in front
+/// of it that is not near.
+fn behind_near(segments: &[Seg], near: usize, lo: u64) -> usize
+    requires { near ≤ length segments.now }
+    ensures { result ≤ length segments.now }
+{
+    let mut place = near;
+    while place < segments.len() && segments[place].hi <= lo && place - near < NEAR {
+        place += 1;
+    }
+    place
+}
+
+/// Whether no segment in front of a place reaches behind an address.
+fn are_passed(segments: &[Seg], place: usize, lo: u64) -> bool
+    requires segments { AreSegments segments.now }
+    requires within { place ≤ length segments.now }
+    ensures { result ≡ true → AllWithin (λ segment. segment.hi ≤ lo) segments.now 0 place }
+{
+    if place == 0 {
+        return true;
+    }
+    if lo < segments[place - 1].hi {
+        return false;
+    }
+    true
+}
+
+/// Whether all segments from a place on reach behind an address.
+fn are_ahead(segments: &[Seg], place: usize, lo: u64) -> bool
+    requires { AreSegments segments.now }
+    ensures { result ≡ true → AllWithin (λ segment. lo < segment.hi) segments.now place
+        (length segments.now) }
+{
+    if segments.len() <= place {
+        return true;
+    }
+    if segments[place].hi <= lo {
+        return false;
+    }
+    true
 }
 
 /// The place of the first segment from `first` on that does not begin below an address.

@@ -2,9 +2,10 @@
 //! places in them, edges by branches and by the ranges that ran.
 //!
 //! `SegmentCounts` makes a tree of the largest counts of runs of segments once, for all functions.
-//! `weights` then finds the segments of each block by search, and the largest of their counts by
-//! the tree. `EdgeSamples` puts branches and ranges in order once, and adds the branches up.
-//! `edge_weights` finds the branches of a block and the ranges that ran past an address by search.
+//! `weights` then finds the segments of each block behind those of the block before, or by search,
+//! and the largest of their counts by the tree. `EdgeSamples` puts branches and ranges in order
+//! once, and adds the branches up. `edge_weights` finds the branches of a block and the ranges that
+//! ran past an address by search.
 #![tactic(auto)]
 
 mod blocks;

@@ -6,8 +6,8 @@ use Rattle.block_weights.specs.Largest.{largest_in}
 use Rattle.block_weights.proofs.WeightLemmas.{IsRun, no_weight, weight_of_run}
 use Rattle.block_weights.proofs.counted.SegmentCounts.weight_of.Goals as goal
 
-pub returns-then-end-first : goal.returns-then-end-first
-returns-then-end-first c =
+pub returns-then-end-first-clause-weight : goal.returns-then-end-first-clause-weight
+returns-then-end-first-clause-weight c =
     let lo = c.args.block.now.lo in
     let hi = c.args.block.now.hi in
     let run : IsRun c.self.inside.segments.now lo hi c.first_behind-first.result c.end_below-end.result = record {
@@ -20,8 +20,8 @@ returns-then-end-first c =
     subst (λ (s : Counted). (a : ℕ) → lo ≤ a → a < hi → key_told s.segments a ≡ None) c.self.view_is
     (no_weight _ lo hi _ _ run (omega arith))
 
-pub returns : goal.returns
-returns c =
+pub returns-clause-weight : goal.returns-clause-weight
+returns-clause-weight c =
     let lo = c.args.block.now.lo in
     let hi = c.args.block.now.hi in
     let segments = c.self.inside.segments.now in

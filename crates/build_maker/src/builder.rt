@@ -17,15 +17,15 @@ ghost use Rattle.output_model.specs.Output.{sampled_by};
 ghost use Rattle.output_model.specs.Program.{Program, program_of};
 ghost use Rattle.output_model.specs.Scaled.{AreAllAugmentations, IsBuiltBy, augmentations_line};
 ghost use Rattle.profile_writer.specs.Profile.{ran as ranges_run};
-ghost use Rattle.profile_maker.specs.Edges.{edges_by};
+ghost use Rattle.build_maker.specs.Edges.{edges_by};
 ghost use Rattle.profile_maker.specs.Profiled.{IsProfiled};
 
-use crate::profiled::{Profiled, profile_of};
 use binary_places::Binary;
 use block_weights::EdgeSamples;
 use branch_counts::Counts;
 use cfg_text::Fun;
 use key_types::Seg;
+use profile_maker::{Profiled, profile_of};
 use refusal::NoMemory;
 use std::alloc::Global;
 use text_scan::push_number;

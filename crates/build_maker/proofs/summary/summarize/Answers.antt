@@ -4,7 +4,7 @@ use Rattle.asked_laws.proofs.BuildLemmas.{summaries_ask_no_more}
 use Rattle.cfg_text.specs.Fun.{function_of}
 use Rattle.output_model.specs.Output.{sampled_by}
 use Rattle.output_model.specs.Program.{program_of}
-use Rattle.profile_maker.proofs.summary.summarize.Goals as goal
+use Rattle.build_maker.proofs.summary.summarize.Goals as goal
 
 pub returns : goal.returns
 returns c =

@@ -11,7 +11,7 @@ use Rattle.output_model.specs.Built.{count_of_way}
 use Rattle.output_model.specs.Program.{Program, way_at}
 use Rattle.output_model.specs.Summary.{IsRepairCost, IsSummary, costs_in, cuts_in, summary_text}
 use Rattle.profile_writer.specs.Profile.{IsProfileOf, Parts, total_of}
-use Rattle.profile_maker.proofs.RepairLemmas.{cost_alike}
+use Rattle.build_maker.proofs.RepairLemmas.{cost_alike}
 
 pub summarized : (program : Program) (sampled : Sampled) (names : List (List ℕ)) (segments : List Seg) (parts : Parts) (funs : List Function)
     → IsProfileOf program sampled names segments parts

@@ -8,8 +8,8 @@ use Rattle.key_types.specs.Segments.{key_told}
 use Rattle.key_types.specs.declared.places.Seg.{Seg}
 use Rattle.output_model.specs.Summary.{IsRepairCost}
 use Rattle.profile_writer.specs.Profile.{IsProfileOf}
-use Rattle.profile_maker.proofs.SummaryLemmas.{summarized}
-use Rattle.profile_maker.proofs.summary.line_of.Goals as goal
+use Rattle.build_maker.proofs.SummaryLemmas.{summarized}
+use Rattle.build_maker.proofs.summary.line_of.Goals as goal
 
 pub returns : goal.returns
 returns c =

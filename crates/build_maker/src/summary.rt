@@ -14,10 +14,10 @@ ghost use Rattle.output_model.specs.Program.{Program, program_of};
 ghost use Rattle.output_model.specs.Summary.{IsSummary, summary_text};
 ghost use Rattle.profile_maker.specs.Profiled.{IsProfiled};
 
-use crate::profiled::{Profiled, profile_of};
 use binary_places::Binary;
 use branch_counts::Counts;
 use cfg_text::Fun;
+use profile_maker::{Profiled, profile_of};
 use refusal::NoMemory;
 use repair_maker::{Costs, costs_of};
 use std::alloc::Global;

@@ -23,8 +23,8 @@ use Rattle.output_model.specs.Program.{Program, way_at}
 use Rattle.output_model.specs.Sampled.{profile_of}
 use Rattle.output_model.specs.Scaled.{AreAllAugmentations, IsBuiltBy, IsBuiltScaled, augmentations_line}
 use Rattle.profile_writer.specs.Profile.{IsProfileOf, Parts, lines_text, ran}
-use Rattle.profile_maker.specs.Edges.{edges_by}
-use Rattle.profile_maker.proofs.RepairLemmas.{all_augmentations_alike, repairs_alike, taken_alike}
+use Rattle.build_maker.specs.Edges.{edges_by}
+use Rattle.build_maker.proofs.RepairLemmas.{all_augmentations_alike, repairs_alike, taken_alike}
 
 -- ---- edges
 

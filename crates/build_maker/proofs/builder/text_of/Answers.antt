@@ -2,8 +2,8 @@ use Rattle.std.proofs.Common.{List, map, subst, sym}
 use Rattle.cfg_text.specs.Fun.{function_of}
 use Rattle.key_types.specs.declared.places.Seg.{Seg}
 use Rattle.profile_writer.specs.Profile.{IsProfileOf}
-use Rattle.profile_maker.proofs.BuiltLemmas.{built_by, built_of}
-use Rattle.profile_maker.proofs.builder.text_of.Goals as goal
+use Rattle.build_maker.proofs.BuiltLemmas.{built_by, built_of}
+use Rattle.build_maker.proofs.builder.text_of.Goals as goal
 
 pub returns : goal.returns
 returns c = λ program sampled is.

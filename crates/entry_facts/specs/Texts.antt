@@ -45,7 +45,8 @@ SaysTextAt sections units held place =
     text_of sections (bases_of_unit units held.unit) held.found.value ≡ text_at sections place
 
 -- The number is that of the text at a place, where it is a name.
-pub record IsNumbered (sections : Sections) (names : List (List ℕ)) (place : TextPlace) (number : Option NameId) : Type 0 where
+pub record IsNumbered (sections : Sections) (names : List (List ℕ)) (place : TextPlace) (number : Option NameId)
+    : Type 0 where
   pub text : List ℕ
   pub stands : text_at sections place ≡ Ok text
   pub number_is : IsNumberOf names (if is_name text then Some text else None) number

@@ -174,12 +174,20 @@ def names_of_one_hash(size):
     return {"prof": alike("names", size // 17), "bin": make.small(1)}
 
 
+def names_of_one_keyed_hash(size):
+    return {"prof": alike("keyed", size // 17)}
+
+
 def keys_of_one_hash(size):
     return {"prof": alike("keys", size // 14)}
 
 
 def branches_of_one_hash(size):
     return {"perf": make.colliding_branches(size // 25)}
+
+
+def branches_of_one_keyed_hash(size):
+    return {"perf": make.colliding_branches(size // 25, keyed=True)}
 
 
 # What takes many augmentations, by bench/ladder.
@@ -274,11 +282,13 @@ FAMILIES = [
     Family("blocks over all", blocks_over_all, BUILT, b"f:[0-9]+:[0-9]+", MB),
     Family("branches of an edge", branches_of_an_edge, WITH_EDGES, b"# function f flow", 8 * MB),
     Family("nested loads", nested_loads, [PGO, "profile", "--map=/bin/x", "bin", "perf"], b"f:[0-9]+:[0-9]+", 16 * MB),
-    Family("names of one hash, merge", names_of_one_hash, MERGE, MERGED, 2 * MB, compiled=True),
-    Family("names of one hash, summary", names_of_one_hash, [PGO, "summary", "prof"], b"functions [0-9]+", 2 * MB, compiled=True),
-    Family("names of one hash, pgo-cold", names_of_one_hash, [COLD, "bin", "prof"], MERGED, 2 * MB, compiled=True),
-    Family("keys of one hash", keys_of_one_hash, MERGE, b"f:[0-9]+:0", 2 * MB, compiled=True),
+    Family("names of one hash, merge", names_of_one_hash, MERGE, MERGED, MB, compiled=True),
+    Family("names of one hash, summary", names_of_one_hash, [PGO, "summary", "prof"], b"functions [0-9]+", MB, compiled=True),
+    Family("names of one hash, pgo-cold", names_of_one_hash, [COLD, "bin", "prof"], MERGED, MB, compiled=True),
+    Family("names of one keyed hash", names_of_one_keyed_hash, MERGE, MERGED, MB, compiled=True),
+    Family("keys of one hash", keys_of_one_hash, MERGE, b"f:[0-9]+:0", MB, compiled=True),
     Family("branches of one hash", branches_of_one_hash, [PGO, "counts", "perf"], b"0x0 0x[0-9a-f]+ 1", 2 * MB),
+    Family("branches of one keyed hash", branches_of_one_keyed_hash, [PGO, "counts", "perf"], b"0x0 0x[0-9a-f]+ 1", 2 * MB),
     Family("ladder", ladder, BUILT, BUILT_LADDER, 64000, growth=LADDER_GROWTH),
     Family("ladder, scaled", ladder, SCALED, BUILT_LADDER, 64000, growth=LADDER_GROWTH),
     Family("ladder of great counts, scaled", ladder_of_great_counts, SCALED, BUILT_LADDER, 64000, growth=LADDER_GROWTH),

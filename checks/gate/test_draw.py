@@ -229,4 +229,4 @@ class Pictures(Case):
             words = ["python3", "-c", "import resource as r, subprocess as s, sys; s.run(sys.argv[1:], stdout=s.DEVNULL, check=True); "
                      "print(r.getrusage(r.RUSAGE_CHILDREN).ru_utime)", SCRIPT, "--svg", name, path]
             took = float(run(*words, limit=300).out)
-            self.assertLess(took, 8, name)
+            self.assertLess(took, 3, name)

@@ -9,7 +9,7 @@ import shutil
 import tempfile
 import unittest
 
-from common import COLD, DONE, PGO, Case
+from common import COLD, DONE, PGO, REFUSED, TOP, Case, needs
 
 import growing
 import make
@@ -70,6 +70,20 @@ class Hostile(Case):
 
     def test_families_3(self):
         self.try_part(3)
+
+
+class Farm(Case):
+    """The script of SECURITY.md, which runs a command on files of strangers."""
+
+    @needs("timeout")
+    def test_the_script_of_the_page(self):
+        script = self.file("farm.sh", re.search(r"(?ms)^```\n(#!/bin/sh\n.*?)^```$", (TOP / "SECURITY.md").read_text())[1])
+        self.file("good", make.small(1))
+        self.file("bad", b"\x7fELF")
+        self.expect(self.run_here("sh", script, "told", PGO, "where", "good", "401014"), DONE)
+        self.assertEqual((self.folder / "told").read_bytes(), self.run_here(PGO, "where", "good", "401014").out)
+        self.tells(self.run_here("sh", script, "other", PGO, "where", "bad", "401014"), REFUSED, "^other: status 4: refused: file 1 at 0: ")
+        self.assertEqual([name for name in self.names() if name.startswith("other")], ["other.said"])
 
 
 # The families of growing.py that are known to be slow, with what is known; docs/LIMITS.md has their figures. These are tried in small

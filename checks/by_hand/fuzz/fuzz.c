@@ -4,8 +4,8 @@
  * A run passes where it ends by itself within a second of the processor, with status 0, an output that ends in a line
  * feed and no word on the error output, or with status 4, no output and the one line "refused: file K at A: KIND", or
  * with status 1, no output and the one line "check failed at line N". Any other run is a find: its file is kept as
- * FINDS-SEED-RUN, and a line says what happened. The last line counts the runs by their statuses. Ends with 1 where
- * there was a find.
+ * FINDS-SEED-RUN, and a line says what happened. The last line counts the runs, by the second and by their statuses.
+ * Ends with 1 where there was a find.
  *
  * Of an ELF file the bytes of headers and of debugging information are changed, of any other file all. */
 #define _GNU_SOURCE
@@ -20,6 +20,7 @@
 #include <sys/resource.h>
 #include <sys/stat.h>
 #include <sys/wait.h>
+#include <time.h>
 #include <unistd.h>
 
 enum { MAX_REGIONS = 256, MAX_GROWTH = 4096 };
@@ -266,6 +267,13 @@ static void put(int fd, const unsigned char *bytes, size_t len) {
         die("write");
 }
 
+/* Seconds by the clock. */
+static double clock_now(void) {
+    struct timespec t;
+    clock_gettime(CLOCK_MONOTONIC, &t);
+    return (double)t.tv_sec + 1e-9 * (double)t.tv_nsec;
+}
+
 /* Each run's file depends on the seed and its number alone. */
 static void begin(unsigned long long seed, size_t run) {
     state = seed * 1000003 + run + 1;
@@ -294,7 +302,7 @@ int main(int argc, char **argv) {
             argv[i] = name;
     unlink("fuzz.out");
     unlink("fuzz.err");
-    double longest = 0;
+    double longest = 0, start = clock_now();
     for (size_t i = 0; i < runs; i++) {
         begin(seed, i);
         memcpy(file, original, len);
@@ -319,7 +327,7 @@ int main(int argc, char **argv) {
         }
     }
     unlink(name);
-    printf("%zu runs, %zu finds, longest %.3f s:", runs, finds, longest);
+    printf("%zu runs, %.0f a second, %zu finds, longest %.3f s:", runs, (double)runs / (clock_now() - start), finds, longest);
     for (int i = 0; i < 256; i++)
         if (statuses[i])
             printf(" status %d %zu times", i, statuses[i]);

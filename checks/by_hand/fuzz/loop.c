@@ -137,7 +137,7 @@ static int fuzz_all(char *how, int argc, char **argv, char **envp) {
     for (int i = 1; i < argc; i++)
         if (!strcmp(argv[i], "@"))
             argv[i] = name;
-    double longest = 0;
+    double longest = 0, start = clock_now();
     for (size_t i = 0; i < runs; i++) {
         begin(seed, i);
         memcpy(file, original, len);
@@ -161,8 +161,8 @@ static int fuzz_all(char *how, int argc, char **argv, char **envp) {
     unlink(name);
     struct rusage used;
     getrusage(RUSAGE_SELF, &used);
-    dprintf(said, "%zu runs, %zu finds, longest %.3f s, %ld MB:", runs, finds, longest,
-            used.ru_maxrss / 1000);
+    dprintf(said, "%zu runs, %.0f a second, %zu finds, longest %.3f s, %ld MB:", runs,
+            (double)runs / (clock_now() - start), finds, longest, used.ru_maxrss / 1000);
     for (int i = 0; i < 256; i++)
         if (statuses[i])
             dprintf(said, " status %d %zu times", i, statuses[i]);

@@ -12,6 +12,7 @@ import random
 import subprocess
 import sys
 import tempfile
+import time
 
 sys.dont_write_bytecode = True
 HERE = os.path.dirname(os.path.abspath(__file__))
@@ -96,7 +97,7 @@ def ended(folder, words):
 
 
 def main():
-    told, finds = collections.Counter(), 0
+    told, finds, start = collections.Counter(), 0, time.monotonic()
     with tempfile.TemporaryDirectory() as folder:
         keys = [keys_of(folder, options) for options in ([], ["--base"])]
     for run in range(RUNS):
@@ -111,7 +112,7 @@ def main():
             write(f"{FINDS}-{SEED}-{run}", files)
             came = f"status {got[0]}, {got[2][:200]}, wanted {wanted[0]}, {wanted[2]}"
             print(f"{FINDS}-{SEED}-{run}: {' '.join(words)}: {came}", flush=True)
-    print(f"{RUNS} runs, {finds} finds:", ", ".join(f"{kind} {times} times" for kind, times in sorted(told.items())))
+    print(f"{RUNS} runs, {RUNS / (time.monotonic() - start):.0f} a second, {finds} finds:", ", ".join(f"{kind} {times} times" for kind, times in sorted(told.items())))
     return finds > 0
 
 

@@ -15,6 +15,7 @@ import re
 import subprocess
 import sys
 import tempfile
+import time
 
 sys.dont_write_bytecode = True
 HERE = os.path.dirname(os.path.abspath(__file__))
@@ -291,7 +292,7 @@ def keys_of(folder, options):
 
 
 def main():
-    told, finds = collections.Counter(), 0
+    told, finds, start = collections.Counter(), 0, time.monotonic()
     with tempfile.TemporaryDirectory() as folder:
         keys = [keys_of(folder, options) for options in ([], ["--base"])]
         for run in range(RUNS):
@@ -305,7 +306,7 @@ def main():
                     with open(f"{FINDS}-{SEED}-{run}/{name}", "wb") as file:
                         file.write(data)
                 print(f"{FINDS}-{SEED}-{run}: {wrong}", flush=True)
-    print(f"{RUNS} runs, {finds} finds:", ", ".join(f"{kind} {times} times" for kind, times in sorted(told.items())))
+    print(f"{RUNS} runs, {RUNS / (time.monotonic() - start):.0f} a second, {finds} finds:", ", ".join(f"{kind} {times} times" for kind, times in sorted(told.items())))
     return finds > 0
 
 

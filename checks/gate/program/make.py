@@ -378,9 +378,10 @@ def folded(a, b):
     return product & 2**64 - 1 ^ product >> 64
 
 
-def colliding_branches(n):
-    """A text of n branches whose pairs all have one hash, by the fixed seed of the library's hasher."""
+def colliding_branches(n, keyed=False):
+    """A text of n branches whose pairs all have one hash, by the fixed seed of the library's hasher, or with a key of 0 in front."""
     seed, multiplier = 0x243F6A8885A308D3, 0x9E3779B97F4A7C15 ^ 16
+    seed = folded(seed, multiplier) if keyed else seed
     return b"".join(b"0x%x/0x%x\n" % (k, folded(seed ^ k, multiplier) ^ 1) for k in range(n))
 
 

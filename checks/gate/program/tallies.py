@@ -18,10 +18,10 @@ UNEVEN = b"0x401001/0x9 0x9/0x401001\n" * 100 + b"0x401008/0x9 0x9/0x401008\n" *
 LOOP = b"func loop\nblock 0 0x401000 0x401008\nblock 1 0x401008 0x401010\nedge 0 1\nedge 1 0\nend\n"
 
 
-def ladder(width, steps):
-    """Two rows of blocks are joined by edges that take one each; step by step the cheapest way fills all of them, or empties them
-    again, one by one. Two chains lead there and away. As bench/ladder makes it."""
-    full, numbers, edges = b" hi=%d" % width**2, {}, []
+def ladder(width, steps, unit=1):
+    """Two rows of blocks are joined by edges that take one unit each; step by step the cheapest way fills all of them, or empties
+    them again, one by one. Two chains lead there and away. As bench/ladder makes it."""
+    full, numbers, edges = b" hi=%d" % (width**2 * unit), {}, []
 
     def edge(tail, head, bound=b""):
         edges.append((numbers.setdefault(tail, len(numbers)), numbers.setdefault(head, len(numbers)), bound))
@@ -44,8 +44,8 @@ def ladder(width, steps):
         edge(f"right {k}", "from right")
     for k in range(width):
         for j in range(width):
-            edge(f"left {k}", f"right {j}", b" hi=1")
-    bounds = {0: b" lo=%d" % (2 * steps * width**2), 1: b" exit"}
+            edge(f"left {k}", f"right {j}", b" hi=%d" % unit)
+    bounds = {0: b" lo=%d" % (2 * steps * width**2 * unit), 1: b" exit"}
     blocks = [b"block %d 0x%x 0x%x%s" % (n, 16 * n + 2**28, 16 * n + 2**28 + 8, bounds.get(n, b"")) for n in range(len(numbers))]
     lines = [b"func ladder", *blocks, *(b"edge %d %d%s" % one for one in edges), b"end\n"]
     return b"\n".join(lines), 16 * (len(blocks) + len(edges) + 1)
@@ -66,11 +66,21 @@ def tally_of(blocks):
     return int((out.out if hasattr(out, "out") else out.stdout).rpartition(b" ")[2])
 
 
+def alike(title, blocks):
+    """With `--scaled` and without it a function is repaired in one way."""
+    files = {"bin": ONE, "perf": UNEVEN, "cfg": blocks}
+    scaled = run(["build", "--scaled", "bin", "perf", "cfg"], files).out
+    judge(title, (DONE, scaled[:scaled.rindex(b"# ")], b""), ["build", "bin", "perf", "cfg"], **files)
+
+
 def phases():
-    """A function that goes on in phases behind the plain run, whose augmentations are told as well."""
+    """A function that goes on in phases behind the plain run, whose augmentations are told as well, below 2^36."""
     blocks, plain = ladder(14, 24)
     assert plain == 9264 and 10000 < len(blocks) < 12000
     tells("a ladder that goes on in phases", blocks, 9715, 1)
+    alike("a ladder without a number", blocks)
+    tells("a ladder of great counts", ladder(14, 24, 2**24)[0], 0, 1)
+    alike("a ladder of great counts without a number", ladder(14, 24, 2**24)[0])
     tells("two ladders", blocks + blocks, 2 * 9715, 2)
     tells("a ladder between others", BLOCKS + blocks + LOOP, 9715 + tally_of(BLOCKS) + tally_of(LOOP), 2)
 

@@ -1,14 +1,17 @@
 -- The counts of keys.
-use Rattle.std.specs.Prelude.{ℕ, max, List, slice_index}
-use Rattle.block_model.specs.declared.parts.Weight.{Weight}
-use Rattle.block_model.specs.declared.parts.Weight.TheVariants.{Unknown, Known}
+use Rattle.std.specs.Prelude.{ℕ, List, map, slice_index}
 use Rattle.key_types.specs.declared.ids.KeyId.{KeyId}
+use Rattle.key_types.specs.declared.places.Seg.{Seg}
 
 -- A key's count stands at its number. Keys behind the end of the list count 0.
 abbrev pub count_in : List ℕ → KeyId → ℕ
 count_in counts key = slice_index counts key.0
 
--- A weight with one more key.
-abbrev pub with_count : Weight → ℕ → Weight
-with_count Unknown count = Known count
-with_count (Known weight) count = Known (max weight count)
+-- The count of each segment's key.
+abbrev pub counts_of : List ℕ → List Seg → List ℕ
+counts_of counts segments = map (λ segment. count_in counts segment.key) segments
+
+-- Segments, and the counts of keys.
+pub record Counted : Type 0 where
+  pub segments : List Seg
+  pub counts : List ℕ

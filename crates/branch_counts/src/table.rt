@@ -4,6 +4,7 @@ ghost use Rattle.std.specs.declared.alloc.Global.{Global as GlobalTold};
 ghost use Rattle.sample_model.specs.Samples.{ranges_between};
 ghost use Rattle.branch_counts.specs.Table.{AddsPairs, total_in};
 
+use crowd_watch::{Keyed, Watch};
 use indexmap::IndexSet;
 use sample_model::Pair;
 use std::alloc::{AllocError, Global};
@@ -14,7 +15,8 @@ use std::marker::Model;
 #[derive(Debug, Drop)]
 pub(crate) struct Table {
     rows: Vec<Pair>,
-    pairs: IndexSet<(u64, u64)>,
+    pairs: IndexSet<(u64, u64), Keyed>,
+    watch: Watch,
 }
 
 impl Model for Table {
@@ -39,7 +41,8 @@ impl Table {
     {
         Ok(Table {
             rows: Vec::with_capacity(alloc, room)?,
-            pairs: IndexSet::with_capacity(alloc, room)?,
+            pairs: IndexSet::with_capacity_and_hasher(alloc, room, Keyed::by(0))?,
+            watch: Watch::new(alloc),
         })
     }
 
@@ -49,7 +52,8 @@ impl Table {
     {
         Table {
             rows: Vec::new(alloc),
-            pairs: IndexSet::new(alloc),
+            pairs: IndexSet::with_hasher(alloc, Keyed::by(0)),
+            watch: Watch::new(alloc),
         }
     }
 
@@ -92,7 +96,7 @@ impl Table {
         ensures added { AddsPairs self.old.rows self.new.rows (replicate times (from, to)) }
         ensures room { self.old.room ≤ self.new.room + 1 }
     {
-        let (place, is_new) = self.pairs.insert_full((from, to)).unwrap();
+        let (place, is_new) = self.watch.insert(&mut self.pairs, (from, to)).unwrap();
         if is_new {
             self.rows.push_reserved(Pair { from, to, times });
         } else {

@@ -1,4 +1,5 @@
 pub mod WayLemmas
 pub mod FoundLemmas
 pub mod StepLemmas
+pub mod TextLemmas
 pub mod MemoLemmas

@@ -1,3 +1,5 @@
+pub mod Kept
 pub mod Meaning
 pub mod Memo
+pub mod Texts
 pub mod Told

@@ -14,7 +14,6 @@ use Rattle.entry_facts.specs.declared.info.Info.{Info}
 use Rattle.entry_facts.specs.declared.findings.Held.{Held}
 use Rattle.entry_facts.specs.declared.findings.Findings.{Findings}
 use Rattle.entry_facts.specs.declared.origin.Origin.{Origin}
-use Rattle.entry_facts.specs.declared.origin.Said.{Said}
 
 -- Where `.debug_info` begins, and what it says.
 abbrev pub info_of : Info → model.Info
@@ -38,10 +37,6 @@ pub record AreFound (way : List Entry) (findings : Findings) : Type 0 where
 abbrev pub FindsOn : Result Findings Place → Result (List Entry) Place → Type 0
 FindsOn (Ok findings) way = (entries : List Entry) × (way ≡ Ok entries) × AreFound entries findings
 FindsOn (Err place) way = way ≡ Err place
-
--- What a way says, as the model says it.
-abbrev pub said_of : Said → told.Origin
-said_of said = record { name = option_map (λ name. name.now) said.name; line = said.line }
 
 -- The number is that of a name among the names, and there is none exactly without a name.
 abbrev pub IsNumberOf : List (List ℕ) → Option (List ℕ) → Option NameId → Type 0

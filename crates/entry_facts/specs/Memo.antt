@@ -1,6 +1,5 @@
 -- Origins that are kept for entries that others lead to.
-use Rattle.std.specs.Prelude.{◌≡◌, ℕ, nat_eq, List, ◌⊎◌, Option, None, Some, Ok}
-use Rattle.std.specs.Map.{lookup}
+use Rattle.std.specs.Prelude.{◌≡◌, ℕ, List, [], None, Some, Ok}
 use Rattle.range_model.specs.Texts.{Sections}
 use Rattle.unit_model.specs.Constants.{DW_AT_MIPS_linkage_name, DW_AT_decl_line, DW_AT_linkage_name, DW_AT_name}
 use Rattle.unit_model.specs.Values.{Found}
@@ -8,7 +7,9 @@ use Rattle.unit_model.specs.Entries.{Entry}
 use Rattle.tree_model.specs.Bases.{attribute}
 use Rattle.tree_model.specs.Way.{Info, entry_beginning_at, reference_of, target_of, way_from}
 use Rattle.tree_model.specs.Origin.{said_on}
+use Rattle.entry_facts.specs.Kept.{kept_at}
 use Rattle.entry_facts.specs.Meaning.{GivesOrigin}
+use Rattle.entry_facts.specs.Texts.{Numbers, RemembersNames, no_numbers}
 use Rattle.entry_facts.specs.declared.origin.Origin.{Origin}
 
 -- An entry has no name and no line of its own.
@@ -31,17 +32,17 @@ pub record IsKnown (sections : Sections) (info : Info) (names : List (List ℕ))
   pub begins : entry_beginning_at info.units.entries at ≡ Some entry
   pub told : (began : ℕ) → GivesOrigin names (Ok origin) (said_on sections info.units (way_from info began 15 entry))
 
--- The origin that is kept for the entry at an offset.
-abbrev pub kept_at : List (ℕ × Origin) → ℕ → Option Origin
-kept_at kept at = lookup (nat_eq at) kept
+-- What is kept: origins of entries by their offsets, and numbers of names by where their texts stand.
+pub record Kept : Type 0 where
+  pub origins : List (ℕ × Origin)
+  pub texts : Numbers
+
+-- Nothing is kept.
+abbrev pub nothing_kept : Kept
+nothing_kept = record { origins = []; texts = no_numbers }
 
 -- What is kept is known.
-abbrev pub Remembers : Sections → Info → List (List ℕ) → List (ℕ × Origin) → Type 0
-Remembers sections info names kept =
-    (at : ℕ) (origin : Origin) → kept_at kept at ≡ Some origin → IsKnown sections info names at origin
-
--- What is kept behind a call was kept before it, or is this origin at this offset.
-abbrev pub AddsKnown : List (ℕ × Origin) → List (ℕ × Origin) → ℕ → Origin → Type 0
-AddsKnown old new at origin =
-    (place : ℕ) (other : Origin) → kept_at new place ≡ Some other
-    → (kept_at old place ≡ Some other) ⊎ ((place ≡ at) × (other ≡ origin))
+pub record Remembers (sections : Sections) (info : Info) (names : List (List ℕ)) (kept : Kept) : Type 0 where
+  pub origins : (at : ℕ) (origin : Origin) → kept_at kept.origins at ≡ Some origin
+      → IsKnown sections info names at origin
+  pub texts : RemembersNames sections names kept.texts

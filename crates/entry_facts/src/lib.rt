@@ -22,13 +22,14 @@ mod origins;
 mod pieces_of;
 mod root;
 mod spelled;
+mod texts;
 mod way;
 
 pub use attributes::{address_at, attribute, number_of};
 pub use bases::{base_address, bases_of, section_place};
 pub use in_unit::InUnit;
 pub use info::Info;
-pub use origin::{Origin, origin_of};
+pub use origin::Origin;
 pub use origins::Origins;
 pub use pieces_of::{MAX_PIECES, pieces};
 pub use root::root_attribute;

@@ -1,14 +1,17 @@
-ghost use Rattle.std.specs.Prelude.{◌≡◌, ◌<◌, ◌-◌, ◌^◌, [], length, IfSome, IsTrue, None, Some};
+ghost use Rattle.std.specs.Prelude.{◌≡◌, ◌<◌, ◌-◌, ◌^◌, length, IfSome, IsTrue, None, Some};
 ghost use Rattle.dwarf_strings.specs.Meaning.{sections_of};
 ghost use Rattle.tree_model.specs.Bases.{attribute as attribute_told};
 ghost use Rattle.tree_model.specs.Way.{entry_beginning_at as beginning_told, way_from};
 ghost use Rattle.tree_model.specs.Origin.{origin as origin_told, said_on};
 ghost use Rattle.entry_facts.specs.Meaning.{Extends, GivesOrigin, info_of};
-ghost use Rattle.entry_facts.specs.Memo.{AddsKnown, LeadsOn, Remembers, SaysNothing, kept_at};
+ghost use Rattle.entry_facts.specs.Kept.{AddsKnown, kept_at};
+ghost use Rattle.entry_facts.specs.Memo.{LeadsOn, Remembers, SaysNothing, nothing_kept};
 
 use crate::attributes::attribute;
+use crate::findings::findings_from;
 use crate::info::Info;
-use crate::origin::{MAX_STEPS, Origin, numbered, origin_of, said_from};
+use crate::origin::Origin;
+use crate::texts::TextNumbers;
 use crate::way::{entry_beginning_at, reference_of, target_of};
 use dwarf_info::{
     Attributes, DW_AT_DECL_LINE, DW_AT_LINKAGE_NAME, DW_AT_MIPS_LINKAGE_NAME, DW_AT_NAME, Entry,
@@ -19,49 +22,86 @@ use refusal::{NoMemory, Stop};
 use std::alloc::Global;
 use std::marker::Model;
 
-/// Origins of entries that others lead to, each worked out once.
+/// The most steps of a way.
+const MAX_STEPS: u32 = 16;
+
+/// Origins of entries, of which those that others lead to are worked out once, and each text of a
+/// section is judged once.
 ///
-/// One abstract function is shared by all its inlined calls: its name is read and judged for the
-/// first of them. What is kept belongs to one file and to one list of names.
+/// One abstract function is shared by all its inlined calls: its way is gone for the first of them.
+/// What is kept belongs to one file and to one list of names.
 #[derive(Drop)]
 pub struct Origins {
     known: IndexMap<u64, Origin>,
+    texts: TextNumbers,
 }
 
-// Clauses see the offsets of entries, each with the origin that is kept for it.
+// Clauses see the origins that are kept, and the numbers of names.
 impl Model for Origins {
-    ghost use Rattle.std.specs.Prelude.{ℕ, List};
-    ghost use Rattle.entry_facts.specs.declared.origin.Origin.{Origin};
+    ghost use Rattle.entry_facts.specs.Memo.{Kept};
 
-    ghost Value = { List (ℕ × Origin) };
+    ghost Value = { Kept };
 
-    ghost view = { λ a. a.known.entries };
+    ghost view = { λ a. record { origins = a.known.entries; texts = a.texts } };
 }
 
 impl Origins {
     /// No origins.
     pub fn new(alloc: Global) -> Origins
-        ensures { result ≡ [] }
+        ensures { result ≡ nothing_kept }
     {
         Origins {
             known: IndexMap::new(alloc),
+            texts: TextNumbers::new(alloc),
         }
     }
 
     /// The origin that is kept for the entry at an offset.
     fn known_at(&self, at: u64) -> Option<Origin>
-        ensures { result ≡ kept_at self.now at }
+        ensures { result ≡ kept_at self.now.origins at }
     {
         self.known.get(&at).copied()
     }
 
     /// Keeps an origin for the entry at an offset.
     fn keep(&mut self, at: u64, origin: Origin) -> Result<(), NoMemory>
-        ensures { AddsKnown self.old self.new at origin }
+        ensures added { AddsKnown self.old.origins self.new.origins at origin }
+        ensures texts { self.new.texts ≡ self.old.texts }
     {
         match self.known.insert(at, origin) {
             Ok(_) => Ok(()),
             Err(_) => Err(NoMemory),
+        }
+    }
+
+    /// The name and the line that the way from an entry on says, with so many steps at most, of a
+    /// way that began at an offset in the file.
+    fn said<'a>(
+        &mut self,
+        info: &Info<'a, '_>,
+        began: u64,
+        steps: u32,
+        entry: &Entry<'a, '_>,
+        names: &mut Names<'a>,
+    ) -> Result<Origin, Stop>
+        requires room { length names.old < 2 ^ 32 - 1 }
+        requires known { Remembers (sections_of info.now.texts.now) (info_of info.now) names.old
+            self.old }
+        ensures told { GivesOrigin names.new result (said_on (sections_of info.now.texts.now)
+            info.now.units.now (way_from (info_of info.now) began steps entry.now)) }
+        ensures names { Extends names.old names.new }
+        ensures known { Remembers (sections_of info.now.texts.now) (info_of info.now) names.new
+            self.new }
+    {
+        match findings_from(info, began, steps, entry) {
+            Ok(findings) => match self.texts.number_said(info, findings.naming(), names) {
+                Ok(name) => Ok(Origin {
+                    name,
+                    line: findings.line(),
+                }),
+                Err(stop) => Err(stop),
+            },
+            Err(place) => Err(Stop::Refused(place)),
         }
     }
 
@@ -84,8 +124,7 @@ impl Origins {
         ensures known { Remembers (sections_of info.now.texts.now) (info_of info.now) names.new
             self.new }
     {
-        let said = said_from(info, began, MAX_STEPS - 1, next);
-        match numbered(said, names) {
+        match self.said(info, began, MAX_STEPS - 1, next, names) {
             Ok(origin) => match self.keep(at, origin) {
                 Ok(()) => Ok(origin),
                 Err(NoMemory) => Err(Stop::NoMemory),
@@ -94,10 +133,21 @@ impl Origins {
         }
     }
 
-    /// The name and the start line of an entry, as the function `origin_of` answers them.
+    /// The name and the start line of an entry, by the first attributes on its way: the entry, the
+    /// target of its `DW_AT_abstract_origin`, else of its `DW_AT_specification`, and so on, up to
+    /// an entry without either, a signature, or a unit that was passed over.
+    ///
+    /// The name is that of the first `DW_AT_linkage_name` on the way, else
+    /// `DW_AT_MIPS_linkage_name`, else `DW_AT_name`. It is none where its text can be none in a
+    /// profile: an empty one, one that holds white space, another control byte or a colon, or one
+    /// that begins with `#`, `!` or a digit.
     ///
     /// # Errors
-    /// Those of `origin_of`; `NoMemory` also where no room is left to keep an origin.
+    /// The first of these that is met: `BadReference` at a reference that leads to no entry;
+    /// `OriginTooLong` at the entry, for a 17th reference; and what `dwarf_strings::text` answers,
+    /// at the value of the name. `NoMemory` where the names, or what is kept, get no room.
+    ///
+    /// Source: DWARF 5, sections 2.13.2, 2.14, 2.15 and 3.3.8.
     pub fn origin_of<'a>(
         &mut self,
         info: &Info<'a, '_>,
@@ -114,14 +164,14 @@ impl Origins {
             self.new }
     {
         let Some(at) = leads_on(info, entry) else {
-            return origin_of(info, entry, names);
+            return self.said(info, entry.at, MAX_STEPS, entry, names);
         };
         if let Some(origin) = self.known_at(at) {
             return Ok(origin);
         }
         match entry_beginning_at(info.units, u128::from(at)) {
             Some(next) => self.worked_out(info, entry.at, at, &next, names),
-            None => origin_of(info, entry, names),
+            None => self.said(info, entry.at, MAX_STEPS, entry, names),
         }
     }
 }

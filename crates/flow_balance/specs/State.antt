@@ -42,7 +42,7 @@ pub record IsState (net : Network) (counts : List ℕ) (prices excess : List ℤ
   pub told : length excess ≡ length prices
   pub are_excess : AreExcess (arcs_of net) counts excess
   pub even : surplus excess ≡ lack excess
-  pub bounded : (place : ℕ) → count_at counts place + surplus excess < 2 ^ 63 + 2 ^ 44
+  pub bounded : (place : ℕ) → count_at counts place + surplus excess < 2 ^ 64
   pub low : (side : ℕ) → price_at excess side <ℤ pos 0 → IsLowPrice (price_at prices side)
 
 -- How far apart prices can be that two ways from one side give: at most 40 a step, on each of them.

@@ -1,6 +1,1 @@
-pub mod DigitLemmas
-pub mod HalfLemmas
-pub mod SizeLemmas
-pub mod RightLemmas
-pub mod BeginLemmas
-pub mod TickLemmas
+pub mod ToldLemmas

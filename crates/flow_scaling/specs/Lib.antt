@@ -1,3 +1,1 @@
-pub mod Phase
-pub mod Refining
-pub use Rattle.flow_balance.specs.Solved
+pub use Rattle.flow_phases.specs.Solved

@@ -1,15 +1,24 @@
-// The whole solver.
-ghost use Rattle.std.specs.Prelude.{◌+◌, ◌*◌, ◌^◌, ◌<◌, ◌≤◌, IfOk, IfSome};
-ghost use Rattle.flow_balance.specs.Solved.{Solves};
-ghost use Rattle.scaling_model.specs.Bound.{AreFew, RisesWithin, StartWithin, most_digits, size_of};
+// The solver that tells a ledger.
+ghost use Rattle.std.specs.Prelude.{◌↔◌, ◌^◌, ◌≤◌, IfOk, IsTrue};
+ghost use Rattle.flow_phases.specs.Solved.{Solves};
+ghost use Rattle.scaling_model.specs.Bound.{AreFew, StartWithin, most_digits};
 
-use crate::digits::digits_of;
 use crate::ledger::{Ledger, Steps, tell};
-use crate::phases::solve_in_phases;
-use flow_balance::solve_within;
 use flow_network::{Net, Solved};
+use flow_phases::{solve_counted, starts_within};
 use refusal::NoMemory;
 use std::alloc::Global;
+
+/// The most binary digits of a count to start from with which augmentations are told.
+const MOST_DIGITS: u32 = 36;
+
+/// Whether each count to start from is below 2^36: a weight, or 0 on the arcs of calls and returns,
+/// moved into the arc's bounds.
+pub fn fits(net: &Net) -> bool
+    ensures { IsTrue result ↔ StartWithin most_digits net.now }
+{
+    starts_within(net, MOST_DIGITS)
+}
 
 /// Counts of least cost that conserve within bounds, with prices that fit them; or a cut, exactly
 /// where no counts conserve within bounds: all that `flow_solver::solve` says of its answer.
@@ -34,27 +43,8 @@ pub fn solve_scaled<L: Ledger>(
     ensures solved { IfOk result (Solves net.now) }
     ensures ticks { AreFew net.now (L.ticks steps.old.ledger) (L.ticks steps.new.ledger) }
 {
-    match solve_plainly(alloc, net, &mut steps.ledger)? {
-        Some(solved) => Ok(solved),
-        None => solve_in_phases(alloc, net, digits_of(net), &mut steps.ledger),
-    }
-}
-
-/// Solves a network without units, if few augmentations are enough. They are for most functions.
-fn solve_plainly<L: Ledger>(
-    alloc: Global,
-    net: &Net,
-    ledger: &mut L,
-) -> Result<Option<Solved>, NoMemory>
-    requires room { L.ticks ledger.old ≤ 2 ^ 63 }
-    ensures solved { IfOk result (λ solved. IfSome solved (Solves net.now)) }
-    ensures ticks { RisesWithin (16 * size_of net.now)
-        (L.ticks ledger.old) (L.ticks ledger.new) }
-    ensures room { L.ticks ledger.new < 2 ^ 63 + 2 ^ 32 }
-{
-    let most = 16 * (net.block_count() + net.edge_count() + 1) as u64;
-    let mut left = most;
-    let solved = solve_within(alloc, net, &mut left)?;
-    tell(ledger, most - left);
-    Ok(solved)
+    let mut augmentations = 0;
+    let solved = solve_counted(alloc, net, &mut augmentations);
+    tell(&mut steps.ledger, augmentations);
+    solved
 }

@@ -1,1 +1,1 @@
-pub use Rattle.flow_balance.specs.Solved
+pub use Rattle.flow_phases.specs.Solved

@@ -2,8 +2,8 @@
 ghost use Rattle.std.specs.Prelude.{IfOk};
 ghost use Rattle.flow_solver.specs.Solved.{Solves};
 
-use flow_balance::solve_within;
 use flow_network::{Net, Solved};
+use flow_phases::solve_counted;
 use refusal::NoMemory;
 use std::alloc::Global;
 
@@ -13,13 +13,10 @@ use std::alloc::Global;
 /// There is no budget, and no other refusal than want of memory. Which of several least counts is
 /// found is not said.
 ///
-/// Source: "Network Flows", 9.7.
+/// Source: "Network Flows", 3.3 and 9.7.
 pub fn solve(alloc: Global, net: &Net) -> Result<Solved, NoMemory>
     ensures { IfOk result (Solves net.now) }
 {
-    let mut left = u64::MAX;
-    match solve_within(alloc, net, &mut left)? {
-        Some(solved) => Ok(solved),
-        None => unreachable!(),
-    }
+    let mut augmentations = 0;
+    solve_counted(alloc, net, &mut augmentations)
 }

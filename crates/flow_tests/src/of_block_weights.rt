@@ -1,6 +1,6 @@
 ghost use Rattle.std.specs.Prelude.{◌≡◌};
 
-use block_weights::weights;
+use block_weights::{SegmentCounts, weights};
 use cfg_text::{Block, Bound, Fun, Weight};
 use item_lists::Items;
 use key_types::{KeyId, Seg};
@@ -53,7 +53,8 @@ fn a_block_has_the_largest_count_in_it(rt: HostRuntime) -> Result<(), test::Fail
         blocks: Items::new(Vec::from_slice(alloc, &blocks)?),
         edges: Items::new(Vec::new(alloc)),
     };
-    let made = weights(alloc, &fun, &segments, &[3, 5, 4])?;
+    let counted = SegmentCounts::new(alloc, &segments, &[3, 5, 4])?;
+    let made = weights(alloc, &fun, &counted)?;
     let want = [
         Weight::Known(5),
         Weight::Known(3),

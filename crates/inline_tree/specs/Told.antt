@@ -10,7 +10,7 @@ use Rattle.chain_model.specs.declared.member.Member.{Member}
 use Rattle.dwarf_ranges.specs.Meaning.{range_sections_of}
 use Rattle.entry_facts.specs.declared.origin.Origin.{Origin}
 use Rattle.entry_facts.specs.Meaning.{IsNumberOf}
-use Rattle.entry_facts.specs.Memo.{Remembers}
+use Rattle.entry_facts.specs.Memo.{Kept, Remembers}
 use Rattle.tree_model.specs.Members.{Told, number_in}
 use Rattle.member_lists.specs.Frames.{SoFar}
 use Rattle.tree_model.specs.Tree as model
@@ -25,7 +25,7 @@ source_of source = record {
 }
 
 -- The origins that are kept are those of the entries.
-abbrev pub Knows : model.Source → List (List ℕ) → List (ℕ × Origin) → Type 0
+abbrev pub Knows : model.Source → List (List ℕ) → Kept → Type 0
 Knows source names kept = Remembers source.sections.texts source.info names kept
 
 -- A function with pieces, and a call with pieces at a depth, their names being numbers.

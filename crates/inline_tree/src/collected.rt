@@ -1,4 +1,5 @@
 ghost use Rattle.std.specs.Prelude.{◌≡◌, [], IfOk};
+ghost use Rattle.entry_facts.specs.Memo.{nothing_kept};
 ghost use Rattle.member_lists.specs.Frames.{nothing};
 
 use entry_facts::Origins;
@@ -20,7 +21,7 @@ impl<'a> Collected<'a> {
     /// Of no entries.
     pub fn new(alloc: Global) -> Result<Collected<'a>, NoMemory>
         ensures names { IfOk result (λ none. none.names ≡ []) }
-        ensures origins { IfOk result (λ none. none.origins ≡ []) }
+        ensures origins { IfOk result (λ none. none.origins ≡ nothing_kept) }
         ensures members { IfOk result (λ none. none.members ≡ nothing) }
     {
         Ok(Collected {

@@ -4,6 +4,7 @@ ghost use Rattle.key_types.specs.Numbers.{Adds, IsNumbered};
 
 use crate::ids::KeyId;
 use crate::key::Key;
+use crowd_watch::{Keyed, Watch};
 use indexmap::IndexSet;
 use refusal::NoMemory;
 use std::alloc::Global;
@@ -12,7 +13,8 @@ use std::marker::Model;
 /// Keys, each once: a key's number is its place, from 0, in the order in which they were added.
 #[derive(Drop)]
 pub struct Keys {
-    keys: IndexSet<Key>,
+    keys: IndexSet<Key, Keyed>,
+    watch: Watch,
 }
 
 // Clauses see the list of the keys, each at its number. Without keys there is
@@ -36,7 +38,8 @@ impl Keys {
         ensures { IfOk result (λ keys. keys ≡ []) }
     {
         Ok(Keys {
-            keys: IndexSet::with_capacity(alloc, 1)?,
+            keys: IndexSet::with_capacity_and_hasher(alloc, 1, Keyed::by(0))?,
+            watch: Watch::new(alloc),
         })
     }
 
@@ -54,7 +57,7 @@ impl Keys {
         ensures numbered { IsNumbered self.new }
         ensures one_more { length self.new ≤ length self.old + 1 }
     {
-        let (index, _) = self.keys.insert_full(key)?;
+        let (index, _) = self.watch.insert(&mut self.keys, key)?;
         Ok(KeyId(index as u32))
     }
 

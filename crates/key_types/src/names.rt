@@ -3,17 +3,37 @@ ghost use Rattle.std.specs.Prelude.{◌≡◌, ◌<◌, ◌≤◌, ◌^◌, ◌+
 ghost use Rattle.key_types.specs.Numbers.{Adds, IsNumbered};
 
 use crate::ids::NameId;
+use crowd_watch::{Keyed, Watch};
 use indexmap::IndexSet;
 use refusal::NoMemory;
 use std::alloc::Global;
+use std::hash::{Hash, Hasher};
 use std::marker::Model;
+
+/// A name as it is hashed: by all its bytes at once.
+#[derive(Clone, Copy, Debug, PartialEq, Eq)]
+struct Text<'a>(&'a [u8]);
+
+impl Hash for Text<'_> {
+    ghost use Rattle.std.proofs.Common.{◌∷◌, [], ap};
+    ghost use Rattle.std.specs.Cmp.Lexicographic.{bytes_decides};
+
+    ghost hash_input = { λ text. text.0.now ∷ [] };
+
+    ghost respects_eq = { λ x y same. ap (λ bytes. bytes ∷ []) ((bytes_decides _ _).0 same) };
+
+    fn hash<H: Hasher>(&self, state: &mut H) {
+        state.write(self.0);
+    }
+}
 
 /// Names, each once: a name's number is its place, from 0, in the order in which they were added.
 ///
 /// The names are lent, from a buffer that lives longer.
 #[derive(Drop)]
 pub struct Names<'a> {
-    names: IndexSet<&'a [u8]>,
+    names: IndexSet<Text<'a>, Keyed>,
+    watch: Watch,
 }
 
 // Clauses see the list of the names, each at its number. Without names there is
@@ -24,7 +44,7 @@ impl<'a> Model for Names<'a> {
 
     ghost Value = { List (List ℕ) };
 
-    ghost view = { λ a. map (λ name. name.now) a.names.keys };
+    ghost view = { λ a. map (λ name. name.0.now) a.names.keys };
 
     ghost invariant = { λ a. (length a.names.keys < 2 ^ 32)
         × (length a.names.keys ≡ 0 → 0 < spare a.names) };
@@ -36,7 +56,8 @@ impl<'a> Names<'a> {
         ensures { IfOk result (λ names. names ≡ []) }
     {
         Ok(Names {
-            names: IndexSet::with_capacity(alloc, 1)?,
+            names: IndexSet::with_capacity_and_hasher(alloc, 1, Keyed::by(0))?,
+            watch: Watch::new(alloc),
         })
     }
 
@@ -54,7 +75,7 @@ impl<'a> Names<'a> {
         ensures numbered { IsNumbered self.new }
         ensures one_more { length self.new ≤ length self.old + 1 }
     {
-        let (index, _) = self.names.insert_full(name)?;
+        let (index, _) = self.watch.insert(&mut self.names, Text(name))?;
         Ok(NameId(index as u32))
     }
 
@@ -63,7 +84,7 @@ impl<'a> Names<'a> {
         requires { id.0 < length self.now }
         ensures { slice_get self.now id.0 ≡ Some result.now }
     {
-        self.names.as_slice()[id.0 as usize]
+        self.names.as_slice()[id.0 as usize].0
     }
 
     /// How many names have a number.

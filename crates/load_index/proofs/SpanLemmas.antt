@@ -1,8 +1,8 @@
 -- That spans tell the last load that holds an address.
-use Rattle.std.proofs.Common.{◌≡◌, ℕ, ◌+◌, ◌-◌, ◌^◌, ◌<◌, ◌≤◌, nat_lt, nat_le, Bool, true, false, ◌&&◌, List, [], ◌∷◌, ◌++◌, length, take, drop, Option, None, Some, refl, sym, ap, subst, ◌∙◌, arith, suc, zero, take-append-drop}
-use Rattle.std.specs.Prelude.{⊤, find, reverse, slice_get, min, option_and_then}
+use Rattle.std.proofs.Common.{◌≡◌, ℕ, ◌+◌, ◌-◌, ◌^◌, ◌<◌, ◌≤◌, nat_lt, nat_le, Bool, true, false, ◌&&◌, List, [], ◌∷◌, ◌++◌, length, length-append, take, drop, None, Some, refl, sym, ap, subst, ◌∙◌, append_assoc, arith, take-append-drop}
+use Rattle.std.specs.Prelude.{find, reverse, slice_get, min, option_and_then}
 use Rattle.std.specs.Option.{option_or}
-use Rattle.std.proofs.lemmas.List.{length-reverse, reverse-append, reverse-reverse}
+use Rattle.std.proofs.lemmas.List.{append-nil, length-reverse, reverse-append, reverse-reverse}
 use Rattle.std.proofs.lemmas.List.Folds.{find-append}
 use Rattle.address_spans.specs.declared.span.Span.{Span}
 use Rattle.address_spans.specs.Spans.{holds as span_holds, owner_at}
@@ -70,26 +70,9 @@ lt_min a x m below = grind arith
 span_holds_as : (place address : ℕ) (load : Load) → address < 2 ^ 64 - 1 → span_holds address (span_of place load) ≡ holds address load
 span_holds_as place address load below = ap (λ (b : Bool). nat_le load.start address && b) (lt_min address (load.start + load.len) (2 ^ 64 - 1) below)
 
-abbrev Within : ℕ → Option ℕ → Type 0
-Within n None = ⊤
-Within n (Some i) = i < n
-
-slice_get_front : (xs ys : List Load) (i : ℕ) → i < length xs → slice_get (xs ++ ys) i ≡ slice_get xs i
-slice_get_front [] ys i below = absurd (omega arith)
-slice_get_front (x ∷ xs) ys zero below = refl
-slice_get_front (x ∷ xs) ys (suc i) below = slice_get_front xs ys i (omega arith)
-
-slice_get_end : (xs : List Load) (x : Load) → slice_get (xs ++ x ∷ []) (length xs) ≡ Some x
-slice_get_end [] x = refl
-slice_get_end (y ∷ xs) x = slice_get_end xs x
-
-grown : (xs : List Load) (x : Load) (o : Option ℕ) → Within (length xs) o → option_and_then (slice_get xs) o ≡ option_and_then (slice_get (xs ++ x ∷ [])) o
-grown xs x None within = refl
-grown xs x (Some i) within = sym (slice_get_front xs (x ∷ []) i within)
-
-wider : (n : ℕ) (o : Option ℕ) → Within n o → Within (suc n) o
-wider n None within = tt
-wider n (Some i) within = omega arith
+slice_get_end : (xs ys : List Load) (x : Load) → slice_get (xs ++ x ∷ ys) (length xs) ≡ Some x
+slice_get_end [] ys x = refl
+slice_get_end (y ∷ xs) ys x = slice_get_end xs ys x
 
 pub owner_here : (s : Span) (spans : List Span) (address : ℕ) → span_holds address s ≡ true → owner_at (s ∷ spans) address ≡ Some s.owner
 owner_here s spans address here = rw here refl
@@ -97,48 +80,48 @@ owner_here s spans address here = rw here refl
 pub owner_there : (s : Span) (spans : List Span) (address : ℕ) → span_holds address s ≡ false → owner_at (s ∷ spans) address ≡ owner_at spans address
 owner_there s spans address here = rw here refl
 
-found_here : (load : Load) (older : List Load) (address : ℕ) → holds address load ≡ true → find (holds address) (load ∷ older) ≡ Some load
-found_here load older address here = rw here refl
-
-found_there : (load : Load) (older : List Load) (address : ℕ) → holds address load ≡ false → find (holds address) (load ∷ older) ≡ find (holds address) older
-found_there load older address here = rw here refl
-
-owners_within : (address : ℕ) (newest : List Load) → Within (length newest) (owner_at (newest_first newest) address)
-owners_within address [] = tt
-owners_within address (load ∷ older) =
-    let s = span_of (length older) load in
-    elim (span_holds address s) as (λ b. span_holds address s ≡ b → Within (suc (length older)) (owner_at (newest_first (load ∷ older)) address)) [
-      | true ↦ λ here. subst (Within (suc (length older))) (sym (owner_here s (newest_first older) address here)) (omega arith)
-      | false ↦ λ here.
-          subst (Within (suc (length older))) (sym (owner_there s (newest_first older) address here))
-          (wider (length older) (owner_at (newest_first older) address) (owners_within address older))
-    ] refl
-
-told_newest : (address : ℕ) → address < 2 ^ 64 - 1 → (newest : List Load) → find (holds address) newest ≡ option_and_then (slice_get (reverse newest)) (owner_at (newest_first newest) address)
-told_newest address below [] = refl
-told_newest address below (load ∷ older) =
-    let s = span_of (length older) load in
-    let as_load = span_holds_as (length older) address load below in
-    let order = reverse-append (load ∷ []) older in
-    elim (holds address load) as (λ b. holds address load ≡ b → find (holds address) (load ∷ older) ≡ option_and_then (slice_get (reverse (load ∷ older))) (owner_at (newest_first (load ∷ older)) address)) [
+-- what further loads hold, laid over spans that tell the loads before them
+pub told_over : (front more newest : List Load) (below : List Span) (address : ℕ) → address < 2 ^ 64 - 1
+    → ((further : List Load) → last_load front address ≡ option_and_then (slice_get (front ++ further)) (owner_at below address))
+    → last_load (front ++ reverse newest) address ≡ option_and_then (slice_get ((front ++ reverse newest) ++ more)) (owner_at (newest_first (length front) newest ++ below) address)
+told_over front more [] below address near told =
+    rw (append-nil front) (told more)
+told_over front more (load ∷ older) below address near told =
+    let before : List Load = front ++ reverse older in
+    let all : front ++ reverse (load ∷ older) ≡ before ++ load ∷ [] =
+    ap (λ (ls : List Load). front ++ ls) (reverse-append (load ∷ []) older) ∙ sym (append_assoc front (reverse older) (load ∷ [])) in
+    let whole : (front ++ reverse (load ∷ older)) ++ more ≡ before ++ load ∷ more =
+    ap (λ (ls : List Load). ls ++ more) all ∙ append_assoc before (load ∷ []) more in
+    let place : length before ≡ length front + length older = simp (length-append, length-reverse) refl in
+    let s = span_of (length front + length older) load in
+    let spans : List Span = newest_first (length front) older ++ below in
+    let as_load = span_holds_as (length front + length older) address load near in
+    elim (holds address load) as (λ b. holds address load ≡ b → last_load (front ++ reverse (load ∷ older)) address ≡ option_and_then (slice_get ((front ++ reverse (load ∷ older)) ++ more)) (owner_at (s ∷ spans) address)) [
       | true ↦ λ here.
-          found_here load older address here
-          ∙ sym (slice_get_end (reverse older) load)
-          ∙ ap (λ (n : ℕ). slice_get (reverse older ++ load ∷ []) n) (length-reverse older)
-          ∙ ap (λ (xs : List Load). slice_get xs (length older)) (sym order)
-          ∙ ap (option_and_then (slice_get (reverse (load ∷ older)))) (sym (owner_here s (newest_first older) address (as_load ∙ here)))
+          last_load-holds before load (front ++ reverse (load ∷ older)) address all here
+          ∙ sym (slice_get_end before more load)
+          ∙ ap (λ (ls : List Load). slice_get ls (length before)) (sym whole)
+          ∙ ap (λ (n : ℕ). slice_get ((front ++ reverse (load ∷ older)) ++ more) n) place
+          ∙ ap (option_and_then (slice_get ((front ++ reverse (load ∷ older)) ++ more))) (sym (owner_here s spans address (as_load ∙ here)))
       | false ↦ λ here.
-          let within = subst (λ (n : ℕ). Within n (owner_at (newest_first older) address)) (sym (length-reverse older)) (owners_within address older) in
-          found_there load older address here
-          ∙ told_newest address below older
-          ∙ grown (reverse older) load (owner_at (newest_first older) address) within
-          ∙ ap (λ (xs : List Load). option_and_then (slice_get xs) (owner_at (newest_first older) address)) (sym order)
-          ∙ ap (option_and_then (slice_get (reverse (load ∷ older)))) (sym (owner_there s (newest_first older) address (as_load ∙ here)))
+          sym (last_load-before before load (front ++ reverse (load ∷ older)) address all here)
+          ∙ told_over front (load ∷ more) older below address near told
+          ∙ ap (λ (xs : List Load). option_and_then (slice_get xs) (owner_at spans address)) (sym whole)
+          ∙ ap (option_and_then (slice_get ((front ++ reverse (load ∷ older)) ++ more))) (sym (owner_there s spans address (as_load ∙ here)))
     ] refl
 
-pub told_by_spans : (loads : List Load) (spans : List Span) → ((address : ℕ) → owner_at spans address ≡ owner_at (newest_first (reverse loads)) address)
-    → (address : ℕ) → address < 2 ^ 64 - 1 → last_load loads address ≡ option_and_then (slice_get loads) (owner_at spans address)
-told_by_spans loads spans same address below =
-    told_newest address below (reverse loads)
-    ∙ ap (λ (xs : List Load). option_and_then (slice_get xs) (owner_at (newest_first (reverse loads)) address)) (reverse-reverse loads)
-    ∙ ap (option_and_then (slice_get loads)) (sym (same address))
+pub told_by_spans : (front recent loads : List Load) (below spans : List Span) → loads ≡ front ++ recent
+    → ((address : ℕ) → owner_at spans address ≡ owner_at (newest_first (length front) (reverse recent) ++ below) address)
+    → ((further : List Load) (address : ℕ) → address < 2 ^ 64 - 1 → last_load front address ≡ option_and_then (slice_get (front ++ further)) (owner_at below address))
+    → (more : List Load) (address : ℕ) → address < 2 ^ 64 - 1 → last_load loads address ≡ option_and_then (slice_get (loads ++ more)) (owner_at spans address)
+told_by_spans front recent loads below spans whole same told more address near =
+    let parts : front ++ reverse (reverse recent) ≡ loads = ap (λ (ls : List Load). front ++ ls) (reverse-reverse recent) ∙ sym whole in
+    subst (λ (ls : List Load). last_load ls address ≡ option_and_then (slice_get (ls ++ more)) (owner_at spans address)) parts
+    (told_over front more (reverse recent) below address near (λ further. told further address near)
+    ∙ ap (option_and_then (slice_get ((front ++ reverse (reverse recent)) ++ more))) (sym (same address)))
+
+-- with no load behind those that the spans tell of
+pub told_now : (loads : List Load) (spans : List Span) (address : ℕ) → ((more : List Load) → last_load loads address ≡ option_and_then (slice_get (loads ++ more)) (owner_at spans address))
+    → last_load loads address ≡ option_and_then (slice_get loads) (owner_at spans address)
+told_now loads spans address told =
+    subst (λ (ls : List Load). last_load loads address ≡ option_and_then (slice_get ls) (owner_at spans address)) (append-nil loads) (told [])

@@ -6,9 +6,10 @@ use refusal::NoMemory;
 use sample_model::Load;
 use std::alloc::Global;
 use std::marker::Model;
+use std::mem;
 
 /// How many loads are looked through in the time in which one is indexed, about.
-const INDEX_COST: usize = 16;
+const INDEX_COST: usize = 64;
 
 /// Loads in their order, of which the last one that holds an address is found.
 #[derive(Debug, Drop)]
@@ -74,12 +75,13 @@ impl LoadIndex {
         Ok(())
     }
 
-    /// Indexes all loads.
+    /// Indexes all loads. Where memory is refused none is indexed any more.
     fn index(&mut self) -> Result<(), NoMemory>
         ensures { self.new ≡ self.old }
     {
         let alloc = *self.loads.allocator();
-        self.spanned = Spanned::of(alloc, &self.loads)?;
+        let spanned = mem::replace(&mut self.spanned, Spanned::new(alloc));
+        self.spanned = spanned.grown(alloc, &self.loads)?;
         self.looked = 0;
         Ok(())
     }

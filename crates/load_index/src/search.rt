@@ -1,5 +1,5 @@
 // Two ways to find the last load that holds an address: one by one, and by spans.
-ghost use Rattle.std.specs.Prelude.{◌≡◌, [], length, reverse, IfOk};
+ghost use Rattle.std.specs.Prelude.{◌≡◌, ◌+◌, ◌++◌, ◌^◌, ◌<◌, ◌≤◌, [], length, reverse, slice_get, take, IfOk};
 ghost use Rattle.sample_model.specs.Moves.{holds as holds_told, last_load};
 ghost use Rattle.load_index.specs.Spans.{IsSpanned, newest_first, span_of as span_told};
 
@@ -32,17 +32,25 @@ impl Spanned {
         }
     }
 
-    /// Of these loads.
-    pub fn of(alloc: Global, loads: &[Load]) -> Result<Spanned, NoMemory>
+    /// Of all these loads, of which the first are spanned: what the others hold is laid over that.
+    pub fn grown(self, alloc: Global, loads: &[Load]) -> Result<Spanned, NoMemory>
+        requires within { self.count ≤ length loads.now }
+        requires spans { IsSpanned (take self.count loads.now) self.spans.items self.top }
         ensures count { IfOk result (λ made. made.count ≡ length loads.now) }
         ensures spans { IfOk result (λ made. IsSpanned loads.now made.spans.items made.top) }
     {
-        let newest_first = spans_of(alloc, loads)?;
-        let spans = disjoint(alloc, &newest_first)?;
+        let Spanned {
+            count,
+            spans: below,
+            top,
+        } = self;
+        let (_, recent) = loads.split_at(count);
+        let laid = laid_over(alloc, count, recent, below)?;
+        let spans = disjoint(alloc, &laid)?;
         Ok(Spanned {
             count: loads.len(),
             spans,
-            top: last_of(loads, u64::MAX),
+            top: last_of(recent, u64::MAX).or(top),
         })
     }
 
@@ -55,20 +63,28 @@ impl Spanned {
             return self.top;
         }
         let place = owner_at(&self.spans, address)?;
-        loads.get(place).copied()
+        load_at(loads, place)
     }
 }
 
-/// What loads hold, the newest first.
-fn spans_of(alloc: Global, loads: &[Load]) -> Result<Vec<Span>, NoMemory>
-    ensures { IfOk result (λ spans. spans.items ≡ newest_first (reverse loads.now)) }
+/// What loads hold whose places begin at `first`, the newest first, in front of other spans.
+fn laid_over(
+    alloc: Global,
+    first: usize,
+    loads: &[Load],
+    mut below: Vec<Span>,
+) -> Result<Vec<Span>, NoMemory>
+    requires { first + length loads.now < 2 ^ 64 }
+    ensures { IfOk result (λ spans. spans.items
+        ≡ newest_first first (reverse loads.now) ++ below.items) }
 {
     let mut spans = Vec::with_capacity(alloc, loads.len())?;
     let mut rest = loads;
     while let Some((load, before)) = rest.split_last() {
-        spans.push(span_of(before.len(), load))?;
+        spans.push(span_of(first + before.len(), load))?;
         rest = before;
     }
+    spans.append(&mut below)?;
     Ok(spans)
 }
 
@@ -81,6 +97,13 @@ fn span_of(place: usize, load: &Load) -> Span
         hi: load.start.saturating_add(load.len),
         owner: place,
     }
+}
+
+/// The load at a place, if there is one.
+fn load_at(loads: &[Load], place: usize) -> Option<Load>
+    ensures { result ≡ slice_get loads.now place }
+{
+    loads.get(place).copied()
 }
 
 /// The last of some loads that holds an address.

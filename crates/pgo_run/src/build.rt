@@ -8,9 +8,9 @@ use crate::halt::{Halt, in_file};
 use crate::order::{MAX_BINARY_BYTES, MAX_BLOCK_BYTES, read_file};
 use crate::samples::sampled;
 use binary_places::read;
+use build_maker::build;
 use command_words::Options;
 use io_edge::Inputs;
-use profile_maker::build;
 use std::alloc::Global;
 
 /// What `build` writes for the binary, the branch text and the block text in these files.

@@ -20,9 +20,9 @@ use crate::halt::{Halt, in_file};
 use crate::order::{MAX_BINARY_BYTES, MAX_BLOCK_BYTES, too_large};
 use binary_places::{Binary, read};
 use branch_stacks::{Counts, read_text};
+use build_maker::summarize;
 use case_maker::{CasePart, CaseStop, make};
 use cfg_text::Fun;
-use profile_maker::summarize;
 use refusal::{NoMemory, Stop, refuse_if};
 use std::alloc::Global;
 

@@ -1,7 +1,7 @@
 use byte_view::Part;
 use dwarf_info::{Units, read_units};
 use dwarf_strings::Texts;
-use entry_facts::{Info, Origins, origin_of};
+use entry_facts::{Info, Origins};
 use key_types::Names;
 use refusal::{Kind, Place, Stop};
 use std::alloc::Global;
@@ -82,7 +82,8 @@ fn told<'a>(
         units,
         texts: &NOTHING,
     };
-    match origin_of(&info, &entry, &mut names) {
+    let mut origins = Origins::new(alloc);
+    match origins.origin_of(&info, &entry, &mut names) {
         Ok(origin) => match origin.name {
             Some(id) => Some(Ok((Some(names.get(id)), origin.line))),
             None => Some(Ok((None, origin.line))),
@@ -107,7 +108,7 @@ fn kept_is_told(alloc: Global, units: &Units<'_>, start: usize, at: u64) -> Opti
     };
     let first = origins.origin_of(&info, &entry, &mut names);
     let again = origins.origin_of(&info, &entry, &mut names);
-    let alone = origin_of(&info, &entry, &mut names);
+    let alone = Origins::new(alloc).origin_of(&info, &entry, &mut names);
     Some(first == again && first == alone)
 }
 

@@ -4,8 +4,5 @@ pub mod ShownLemmas
 pub mod AskedLemmas
 pub mod AlikeLemmas
 pub mod OutputLemmas
-pub mod RepairLemmas
-pub mod BuiltLemmas
 pub mod KeyWayLemmas
 pub mod SampleLemmas
-pub mod SummaryLemmas

@@ -1,5 +1,4 @@
 pub mod Asked
-pub mod Edges
 pub mod MapLaws
 pub mod Laws
 pub mod Profiled

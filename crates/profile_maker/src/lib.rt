@@ -1,8 +1,7 @@
 //! The profile of a binary and the report on its samples, from what was read of it and what was
-//! counted of a branch text; between the two a repair of each function of a block text; or a
-//! summary of all.
+//! counted of a branch text.
 //!
-//! The profile is made once (`profile_of`), and each of the three stands on it. Of the binary's
+//! The profile is made once (`profile_of`), here and for what is built of it. Of the binary's
 //! places it makes those of the functions that the samples and the blocks ask for (`asked`). What
 //! is written says nothing of the others, by `asked_laws`.
 //!
@@ -11,16 +10,13 @@
 #![tactic(auto)]
 
 mod asked;
-mod builder;
 mod laws;
 mod maker;
 mod map_laws;
 mod profiled;
-mod summary;
 
 pub use asked::ask_blocks;
-pub use builder::build;
 pub use laws::{binaries_show_programs, key_ways_are_told};
 pub use maker::make;
 pub use map_laws::{entries_are_given, keys_have_names, places_are_given, segments_fit};
-pub use summary::summarize;
+pub use profiled::{Profiled, profile_of};

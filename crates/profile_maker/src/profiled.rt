@@ -31,13 +31,13 @@ use std::alloc::Global;
 
 /// A profile, and the places and the branches that it was made of.
 #[derive(Drop)]
-pub(crate) struct Profiled<'a> {
-    pub(crate) profile: Profile,
-    pub(crate) placed: Placed<'a>,
+pub struct Profiled<'a> {
+    pub profile: Profile,
+    pub placed: Placed<'a>,
     /// The distinct branches, by source and then by target.
-    pub(crate) branches: Vec<Pair>,
+    pub branches: Vec<Pair>,
     /// How many branches were sampled, all in all.
-    pub(crate) total: u64,
+    pub total: u64,
 }
 
 /// What was counted of a branch text, in rows.
@@ -52,7 +52,10 @@ struct Rows {
 /// The profile of a binary and its samples. `counts` have the branches and the sampled ranges of a
 /// branch text, as they stand or moved by its load lines. Of the binary it makes the places that
 /// the samples and the blocks of these functions ask for.
-pub(crate) fn profile_of<'a>(
+///
+/// # Errors
+/// `NoMemory`.
+pub fn profile_of<'a>(
     alloc: Global,
     binary: Binary<'a>,
     counts: Counts,

@@ -4,7 +4,6 @@ use Rattle.std.specs.Prelude.{OnOk}
 use Rattle.std.proofs.lemmas.List.{map_push, take_all, take_more}
 use Rattle.block_model.specs.declared.parts.Weight.{Weight}
 use Rattle.block_model.specs.Function.{Function}
-use Rattle.block_model.specs.Limits.{max_blocks, max_edges}
 use Rattle.cfg_text.specs.declared.fun.Fun.{Fun}
 use Rattle.cfg_text.specs.Fun.{function_of}
 use Rattle.flow_model.specs.Network.{Network, network_of}

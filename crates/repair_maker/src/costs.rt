@@ -11,6 +11,7 @@ ghost use Rattle.output_model.specs.Summary.{IsRepairCost, costs_in, cuts_in};
 
 use crate::repaired::repair;
 use crate::solver::Solver;
+use block_weights::SegmentCounts;
 use cfg_text::Fun;
 use flow_network::{Solved, cost};
 use key_types::Seg;
@@ -45,9 +46,22 @@ pub fn costs_of(
         (map function_of funs.now) costs
         × (made.cost ≡ costs_in costs) × (made.cuts ≡ cuts_in costs)) }
 {
+    let counted = SegmentCounts::new(alloc, segments, counts)?;
+    costs_by(alloc, funs, &counted)
+}
+
+/// What the repairs of these functions come to.
+fn costs_by(alloc: Global, funs: &[Fun<'_>], counted: &SegmentCounts<'_>) -> Result<Costs, NoMemory>
+    requires small { All (λ count. count < 2 ^ bound_bits) counted.now.counts }
+    requires sound { All (λ fun. IsSound fun.blocks fun.edges) funs.now }
+    ensures { IfOk result (λ made. (costs : List (Option ℕ))
+        × AllZip (IsRepairCost (key_told counted.now.segments) (count_in counted.now.counts))
+        (map function_of funs.now) costs
+        × (made.cost ≡ costs_in costs) × (made.cuts ≡ cuts_in costs)) }
+{
     let mut sum = Costs { cost: 0, cuts: 0 };
     for fun in funs {
-        sum = with_one(sum, cost_of(alloc, fun, segments, counts)?)?;
+        sum = with_one(sum, cost_of(alloc, fun, counted)?)?;
     }
     Ok(sum)
 }
@@ -56,17 +70,15 @@ pub fn costs_of(
 fn cost_of(
     alloc: Global,
     fun: &Fun<'_>,
-    segments: &[Seg],
-    counts: &[u64],
+    counted: &SegmentCounts<'_>,
 ) -> Result<Option<u128>, NoMemory>
-    requires segments { AreSegments segments.now }
-    requires small { All (λ count. count < 2 ^ bound_bits) counts.now }
+    requires small { All (λ count. count < 2 ^ bound_bits) counted.now.counts }
     requires sound { IsSound fun.now.blocks fun.now.edges }
-    ensures { IfOk result (λ cost. IsRepairCost (key_told segments.now) (count_in counts.now)
-        (function_of fun.now) cost) }
+    ensures { IfOk result (λ cost. IsRepairCost (key_told counted.now.segments)
+        (count_in counted.now.counts) (function_of fun.now) cost) }
 {
     let mut solver = Solver::new(false);
-    let made = repair(alloc, fun, segments, counts, None, &mut solver)?;
+    let made = repair(alloc, fun, counted, None, &mut solver)?;
     match &made.solved {
         Solved::Flow(flow, _) => Ok(Some(cost(&made.net, flow))),
         Solved::Cut(_) => Ok(None),

@@ -12,7 +12,7 @@ ghost use Rattle.repair_maker.specs.Told.{edges_told};
 
 use crate::repaired::repair;
 use crate::solver::Solver;
-use block_weights::EdgeSamples;
+use block_weights::{EdgeSamples, SegmentCounts};
 use cfg_text::Fun;
 use key_types::Seg;
 use refusal::NoMemory;
@@ -50,9 +50,33 @@ pub fn write(
         (key_told segments.now) (count_in counts.now) (edges_told edges.entry)
         (map function_of funs.now) augmentations) }
 {
+    let counted = SegmentCounts::new(alloc, segments, counts)?;
+    write_all(alloc, funs, &counted, edges, scaled, out)
+}
+
+/// Appends the repair of each of these functions, in order.
+fn write_all(
+    alloc: Global,
+    funs: &[Fun<'_>],
+    counted: &SegmentCounts<'_>,
+    edges: Option<&EdgeSamples>,
+    scaled: bool,
+    out: &mut Vec<u8>,
+) -> Result<u64, NoMemory>
+    requires small { All (λ count. count < 2 ^ bound_bits) counted.now.counts }
+    requires sound { All (λ fun. IsSound fun.blocks fun.edges) funs.now }
+    requires few { length funs.now ≤ 2 ^ 29 }
+    ensures kept { (text : List ℕ) × (out.new.items ≡ out.old.items ++ text) }
+    ensures written { OnOk result ((text : List ℕ) × (out.new.items ≡ out.old.items ++ text)
+        × AreRepairsOf (key_told counted.now.segments) (count_in counted.now.counts)
+        (edges_told edges.entry) (map function_of funs.now) text) }
+    ensures counted { IfOk result (λ augmentations. AreAllAugmentations
+        (key_told counted.now.segments) (count_in counted.now.counts) (edges_told edges.entry)
+        (map function_of funs.now) augmentations) }
+{
     let mut solver = Solver::new(scaled);
     for fun in funs {
-        write_one(alloc, fun, segments, counts, edges, &mut solver, out)?;
+        write_one(alloc, fun, counted, edges, &mut solver, out)?;
     }
     Ok(solver.augmentations())
 }
@@ -61,26 +85,24 @@ pub fn write(
 fn write_one(
     alloc: Global,
     fun: &Fun<'_>,
-    segments: &[Seg],
-    counts: &[u64],
+    counted: &SegmentCounts<'_>,
     edges: Option<&EdgeSamples>,
     solver: &mut Solver,
     out: &mut Vec<u8>,
 ) -> Result<(), NoMemory>
-    requires segments { AreSegments segments.now }
-    requires small { All (λ count. count < 2 ^ bound_bits) counts.now }
+    requires small { All (λ count. count < 2 ^ bound_bits) counted.now.counts }
     requires sound { IsSound fun.now.blocks fun.now.edges }
     requires room { solver.old ≤ 2 ^ 63 }
     ensures unchanged { OnErr result (out.new.items ≡ out.old.items) }
     ensures written { OnOk result ((text : List ℕ) × (out.new.items ≡ out.old.items ++ text)
-        × IsRepairOf (key_told segments.now) (count_in counts.now) (edges_told edges.entry)
-        (function_of fun.now) text) }
+        × IsRepairOf (key_told counted.now.segments) (count_in counted.now.counts)
+        (edges_told edges.entry) (function_of fun.now) text) }
     ensures counted { OnOk result ((count : ℕ) × (solver.new ≡ solver.old + count)
-        × AreAugmentationsOf (key_told segments.now) (count_in counts.now)
+        × AreAugmentationsOf (key_told counted.now.segments) (count_in counted.now.counts)
         (edges_told edges.entry) (function_of fun.now) count) }
     ensures few { OnOk result (solver.new ≤ solver.old + 2 ^ 29) }
 {
-    let made = repair(alloc, fun, segments, counts, edges, solver)?;
+    let made = repair(alloc, fun, counted, edges, solver)?;
     match edges {
         Some(_) => repair_text::write(
             fun,

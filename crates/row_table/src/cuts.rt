@@ -1,5 +1,7 @@
 ghost use Rattle.std.specs.Prelude.{IfOk, ◌++◌, ◌≡◌, OnOk, vec_len, map};
 ghost use Rattle.std.specs.List.{flat_map};
+ghost use Rattle.std.specs.List.Sorted.{IsPermutation, IsSorted};
+ghost use Rattle.std.specs.Ordering.{nat_cmp};
 ghost use Rattle.line_model.specs.Rows.{addresses_of};
 ghost use Rattle.row_table.specs.Index.{HaveAddresses};
 
@@ -12,9 +14,19 @@ pub(crate) fn cuts_of(alloc: Global, sequences: &[Sequence]) -> Result<Vec<u64>,
     ensures { IfOk result (λ cuts. HaveAddresses sequences.now cuts.items) }
 {
     let mut addresses = all_addresses(alloc, sequences)?;
-    addresses.sort_unstable();
+    sort(&mut addresses);
     addresses.dedup();
     Ok(addresses)
+}
+
+/// Brings addresses into order. Those of most binaries are in order, which one look tells.
+fn sort(addresses: &mut Vec<u64>)
+    ensures permuted { IsPermutation addresses.old.items addresses.new.items }
+    ensures sorted { IsSorted nat_cmp addresses.new.items }
+{
+    if !addresses.is_sorted() {
+        addresses.sort_unstable();
+    }
 }
 
 /// The addresses of the rows and ends of some sequences, in their order.

@@ -15,17 +15,19 @@ none = record { lo = 0; hi = 0; exit = false; bound = record { lower = 0; upper 
 
 pub loop-block-preserved : goal.loop-block-preserved
 unfolding none
-loop-block-preserved c =
-    rw (c.in_ok-push.ensures.items, take_more c.as_slice-block-items.result.now c.loop-block.block-index none c.loop-block-test.true)
-    (all_zip_push (IsWeightOf (key_told c.args.segments.now) (count_in c.args.counts.now)) _ _ _ _ c.loop-block.invariant c.weight_of.ensures)
+loop-block-preserved c = (
+  rw (c.in_ok-push.ensures.items, take_more c.as_slice-block-items.result.now c.loop-block.block-index none c.loop-block-test.true)
+      (all_zip_push (IsWeightOf (key_told c.args.counted.now.segments) (count_in c.args.counted.now.counts)) _ _ _ _ c.loop-block.invariant.0 c.weight_of-weight.ensures.weight),
+  c.weight_of-weight.ensures.near,
+)
 
 pub returns-clause-told : goal.returns-clause-told
 returns-clause-told c =
     let all = take_all c.loop-block.block-index c.as_slice-block-items.result.now c.loop-block-test.false ∙ c.as_slice-block-items.ensures in
-    subst (λ (blocks : List Block). AllZip (IsWeightOf (key_told c.args.segments.now) (count_in c.args.counts.now)) blocks c.loop-block.made.items) all c.loop-block.invariant
+    subst (λ (blocks : List Block). AllZip (IsWeightOf (key_told c.args.counted.now.segments) (count_in c.args.counted.now.counts)) blocks c.loop-block.made.items) all c.loop-block.invariant.0
 
 pub returns-clause-small : goal.returns-clause-small
 returns-clause-small c =
     let all = take_all c.loop-block.block-index c.as_slice-block-items.result.now c.loop-block-test.false ∙ c.as_slice-block-items.ensures in
-    weights_are_small (key_told c.args.segments.now) c.args.counts.now c.args.fun.now.blocks c.loop-block.made.items
-    (subst (λ (blocks : List Block). AllZip (IsWeightOf (key_told c.args.segments.now) (count_in c.args.counts.now)) blocks c.loop-block.made.items) all c.loop-block.invariant)
+    weights_are_small (key_told c.args.counted.now.segments) c.args.counted.now.counts c.args.fun.now.blocks c.loop-block.made.items
+    (subst (λ (blocks : List Block). AllZip (IsWeightOf (key_told c.args.counted.now.segments) (count_in c.args.counted.now.counts)) blocks c.loop-block.made.items) all c.loop-block.invariant.0)

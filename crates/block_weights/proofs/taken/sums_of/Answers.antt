@@ -1,4 +1,4 @@
-use Rattle.std.proofs.Common.{◌+◌, List, arith, get_or, subst, sym}
+use Rattle.std.proofs.Common.{◌+◌, arith, get_or, subst, sym}
 use Rattle.std.proofs.lemmas.List.Sums.{sum_by_more_le}
 use Rattle.sample_model.specs.declared.pair.Pair.{Pair}
 use Rattle.block_weights.proofs.TakenLemmas.{SumsSoFar, no_branch, sums-all, sums-next, sums-none}

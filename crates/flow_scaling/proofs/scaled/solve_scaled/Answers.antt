@@ -1,6 +1,8 @@
-use Rattle.flow_scaling.proofs.TickLemmas.{all_few}
+use Rattle.flow_scaling.proofs.ToldLemmas.{room_for_all, told_few}
 use Rattle.flow_scaling.proofs.scaled.solve_scaled.Goals as goal
 
-pub returns-in-None-clause-ticks : goal.returns-in-None-clause-ticks
-returns-in-None-clause-ticks g c =
-    all_few c.args.net.now c.digits_of.result _ _ _ c.digits_of.ensures.least c.solve_plainly.ensures.ticks c.solve_in_phases.ensures.ticks
+pub tell-requires : goal.tell-requires
+tell-requires g c = room_for_all c.args.net.now _ _ c.requires.fits c.solve_counted-solved.ensures.small c.requires.room c.solve_counted-solved.ensures.counted
+
+pub returns-clause-ticks : goal.returns-clause-ticks
+returns-clause-ticks g c = told_few c.args.net.now _ _ _ c.tell.ensures c.solve_counted-solved.ensures.counted

@@ -1,30 +1,26 @@
-use Rattle.std.proofs.Common.{map, subst, sym}
+use Rattle.std.proofs.Common.{◌≡◌, ◌++◌, ℕ, List, map, subst}
+use Rattle.std.specs.Prelude.{IfOk, OnOk}
 use Rattle.block_weights.specs.Counts.{count_in}
 use Rattle.cfg_text.specs.Fun.{function_of}
+use Rattle.key_types.specs.declared.places.Seg.{Seg}
 use Rattle.key_types.specs.Segments.{key_told}
 use Rattle.output_model.specs.Scaled.{AreAllAugmentations}
+use Rattle.repair_model.specs.Made.{AreRepairsOf}
 use Rattle.repair_maker.specs.Told.{edges_told}
-use Rattle.repair_maker.proofs.AugmentationLemmas.{CountedSoFar-end, CountedSoFar-more, CountedSoFar-room}
-use Rattle.repair_maker.proofs.RepairLemmas.{WrittenSoFar-more}
 use Rattle.repair_maker.proofs.maker.write.Goals as goal
 
-pub write_one-requires-clause-room : goal.write_one-requires-clause-room
-write_one-requires-clause-room c =
-    CountedSoFar-room (key_told c.args.segments.now) (count_in c.args.counts.now) (edges_told c.args.edges) c.args.funs.now c.loop-fun.fun-index c.loop-fun.solver c.loop-fun.invariant.1 c.loop-fun-test.true c.requires.few
-
-pub loop-fun-preserved : goal.loop-fun-preserved
-loop-fun-preserved c =
-    let key = key_told c.args.segments.now in
-    let count = count_in c.args.counts.now in
-    let edges = edges_told c.args.edges in
-    let augmented = c.in_ok-write_one.ensures.counted in (
-      WrittenSoFar-more key count edges c.args.funs.now c.loop-fun.fun-index c.args.out.now.items c.loop-fun.out.items c.write_one.new.out.items
-          c.in_ok-write_one.ensures.written.0 c.fun-item.result c.loop-fun.invariant.0 c.loop-fun-test.true c.fun-item.is c.in_ok-write_one.ensures.written.1 c.in_ok-write_one.ensures.written.2,
-      CountedSoFar-more key count edges c.args.funs.now c.loop-fun.fun-index c.loop-fun.solver c.write_one.new.solver augmented.0 c.fun-item.result
-          c.loop-fun.invariant.1 c.loop-fun-test.true c.fun-item.is augmented.1 augmented.2 c.in_ok-write_one.ensures.few,
-    )
+pub returns-clause-written : goal.returns-clause-written
+returns-clause-written c =
+    let is = c.in_ok-counted.ensures in
+    subst (λ (counts : List ℕ). OnOk c.write_all.result ((text : List ℕ) × (c.write_all.new.out.items ≡ c.args.out.now.items ++ text)
+    × AreRepairsOf (key_told c.args.segments.now) (count_in counts) (edges_told c.args.edges) (map function_of c.args.funs.now) text)) is.counts
+    (subst (λ (segments : List Seg). OnOk c.write_all.result ((text : List ℕ) × (c.write_all.new.out.items ≡ c.args.out.now.items ++ text)
+    × AreRepairsOf (key_told segments) (count_in c.in_ok-counted.counted.counts) (edges_told c.args.edges) (map function_of c.args.funs.now) text)) is.segments
+    c.write_all.ensures.written)
 
 pub returns-clause-counted : goal.returns-clause-counted
 returns-clause-counted c =
-    subst (AreAllAugmentations (key_told c.args.segments.now) (count_in c.args.counts.now) (edges_told c.args.edges) (map function_of c.args.funs.now)) (sym c.augmentations.ensures)
-    (CountedSoFar-end (key_told c.args.segments.now) (count_in c.args.counts.now) (edges_told c.args.edges) c.args.funs.now c.loop-fun.fun-index c.loop-fun.solver c.loop-fun.invariant.1 c.loop-fun-test.false)
+    let is = c.in_ok-counted.ensures in
+    subst (λ (counts : List ℕ). IfOk c.write_all.result (λ augmentations. AreAllAugmentations (key_told c.args.segments.now) (count_in counts) (edges_told c.args.edges) (map function_of c.args.funs.now) augmentations)) is.counts
+    (subst (λ (segments : List Seg). IfOk c.write_all.result (λ augmentations. AreAllAugmentations (key_told segments) (count_in c.in_ok-counted.counted.counts) (edges_told c.args.edges) (map function_of c.args.funs.now) augmentations)) is.segments
+    c.write_all.ensures.counted)

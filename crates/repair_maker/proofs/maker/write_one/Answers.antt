@@ -39,7 +39,7 @@ returns-in-Some-clause-written c =
     on_both c.write.result c.write.ensures.written c.write.ensures.fits (λ appended fits. (
       repair_text true (function_of c.args.fun.now) (repair_by made.net c.deref.result.now c.deref-in-Some.result.now made.solved),
       appended,
-      made_of (key_told c.args.segments.now) (count_in c.args.counts.now) (edges_told c.args.edges) (function_of c.args.fun.now) made.weights.items made.edge_weights.items c.deref-in-Some.result.now made.net made.solved true
+      made_of (key_told c.args.counted.now.segments) (count_in c.args.counted.now.counts) (edges_told c.args.edges) (function_of c.args.fun.now) made.weights.items made.edge_weights.items c.deref-in-Some.result.now made.net made.solved true
           (repair_text true (function_of c.args.fun.now) (repair_by made.net c.deref.result.now c.deref-in-Some.result.now made.solved))
           (ap (λ edges. is_some (edges_told edges)) c.in-Some.is) is.weighed is.edges_weighed (λ asked. c.deref-in-Some.ensures.value) is.net_is is.solves
           (subst (λ ws. AllByRecursion FitsBits (lines_of_repair true (function_of c.args.fun.now) (repair_by made.net ws c.deref-in-Some.result.now made.solved))) c.deref.ensures.value
@@ -66,7 +66,7 @@ returns-clause-written c =
     on_both c.write-in-None.result c.write-in-None.ensures.written c.write-in-None.ensures.fits (λ appended fits. (
       repair_text false (function_of c.args.fun.now) (repair_by made.net c.deref-in-None.result.now [] made.solved),
       appended,
-      made_of (key_told c.args.segments.now) (count_in c.args.counts.now) (edges_told c.args.edges) (function_of c.args.fun.now) made.weights.items made.edge_weights.items [] made.net made.solved false
+      made_of (key_told c.args.counted.now.segments) (count_in c.args.counted.now.counts) (edges_told c.args.edges) (function_of c.args.fun.now) made.weights.items made.edge_weights.items [] made.net made.solved false
           (repair_text false (function_of c.args.fun.now) (repair_by made.net c.deref-in-None.result.now [] made.solved))
           none is.weighed is.edges_weighed (λ asked. let both : false ≡ true = sym none ∙ asked in absurd cc) is.net_is is.solves
           (subst (λ ws. AllByRecursion FitsBits (lines_of_repair false (function_of c.args.fun.now) (repair_by made.net ws [] made.solved))) c.deref-in-None.ensures.value
@@ -76,20 +76,20 @@ returns-clause-written c =
 
 pub returns-in-Some-clause-counted : goal.returns-in-Some-clause-counted
 returns-in-Some-clause-counted c = on_any c.write.result
-    (took_of (key_told c.args.segments.now) (count_in c.args.counts.now) (edges_told c.args.edges) (function_of c.args.fun.now) c.in_ok-made.made.weights.items c.in_ok-made.made.edge_weights.items
+    (took_of (key_told c.args.counted.now.segments) (count_in c.args.counted.now.counts) (edges_told c.args.edges) (function_of c.args.fun.now) c.in_ok-made.made.weights.items c.in_ok-made.made.edge_weights.items
     c.in_ok-made.made.net c.in_ok-made.made.solved c.args.solver.now c.repair.new.solver c.in_ok-made.ensures.repaired c.in_ok-made.ensures.counted)
 
 pub returns-in-Some-clause-few : goal.returns-in-Some-clause-few
 returns-in-Some-clause-few c = on_any c.write.result
-    (few_of (key_told c.args.segments.now) (count_in c.args.counts.now) (edges_told c.args.edges) (function_of c.args.fun.now) c.in_ok-made.made.weights.items c.in_ok-made.made.edge_weights.items
+    (few_of (key_told c.args.counted.now.segments) (count_in c.args.counted.now.counts) (edges_told c.args.edges) (function_of c.args.fun.now) c.in_ok-made.made.weights.items c.in_ok-made.made.edge_weights.items
     c.in_ok-made.made.net c.in_ok-made.made.solved c.args.solver.now c.repair.new.solver c.in_ok-made.ensures.repaired c.requires.sound c.in_ok-made.ensures.few)
 
 pub returns-clause-counted : goal.returns-clause-counted
 returns-clause-counted c = on_any c.write-in-None.result
-    (took_of (key_told c.args.segments.now) (count_in c.args.counts.now) (edges_told c.args.edges) (function_of c.args.fun.now) c.in_ok-made.made.weights.items c.in_ok-made.made.edge_weights.items
+    (took_of (key_told c.args.counted.now.segments) (count_in c.args.counted.now.counts) (edges_told c.args.edges) (function_of c.args.fun.now) c.in_ok-made.made.weights.items c.in_ok-made.made.edge_weights.items
     c.in_ok-made.made.net c.in_ok-made.made.solved c.args.solver.now c.repair.new.solver c.in_ok-made.ensures.repaired c.in_ok-made.ensures.counted)
 
 pub returns-clause-few : goal.returns-clause-few
 returns-clause-few c = on_any c.write-in-None.result
-    (few_of (key_told c.args.segments.now) (count_in c.args.counts.now) (edges_told c.args.edges) (function_of c.args.fun.now) c.in_ok-made.made.weights.items c.in_ok-made.made.edge_weights.items
+    (few_of (key_told c.args.counted.now.segments) (count_in c.args.counted.now.counts) (edges_told c.args.edges) (function_of c.args.fun.now) c.in_ok-made.made.weights.items c.in_ok-made.made.edge_weights.items
     c.in_ok-made.made.net c.in_ok-made.made.solved c.args.solver.now c.repair.new.solver c.in_ok-made.ensures.repaired c.requires.sound c.in_ok-made.ensures.few)

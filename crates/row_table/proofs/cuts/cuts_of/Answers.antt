@@ -4,4 +4,4 @@ use Rattle.row_table.proofs.cuts.cuts_of.Goals as goal
 
 pub returns : goal.returns
 returns c =
-    have_addresses _ _ _ _ c.in_ok-addresses.ensures c.sort_unstable.ensures.permutation c.sort_unstable.ensures.sorted (dedup_is _ _ _ c.dedup.ensures.filtered)
+    have_addresses _ _ _ _ c.in_ok-addresses.ensures c.sort.ensures.permuted c.sort.ensures.sorted (dedup_is _ _ _ c.dedup.ensures.filtered)

@@ -1,4 +1,4 @@
-use Rattle.std.proofs.Common.{List, ap, arith, rules, subst, ◌∙◌}
+use Rattle.std.proofs.Common.{ap, arith, rules, subst, ◌∙◌}
 use Rattle.std.proofs.lemmas.List.Sorted.{IsNonDecreasingBy-from_sort_by_key, sum_by-IsPermutation}
 use Rattle.sample_model.specs.declared.pair.Pair.{Pair}
 use Rattle.profile_model.specs.Hits.{times_of}

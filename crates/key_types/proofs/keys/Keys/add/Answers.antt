@@ -9,11 +9,11 @@ use Rattle.key_types.proofs.keys.Keys.add.Goals as goal
 
 pub returns-in_err-index-clause-numbered : goal.returns-in_err-index-clause-numbered
 returns-in_err-index-clause-numbered c =
-    numbered the_key.ghosts.eq same_key c.insert_full.new.self.keys c.insert_full.ensures.unique
+    numbered the_key.ghosts.eq same_key c.insert.new.table.keys c.insert.ensures.unique
 
 pub returns-clause-added : goal.returns-clause-added
 returns-clause-added c =
-    let is : c.insert_full.new.self.keys ≡ insert_key the_key.ghosts.eq c.args.self.now c.args.key =
+    let is : c.insert.new.table.keys ≡ insert_key the_key.ghosts.eq c.args.self.now c.args.key =
     c.in_ok-index.ensures.keys ∙ ap (λ (items : List Key). insert_key the_key.ghosts.eq items c.args.key) c.self.view_is in
     subst (λ (new : List Key). Adds c.args.self.now new c.args.key) (sym is) (adds the_key.ghosts.eq same_key c.args.self.now c.args.key)
 
@@ -23,4 +23,4 @@ returns-clause-number c =
 
 pub returns-clause-numbered : goal.returns-clause-numbered
 returns-clause-numbered c =
-    numbered the_key.ghosts.eq same_key c.insert_full.new.self.keys c.insert_full.ensures.unique
+    numbered the_key.ghosts.eq same_key c.insert.new.table.keys c.insert.ensures.unique

@@ -1,0 +1,3 @@
+pub mod RepairLemmas
+pub mod BuiltLemmas
+pub mod SummaryLemmas

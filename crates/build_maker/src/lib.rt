@@ -1,0 +1,12 @@
+//! What is built: the profile of a binary, a repair of each function of a block text by its counts,
+//! and the report; or a summary of all.
+//!
+//! Both stand on the profile that `profile_maker` makes, of the places that the samples and the
+//! blocks ask for.
+#![tactic(auto)]
+
+mod builder;
+mod summary;
+
+pub use builder::build;
+pub use summary::summarize;

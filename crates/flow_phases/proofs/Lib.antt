@@ -1,0 +1,6 @@
+pub mod DigitLemmas
+pub mod HalfLemmas
+pub mod SizeLemmas
+pub mod RightLemmas
+pub mod BeginLemmas
+pub mod CountLemmas

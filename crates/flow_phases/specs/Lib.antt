@@ -1,0 +1,3 @@
+pub mod Phase
+pub mod Refining
+pub use Rattle.flow_balance.specs.Solved

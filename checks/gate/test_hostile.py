@@ -98,11 +98,6 @@ KNOWN_SLOW = {
     "tails of a table": "each table is read and kept whole",
     "blocks over all": "the largest count is looked for in all segments of each block",
     "nested loads": "the load that moves an address is looked for anew behind each load line",
-    "names of one hash, merge": "the hasher has a fixed seed",
-    "names of one hash, summary": "the hasher has a fixed seed",
-    "names of one hash, pgo-cold": "the hasher has a fixed seed",
-    "keys of one hash": "the hasher has a fixed seed",
-    "branches of one hash": "the hasher has a fixed seed",
     "ladder": "the plain run makes a way for each edge of the middle in each step",
     "ladder of great counts, scaled": "counts above 2^36 are solved by the plain run",
 }

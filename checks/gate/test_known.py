@@ -1,7 +1,7 @@
 """The built programs on files of which each byte is known, and on drawn ones that second programs answer too."""
 import unittest
 
-from common import COLD, PGO
+from common import COLD, PGO, TOP, Case
 
 import cold
 import judged
@@ -20,6 +20,18 @@ class Merges(judging.parts(PGO, *merges.PARTS)):
 
 class Cold(judging.parts(COLD, *cold.PARTS)):
     pass
+
+
+class ColdInOnePass(Case):
+    def test_both_ways(self):
+        """What `pgo-cold profile` writes is what `pgo-cold` makes of what `pgo profile` writes, and the report of that."""
+        for options in ([], ["--base"]):
+            with self.subTest(options):
+                files = [TOP / "demo/words", TOP / "demo/words.txt"]
+                made = self.run_here(PGO, "profile", *options, *files).out
+                lines = self.run_here(COLD, *options, files[0], self.file("prof", made)).out
+                self.assertIn(b": 0\n", lines)
+                self.expect(self.run_here(COLD, "profile", *options, *files), 0, lines + made[made.index(b"#"):])
 
 
 class Drawn(unittest.TestCase):

@@ -96,6 +96,9 @@ class Using(Case):
         self.file("mapped.prof", self.run_here("./pgo", "profile", "--base", "--map=/srv/app/words", "demo/words", "words.txt").out)
         self.same("load lines as perf prints them", "mapped.prof", "loaded.prof")
         self.same("the profile", "words.prof", HERE / "program" / "words.expected")
+        whole = (self.folder / "words.cold").read_bytes() + b"".join(line for line in (self.folder / "words.prof").read_bytes().splitlines(True) if line.startswith(b"#"))
+        self.file("words.both", whole)
+        self.same("the lines that never ran, at once", "words.once", "words.both")
         self.same("the block text", "words.blocks", "demo/words.blocks")
         self.same("the picture", "count_word.svg", TOP / "docs" / "count_word.svg")
 

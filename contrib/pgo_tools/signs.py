@@ -236,7 +236,8 @@ def unfit_build(program, profile):
     maker = makers[0][0] if makers else ""
     if not found.packs(maker):
         return
-    lines = [place for node in profile.values() for each in node.walk() for place in each.lines]
+    ran = [each.lines for node in profile.values() for each in node.walk()]
+    lines = [place for lines in ran for place, line in lines.items() if line.count or line.targets]
     if len(lines) >= MANY_LINES and not any(disc for _, disc in lines) and not program.elf.has_discriminators():
         option = "-Z debug-info-for-profiling (nightly)" if maker == "rustc" else "-fdebug-info-for-profiling"
         yield Sign(f"{program.name} was built without {option.split(' (')[0]}: a build by this profile can be slower than one without",

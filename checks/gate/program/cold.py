@@ -1,11 +1,12 @@
-"""The built program `pgo-cold`, on binaries and profile texts of which each byte is known.
+"""The built program `pgo-cold`, on binaries, profile texts and branch texts of which each byte is known.
 
 What it has to write is worked out by hand from docs/FORMATS.md and docs/RULES.md.
 """
+import known
 import make
 from judging import BAD_WORDS, DONE, MISSING, REFUSED, judge
 
-USAGE = b"usage: pgo-cold [--base] BIN PROFILE\n"
+USAGE = b"usage: pgo-cold [--base] BIN PROFILE, or profile [--map=NAME] [--base] BIN PERF\n"
 # A function `f0000` with the places 0, 1, 2.2 and 3, and 1 in a call of `g` from 2.1; and `f0001` behind it, alike.
 ONE = make.small(1)
 TWO = make.small(2)
@@ -97,4 +98,59 @@ def again():
     made("the one behind it", both, other, ONE, ["--base"])
 
 
-PARTS = [by_hand, with_count_0, refusals, again]
+def report(ran, branches, entries, inside, unmapped=b""):
+    """The report of `pgo profile`, where all ranges ran."""
+    sums = b"# branches %d\n# entries %d\n# inside %d\n" % (branches, entries, inside)
+    return sums + unmapped + b"# ranges ran %d\n# ranges reversed 0\n# ranges outside 0\n# ranges crossing 0\n# units read 1 passed 0\n" % ran
+
+
+def of_samples(title, lines, text, told, binary=ONE, options=()):
+    judge(title, (DONE, lines + told, b""), ["profile", *options, "bin", "perf"], bin=binary, perf=text)
+
+
+def sampled():
+    """The profile of a binary and its samples, with the lines that never ran, and its report."""
+    text = known.TWO_SAMPLES
+    of_samples("each place has a line", F, text, report(3, 5, 1, 4))
+    of_samples("bases", F.replace(b"2.2", b"2.1").replace(b"2.1: g", b"2: g"), text, report(3, 5, 1, 4), ONE, ["--base"])
+    of_samples("no sample", b"", b"", report(0, 0, 0, 0))
+    f = b"f0000:%d:%d\n 0: %d\n 1: 0\n 2.2: 0\n 3: 0%b\n 2.1: g:0\n  1: 0\n"
+    call = report(0, 1, 1, 0)
+    of_samples("a call alone", f % (0, 1, 0, b" f0000:1"), b"0x401034/0x401000", call, TWO)
+    moved = known.LOAD + b"0x7f0000000034/0x7f0000000000"
+    of_samples("moved by a load line", f % (0, 1, 0, b" f0000:1"), moved, call, TWO, ["--map=/bin/x"])
+    of_samples("and by bases", (f % (0, 1, 0, b" f0000:1")).replace(b"2.2", b"2.1").replace(b"2.1: g", b"2: g"), moved, call, TWO, ["--base", "--map=/bin/x"])
+    # An entry from outside: the function stands by its head, and that of no sample does not.
+    entry = b"# unmapped FromOutside 0x9 0x401004 1\n"
+    of_samples("only a head", f % (0, 1, 0, b""), b"0x9/0x401000", report(0, 1, 1, 0), TWO)
+    once = b"0x401004/0x9 0x9/0x401004"
+    ends = report(1, 2, 0, 0, entry + b"# unmapped ToOutside 0x401004 0x9 1\n")
+    of_samples("one address", f % (1, 0, 1, b""), once, ends, TWO)
+    # A second function of that name, from line 9, in which nothing ran, has its places as well.
+    alike = TWO[:233] + b"0\0\x09" + TWO[236:]
+    of_samples("two functions of one name", b"f0000:1:0\n 0: 1\n 1: 0\n 2: 0\n 2.2: 0\n 3: 0\n 3.2: 0\n 4: 0\n 2.1: g:0\n  1: 0\n 3.1: g:0\n  1: 0\n", once, ends, alike)
+
+
+def words_of_both():
+    """Two words are a binary and a profile, also where the first is `profile`; behind it three are a binary and its samples."""
+    text = known.TWO_SAMPLES
+    both = (DONE, F + report(3, 5, 1, 4), b"")
+    judge("a binary of this name", (DONE, F, b""), ["profile", "prof"], profile=ONE, prof=F)
+    judge("and with an option", (DONE, F.replace(b"2.2: 2", b"2.1: 0\n 2.2: 2").replace(b" 2.1: g", b" 2: g:0\n  1: 0\n 2.1: g"), b""),
+          ["--base", "profile", "prof"], profile=ONE, prof=F)
+    judge("one of its name behind it", both, ["profile", "profile", "perf"], profile=ONE, perf=text)
+    judge("a text of its name", both, ["profile", "bin", "profile"], bin=ONE, profile=text)
+    for title, words in (
+        ("one word", "profile"), ("four words", "profile bin perf perf"), ("an option in front", "--base profile bin perf"), ("one of `build`", "profile --edges bin perf"),
+        ("an option twice", "profile --base --base bin perf"), ("two names", "profile --map=/x --map=/x bin perf"), ("no name", "profile --map= bin perf"),
+        ("an option behind", "profile bin perf --base"), ("an option and one word", "profile --base bin"), ("another command", "build bin perf"),
+    ):
+        judge(title, (BAD_WORDS, b"", USAGE), words.split(), bin=ONE, perf=text)
+    refused = lambda file, at, kind: (REFUSED, b"", b"refused: file %d at %d: %s\n" % (file, at, kind))
+    judge("no binary", (MISSING, b"", b"no such file: 1\n"), ["profile", "bin", "perf"], perf=text)
+    judge("no text", (MISSING, b"", b"no such file: 2\n"), ["profile", "bin", "perf"], bin=ONE)
+    judge("a bad binary comes first", refused(1, 0, b"NotElf"), ["profile", "bin", "perf"], bin=b"ELF")
+    judge("a profile is no branch text", refused(2, 1, b"BadLine"), ["profile", "bin", "perf"], bin=ONE, perf=F)
+
+
+PARTS = [by_hand, with_count_0, refusals, again, sampled, words_of_both]

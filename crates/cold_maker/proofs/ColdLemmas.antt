@@ -17,14 +17,14 @@ use Rattle.binary_places.specs.Binary.{IsPlaced}
 use Rattle.binary_places.specs.declared.binary.Placed.{Placed}
 use Rattle.context_map.specs.Maps.{place_told}
 use Rattle.cold_model.proofs.ColdLemmas.{same_lines}
-use Rattle.cold_model.specs.Cold.{cold_lines_of, stands_in, told_cold}
+use Rattle.cold_model.specs.Cold.{cold_lines_of, standing_lines_of, stands_in, told_cold}
 use Rattle.key_types.specs.Segments.{HasSegment, segment_at, span_of}
 use Rattle.key_types.specs.declared.key.Key.{Key}
 use Rattle.key_types.specs.declared.places.Seg.{Seg}
-use Rattle.output_model.specs.Cold.{cold_lines, cold_output}
+use Rattle.output_model.specs.Cold.{cold_lines, cold_output, sampled_lines, sampled_text}
 use Rattle.output_model.specs.Program.{program_of}
 use Rattle.output_model.specs.Program as program_told
-use Rattle.output_model.specs.Sampled.{all_addresses}
+use Rattle.output_model.specs.Sampled.{all_addresses, profile_of}
 use Rattle.profile_laws.proofs.OnceLemmas.{way_told}
 use Rattle.profile_lists.specs.Laws.{place_by}
 use Rattle.profile_maker.specs.Asked.{lack_of}
@@ -38,14 +38,18 @@ use Rattle.profile_model.specs.Profile.{Profile, total_of_function}
 use Rattle.profile_model.specs.Spelled.{profile_by, spelled}
 use Rattle.profile_model.specs.Text.{text_of_lines}
 use Rattle.profile_model.specs.Ways.{Way}
+use Rattle.profile_report.specs.Told.{Tells}
 use Rattle.profile_text.specs.Draft.{Kept}
 use Rattle.profile_text.specs.Text.{TellText}
 use Rattle.profile_text.specs.declared.item.Item.{Item}
 use Rattle.profile_text.specs.declared.item.What.TheVariants.{Count}
 use Rattle.profile_tree.proofs.ListLemmas.{Among, among_filter, among_filter_back, among_has, among_map, among_map_back, among_range, bool_same, has_among, kept_among, kept_from, range_among}
 use Rattle.profile_tree.specs.Said.{way_at}
+use Rattle.profile_tree.specs.Told.{told}
 use Rattle.profile_writer.proofs.CountLemmas.{key_of_way, way_of_key}
+use Rattle.profile_writer.specs.Profile.{IsProfileWithCold, Parts}
 use Rattle.profile_writer.specs.Told.{TellsPlace}
+use Rattle.report_model.specs.Report.{Classes, Sampled, report_text}
 use Rattle.cold_maker.specs.Besides.{counted, first_ways}
 use Rattle.span_cover.specs.Asked.{asks}
 
@@ -143,6 +147,27 @@ module _ (bytes : List ℕ) (base : Bool) (placed : Placed) (is : IsPlaced bytes
         (λ e. among_has cmp t z all (kept_both (stands_in p) ways places there z (has_among cmp t z one e)))
         (λ e. among_has cmp t z one (kept_both (stands_in p) places ways back z (has_among cmp t z all e))))
         ∙ sym (list_any-append (eq_by_cmp cmp z) told all))
+
+    -- So are the lines of those alone whose functions stand there.
+    pub standing_are : standing_lines_of ways p ≡ standing_lines_of places p
+    standing_are =
+        let cmp = way_cmp (total_of_function p) in
+        let t = ways_tell_apart (total_of_function p) in
+        let one = filter (stands_in p) ways in
+        let all = filter (stands_in p) places in
+        same_lines p one all
+        (λ z. bool_same (has cmp z one) (has cmp z all)
+        (λ e. among_has cmp t z all (kept_both (stands_in p) ways places there z (has_among cmp t z one e)))
+        (λ e. among_has cmp t z one (kept_both (stands_in p) places ways back z (has_among cmp t z all e))))
+
+  -- What is written of samples is what the definition says.
+  pub sampled_is : (sampled : Sampled) (parts : Parts) (text : List ℕ) → IsProfileWithCold (program_of bytes base) sampled placed.names placed.keys parts
+      → ((classes : Classes) (s : Sampled) → Tells classes s parts.branches parts.ranges parts.units → text ≡ text_of_lines (map (told placed.names) parts.lines) ++ report_text classes s)
+      → text ≡ sampled_text (program_of bytes base) sampled
+  unfolding sampled_lines sampled_text
+  sampled_is sampled parts text made spelled =
+      spelled made.classes sampled made.classed
+      ∙ (λ i. text_of_lines ((made.written ∙ standing_are (profile_of (program_of bytes base) sampled)) i) ++ made.reported i)
 
   pub output_is : (text : List ℕ) → text_of_lines (cold_lines_of (first_ways placed.names placed.keys (length placed.keys)) (spelled text)) ≡ cold_output base bytes text
   output_is text = ap text_of_lines (lines_are (spelled text))

@@ -4,17 +4,12 @@ use Rattle.std.specs.Prelude.{ℕ, ◌==◌, nat_lt, Bool, false, ◌&&◌, List
 use Rattle.std.specs.List.{filter_map, list_any, range_with_len}
 use Rattle.key_types.specs.declared.ids.KeyId.{KeyId}
 use Rattle.key_types.specs.declared.key.Key.{Key}
-use Rattle.profile_model.specs.Ways.{Way}
 use Rattle.profile_text.specs.Numbers.{root_at, root_of}
 use Rattle.profile_text.specs.declared.item.Item.{Item}
 use Rattle.profile_text.specs.declared.item.What.{What}
 use Rattle.profile_text.specs.declared.item.What.TheVariants.{Head, Count, Target}
-use Rattle.profile_tree.specs.Said.{way_at}
 pub use Rattle.profile_text.specs.Numbers.{counted}
-
--- The ways of the first keys.
-abbrev pub first_ways : List (List ℕ) → List Key → ℕ → List Way
-first_ways names keys known = map (way_at names keys) (range_with_len 0 known)
+pub use Rattle.profile_tree.specs.Standing.{first_ways}
 
 -- A function stands in the profile of some numbers: one above 0 is of it.
 abbrev pub stands : List Key → List Item → ℕ → Bool

@@ -27,6 +27,11 @@ stands_in p way = list_any (same_function way) (recorded p ++ entered p)
 abbrev pub told_cold : Profile → List Way
 told_cold p = map (λ c. c.0) (filter (λ c. c.1 == 0) p.counts)
 
+-- The lines of a profile in which each of these keys whose function stands there has one. Other keys of which it tells
+-- the count 0 have none.
+abbrev pub standing_lines_of : List Way → Profile → List Line
+standing_lines_of keys p = lines_with (filter (stands_in p) keys) p
+
 -- The lines of a profile in which each key of which it tells the count 0 keeps its line, and each of these keys whose
 -- function stands there has one.
 abbrev pub cold_lines_of : List Way → Profile → List Line

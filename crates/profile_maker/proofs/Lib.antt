@@ -1,3 +1,4 @@
+pub mod AllLemmas
 pub mod SegmentLemmas
 pub mod NameLemmas
 pub mod ShownLemmas

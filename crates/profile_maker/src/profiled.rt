@@ -1,5 +1,5 @@
 // The profile of a binary, by what was counted of a branch text.
-ghost use Rattle.std.specs.Prelude.{◌≡◌, ◌≤◌, ℕ, Bool, List, Option, length, map, true, IfOk};
+ghost use Rattle.std.specs.Prelude.{◌≡◌, ◌≤◌, ℕ, Bool, List, Option, [], length, map, true, IfOk};
 ghost use Rattle.std.specs.List.{All};
 ghost use Rattle.std.specs.List.Sorted.{IsSorted};
 ghost use Rattle.binary_places.specs.Binary.{IsBinary, IsPlaced};
@@ -13,7 +13,7 @@ ghost use Rattle.sample_model.specs.Moves.{LoadMap, branches_by, ranges_by};
 ghost use Rattle.output_model.specs.Output.{sampled_by};
 ghost use Rattle.output_model.specs.Program.{program_of};
 ghost use Rattle.profile_tree.specs.Told.{IsOf};
-ghost use Rattle.profile_writer.specs.Profile.{IsProfileOf};
+ghost use Rattle.profile_writer.specs.Profile.{IsProfileOf, IsProfileWithCold};
 ghost use Rattle.profile_writer.specs.Told.{TellsSampled};
 ghost use Rattle.report_model.specs.Report.{Sampled};
 ghost use Rattle.span_cover.specs.Stretches.{function_at};
@@ -72,16 +72,64 @@ pub fn profile_of<'a>(
     ensures names { IfOk result (λ made. All (IsOf made.placed.names) made.profile.lines) }
     ensures few { IfOk result (λ made. total_in made.branches.items ≤ max_branches) }
 {
-    let units = Units {
-        read: binary.read as u64,
-        passed: binary.passed as u64,
-    };
+    let units = units_of(&binary);
     let Rows {
         branches,
         ranges,
         total,
     } = rows_of(alloc, counts)?;
     profile_by_rows(alloc, binary, branches, total, &ranges, units, funs)
+}
+
+/// The same with a line for each key whose function stands in the profile, with count 0 where it
+/// has neither a count nor a target. All places of the binary are made.
+///
+/// # Errors
+/// `NoMemory`.
+pub fn profile_with_cold<'a>(
+    alloc: Global,
+    binary: Binary<'a>,
+    counts: Counts,
+) -> Result<Profiled<'a>, NoMemory>
+    requires { (file : List ℕ) × (base : Bool) × IsBinary file base binary }
+    ensures told { IfOk result (λ made. (file : List ℕ) (base : Bool) (loading : Option LoadMap)
+        (lines : List (List ℕ)) → IsBinary file base binary.entry → counts.with_ranges ≡ true
+        → Tells loading lines counts
+        → IsPlaced file base [] made.placed
+        × IsProfileWithCold (program_of file base) (sampled_by loading file lines)
+        made.placed.names made.placed.keys made.profile) }
+    ensures names { IfOk result (λ made. All (IsOf made.placed.names) made.profile.lines) }
+{
+    let units = units_of(&binary);
+    let Rows {
+        branches,
+        ranges,
+        total,
+    } = rows_of(alloc, counts)?;
+    let placed = all_places(alloc, binary)?;
+    let samples = Samples {
+        branches: &branches,
+        ranges: &ranges,
+        units,
+    };
+    let profile = profile_over_all(alloc, &samples, &placed)?;
+    Ok(Profiled {
+        profile,
+        placed,
+        branches,
+        total,
+    })
+}
+
+/// How many units of a binary were read, and how many passed over.
+fn units_of(binary: &Binary<'_>) -> Units
+    ensures read { result.read ≡ binary.now.read }
+    ensures passed { result.passed ≡ binary.now.passed }
+{
+    Units {
+        read: binary.read as u64,
+        passed: binary.passed as u64,
+    }
 }
 
 /// The rows of branches, by source and then by target, and of sampled ranges.
@@ -169,6 +217,43 @@ fn profile_over(
         &placed.keys,
         &placed.names,
     )
+}
+
+/// The profile of these samples over all places of a binary, with the lines that never ran.
+fn profile_over_all(
+    alloc: Global,
+    samples: &Samples<'_>,
+    placed: &Placed<'_>,
+) -> Result<Profile, NoMemory>
+    requires placed { (file : List ℕ) × (base : Bool) × IsPlaced file base [] placed.now }
+    requires few_branches { total_in samples.now.branches.now ≤ max_branches }
+    requires few_ranges { total_in samples.now.ranges.now ≤ max_branches }
+    ensures told { IfOk result (λ profile. (file : List ℕ) (base : Bool) (sampled : Sampled)
+        → IsPlaced file base [] placed.now
+        → TellsSampled sampled samples.now.branches.now samples.now.ranges.now samples.now.units
+        → IsProfileWithCold (program_of file base) sampled placed.now.names placed.now.keys
+        profile) }
+    ensures names { IfOk result (λ profile. All (IsOf placed.now.names) profile.lines) }
+{
+    let map = &placed.map;
+    Profile::make_with_cold(
+        alloc,
+        samples,
+        map,
+        map.segments(),
+        &placed.keys,
+        &placed.names,
+    )
+}
+
+/// All places of a binary.
+fn all_places<'a>(alloc: Global, binary: Binary<'a>) -> Result<Placed<'a>, NoMemory>
+    requires { (file : List ℕ) × (base : Bool) × IsBinary file base binary }
+    ensures { IfOk result (λ placed. (file : List ℕ) (base : Bool)
+        → IsBinary file base binary.entry → IsPlaced file base [] placed) }
+{
+    let asked = Asked::all(alloc);
+    places(alloc, binary, &asked)
 }
 
 /// The places of a binary that these samples and functions ask for.

@@ -1,5 +1,5 @@
 -- The numbers of a profile text, as counts, calls and heads.
-use Rattle.std.specs.Prelude.{ℕ, ◌<◌, ⊤, List, length, map, slice_get, Option, None, Some}
+use Rattle.std.specs.Prelude.{ℕ, ◌<◌, ⊤, List, length, map, Option, None, Some}
 use Rattle.std.specs.List.{All, AllByRecursion}
 use Rattle.key_types.specs.declared.key.Key.{Key}
 use Rattle.profile_laws.specs.Once.{StandOnce}
@@ -13,6 +13,7 @@ use Rattle.profile_text.specs.declared.item.What.TheVariants.{Head, Count, Targe
 use Rattle.profile_tree.specs.Known.{HasNames}
 use Rattle.profile_tree.specs.declared.head.Head.{Head as Entries}
 use Rattle.profile_tree.specs.declared.key_count.KeyCount.{KeyCount}
+pub use Rattle.profile_tree.specs.Standing.{root_at, root_of_given}
 
 -- Items are of so many names and of these keys, whose names are among those, and no two tell of the same.
 pub record AreNumbersOf (names : ℕ) (keys : List Key) (items : List Item) : Type 0 where
@@ -52,14 +53,6 @@ abbrev pub HasKey : ℕ → What → Type 0
 HasKey keys (Head name) = ⊤
 HasKey keys (Count key) = key.0 < keys
 HasKey keys (Target key callee) = key.0 < keys
-
--- The number of the function of a key; one that was not given has none, which is told as 0.
-abbrev pub root_of_given : Option Key → ℕ
-root_of_given None = 0
-root_of_given (Some key) = key.root.0
-
-abbrev pub root_at : List Key → ℕ → ℕ
-root_at keys id = root_of_given (slice_get keys id)
 
 -- The function that a number is of.
 abbrev pub root_of : List Key → What → ℕ

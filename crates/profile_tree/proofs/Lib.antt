@@ -3,6 +3,7 @@ pub mod ItemLemmas
 pub mod LineLemmas
 pub mod ListLemmas
 pub mod RowLemmas
+pub mod StandingLemmas
 pub mod StatedLemmas
 pub mod SumLemmas
 pub mod TargetLemmas

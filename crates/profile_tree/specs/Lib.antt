@@ -2,6 +2,7 @@ pub mod Items
 pub mod Known
 pub mod Rows
 pub mod Said
+pub mod Standing
 pub mod Stated
 pub mod Steps
 pub mod Sums

@@ -4,9 +4,10 @@ ghost use Rattle.profile_model.specs.Steps.{hits_by};
 ghost use Rattle.profile_lists.specs.Segments.{AllFit};
 ghost use Rattle.key_types.specs.Segments.{AreSegments};
 ghost use Rattle.key_types.specs.Numbers.{IsNumbered};
-ghost use Rattle.cold_model.specs.Cold.{lines_with};
+ghost use Rattle.cold_model.specs.Cold.{lines_with, standing_lines_of};
 ghost use Rattle.profile_model.specs.Profile.{lines_of};
 ghost use Rattle.profile_tree.specs.Said.{AreCountsOfPlaces, said, stated, ways_said};
+ghost use Rattle.profile_tree.specs.Standing.{first_ways};
 ghost use Rattle.profile_tree.specs.Stated.{AreGiven, AreStated, AreSummed};
 ghost use Rattle.profile_tree.specs.Sums.{AreEach, calls_of, count_stated, entries_of};
 ghost use Rattle.profile_tree.specs.Told.{IsOf, told};
@@ -18,6 +19,7 @@ use crate::key_count::KeyCount;
 use crate::line::Line;
 use crate::lines::{Parts, lines_of};
 use crate::order::{by_name, by_total};
+use crate::standing::standing_keys;
 use crate::sums::{heads_of, stated_of, totals_of};
 use crate::tree::Tree;
 use item_lists::Items;
@@ -65,6 +67,46 @@ pub fn build(
     names.each_once();
     let counts = counts_of(alloc, segments, hits, keys.len())?;
     let lines = lines_of_counts(alloc, &counts, calls, &[], heads, keys, names)?;
+    Ok(Tree {
+        lines: Items::new(lines),
+        counts: Items::new(counts),
+    })
+}
+
+/// The same, where each key has a line whose function stands there: with count 0 where it has
+/// neither a count nor a target.
+///
+/// # Errors
+/// `NoMemory`.
+pub fn build_with_cold(
+    alloc: Global,
+    segments: &[Seg],
+    hits: &Hits,
+    calls: &[Call],
+    heads: &[Head],
+    keys: &Keys,
+    names: &Names,
+) -> Result<Tree, NoMemory>
+    requires segments { AreSegments segments.now }
+    requires fit { AllFit (length keys.now) segments.now }
+    requires hits { (a : ℕ) → hits_by hits.now a < 2 ^ 32 }
+    requires given { AreGiven (length names.now) keys.now calls.now heads.now }
+    requires call_sums { (key callee : ℕ) → calls_of calls.now key callee < 2 ^ 64 }
+    requires head_sums { (name : ℕ) → entries_of heads.now name < 2 ^ 64 }
+    ensures lines { IfOk result (λ tree. map (told names.now) tree.lines
+        ≡ standing_lines_of (first_ways names.now keys.now (length keys.now))
+        (said names.now keys.now tree.counts calls.now heads.now)) }
+    ensures names { IfOk result (λ tree. All (IsOf names.now) tree.lines) }
+    ensures counts { IfOk result (λ tree.
+        AreCountsOfPlaces segments.now (hits_by hits.now) tree.counts) }
+    ensures len { IfOk result (λ tree. length tree.counts ≡ length keys.now) }
+    ensures small { IfOk result (λ tree. All (λ count. count < 2 ^ 44) tree.counts) }
+{
+    keys.each_once();
+    names.each_once();
+    let counts = counts_of(alloc, segments, hits, keys.len())?;
+    let cold = standing_keys(alloc, &counts, calls, heads, keys, keys.len(), names.len())?;
+    let lines = lines_of_counts(alloc, &counts, calls, &cold, heads, keys, names)?;
     Ok(Tree {
         lines: Items::new(lines),
         counts: Items::new(counts),

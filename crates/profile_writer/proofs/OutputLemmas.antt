@@ -3,6 +3,7 @@ use Rattle.std.proofs.Common.{◌≡◌, ◌<◌, ℕ, ◌+◌, ◌^◌, nat_lt,
 use Rattle.std.proofs.lemmas.List.Sums.{sum_by-cons}
 use Rattle.std.specs.List.{All, filter_map}
 use Rattle.std.proofs.lemmas.Bool.Decides.{nat_tests}
+use Rattle.cold_model.specs.Cold.{standing_lines_of}
 use Rattle.profile_model.specs.Hits.{hits_at}
 use Rattle.key_types.specs.Numbers.{IsNumbered}
 use Rattle.key_types.specs.declared.ids.NameId.{NameId}
@@ -15,15 +16,18 @@ use Rattle.report_model.specs.declared.class.RangeClass.{RangeClass}
 use Rattle.report_model.specs.Branches.{branch_class}
 use Rattle.report_model.specs.Ranges.{range_class}
 use Rattle.profile_laws.proofs.CountLemmas.{lines_are_by_counts}
+use Rattle.profile_laws.specs.Counts.{CountTheSame}
 use Rattle.profile_model.specs.Profile.{lines_of}
 use Rattle.profile_model.specs.Text.{text_of_lines}
 use Rattle.profile_report.specs.Classed.{classed_by}
 use Rattle.profile_report.specs.declared.classed.Classed.{Classed}
 use Rattle.profile_report.specs.declared.report.Units.{Units}
 use Rattle.profile_tree.proofs.ListLemmas.{Among, range_among}
+use Rattle.profile_tree.proofs.StandingLemmas.{standing_lines_by_counts}
 use Rattle.profile_tree.proofs.SumLemmas.{Given}
 use Rattle.profile_tree.specs.Known.{HasNames}
 use Rattle.profile_tree.specs.Said.{AreCountsOfPlaces, said}
+use Rattle.profile_tree.specs.Standing.{first_ways}
 use Rattle.profile_tree.specs.Told.{told}
 use Rattle.profile_tree.specs.declared.line.Line.{Line}
 use Rattle.profile_tree.specs.declared.line.Line.TheVariants.{Function, Body, Call}
@@ -36,7 +40,7 @@ use Rattle.profile_writer.proofs.BranchLemmas.{heads_alike, rows_given, targets_
 use Rattle.profile_writer.proofs.ClassLemmas.{classes_told, report_alike}
 use Rattle.profile_writer.proofs.CountLemmas.{counted_alike, counts_alike, hits_alike, passed_alike}
 use Rattle.profile_writer.specs.Items.{call_in, head_in, ran_in}
-use Rattle.profile_writer.specs.Profile.{IsProfileOf, total_of_line}
+use Rattle.profile_writer.specs.Profile.{IsProfileOf, IsProfileWithCold, total_of_line}
 use Rattle.profile_writer.specs.Told.{TellsProgram, TellsSampled}
 
 -- a line has its total as it is told
@@ -73,21 +77,28 @@ module _ (program : Program) (sampled : Sampled) (all : List (List ℕ)) (keys :
   hits_are : hits_at (filter_map ran_in ranges) ≡ hits_of program sampled
   hits_are = λ i address. hits_alike program sampled function range_rows shown.functions rows.of_ranges address i
 
-  pub lines_alike : (counts : List ℕ) → Given all keys (filter_map (call_in place) branches) (filter_map head_in branches)
+  said_the_same : (counts : List ℕ) → Given all keys (filter_map (call_in place) branches) (filter_map head_in branches)
       → length counts ≡ length keys → AreCountsOfPlaces segments (hits_at (filter_map ran_in ranges)) counts
       → ((address : ℕ) → nat_lt address (2 ^ 64) ≡ false → hits_at (filter_map ran_in ranges) address ≡ 0)
-      → lines_of (said all keys counts (filter_map (call_in place) branches) (filter_map head_in branches)) ≡ lines_of (profile_of program sampled)
+      → CountTheSame (said all keys counts (filter_map (call_in place) branches) (filter_map head_in branches)) (profile_of program sampled)
   unfolding profile_of
-  lines_alike counts given len are beyond =
+  said_the_same counts given len are beyond =
       let calls = filter_map (call_in place) branches in
       let heads = filter_map head_in branches in
-      lines_are_by_counts (said all keys counts calls heads) (profile_of program sampled)
-      (record {
+      record {
         keys = counts_alike program sampled all keys segments place function entered shown all_addresses address_inside (λ address far. sym (ap (λ f. f address) hits_are) ∙ beyond address far) counts calls heads given len
             (subst (λ f. AreCountsOfPlaces segments f counts) hits_are are);
         targets = targets_alike program all keys segments place function entered shown sampled.branches branch_rows rows.of_branches counts heads;
         heads = heads_alike program all keys segments place function entered shown sampled.branches branch_rows rows.of_branches counts calls;
-      })
+      }
+
+  pub lines_alike : (counts : List ℕ) → Given all keys (filter_map (call_in place) branches) (filter_map head_in branches)
+      → length counts ≡ length keys → AreCountsOfPlaces segments (hits_at (filter_map ran_in ranges)) counts
+      → ((address : ℕ) → nat_lt address (2 ^ 64) ≡ false → hits_at (filter_map ran_in ranges) address ≡ 0)
+      → lines_of (said all keys counts (filter_map (call_in place) branches) (filter_map head_in branches)) ≡ lines_of (profile_of program sampled)
+  lines_alike counts given len are beyond =
+      lines_are_by_counts (said all keys counts (filter_map (call_in place) branches) (filter_map head_in branches)) (profile_of program sampled)
+      (said_the_same counts given len are beyond)
 
   -- what is made is the profile
   pub profile_alike : (bs : List (Classed Class)) → bs ≡ branches → (rs : List (Classed RangeClass)) → rs ≡ ranges
@@ -130,4 +141,44 @@ module _ (program : Program) (sampled : Sampled) (all : List (List ℕ)) (keys :
         counted = counted_alike program sampled all keys segments place function entered shown all_addresses address_inside (λ address far. sym (ap (λ f. f address) hits_are) ∙ none_beyond address far) counts
             (filter_map (call_in place) branches) (filter_map head_in branches) given len (subst (λ f. AreCountsOfPlaces segments f counts) hits_are counts_told);
         passing = ap (λ (xs : List (Classed RangeClass)). passed (filter_map ran_in xs)) ds_are ∙ passed_alike program sampled function range_rows shown.functions rows.of_ranges;
+      }
+
+  -- so is what is made with the lines that never ran
+  pub cold_alike : (bs : List (Classed Class)) → bs ≡ branches → (rs : List (Classed RangeClass)) → rs ≡ ranges
+      → IsNumbered all → IsNumbered keys → All (HasNames (length all)) keys
+      → (lines : List Line) (counts : List ℕ)
+      → map (told all) lines ≡ standing_lines_of (first_ways all keys (length keys)) (said all keys counts (filter_map (call_in place) bs) (filter_map head_in bs))
+      → length counts ≡ length keys → AreCountsOfPlaces segments (hits_at (filter_map ran_in rs)) counts
+      → ((address : ℕ) → nat_lt address (2 ^ 64) ≡ false → hits_at (filter_map ran_in rs) address ≡ 0)
+      → (cs : List (Classed Class)) → cs ≡ branches → (ds : List (Classed RangeClass)) → ds ≡ ranges
+      → IsProfileWithCold program sampled all keys (record { lines = lines; counts = counts; branches = cs; ranges = ds; units = units })
+  cold_alike bs bs_are rs rs_are names_apart keys_apart key_names lines counts lines_are len counts_are beyond cs cs_are ds ds_are =
+      let given : Given all keys (filter_map (call_in place) branches) (filter_map head_in branches) = record {
+        names_apart = names_apart;
+        keys_apart = keys_apart;
+        given = rows_given program all keys segments place function entered shown branch_rows key_names branches refl;
+      } in
+      let counts_told : AreCountsOfPlaces segments (hits_at (filter_map ran_in ranges)) counts =
+      subst (λ (xs : List (Classed RangeClass)). AreCountsOfPlaces segments (hits_at (filter_map ran_in xs)) counts) rs_are counts_are in
+      let none_beyond : (address : ℕ) → nat_lt address (2 ^ 64) ≡ false → hits_at (filter_map ran_in ranges) address ≡ 0 =
+      λ address far. ap (λ (xs : List (Classed RangeClass)). hits_at (filter_map ran_in xs) address) (sym rs_are) ∙ beyond address far in
+      let ways = first_ways all keys (length keys) in
+      record {
+        written = lines_are
+            ∙ ap (λ (xs : List (Classed Class)). standing_lines_of ways (said all keys counts (filter_map (call_in place) xs) (filter_map head_in xs))) bs_are
+            ∙ standing_lines_by_counts ways (said all keys counts (filter_map (call_in place) branches) (filter_map head_in branches)) (profile_of program sampled)
+            (said_the_same counts given len counts_told none_beyond);
+        classes = classes_told place function entered;
+        classed = record {
+          branch_rows = branch_rows;
+          range_rows = range_rows;
+          branches_are = cs_are;
+          ranges_are = ds_are;
+          of_branches = rows.of_branches;
+          of_ranges = rows.of_ranges;
+          in_order = rows.in_order;
+          read = rows.read;
+          passed = rows.passed;
+        };
+        reported = report_alike program all keys segments place function entered shown sampled;
       }

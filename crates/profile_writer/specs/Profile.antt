@@ -1,8 +1,10 @@
 -- A profile with the branches and ranges that it came of.
-use Rattle.std.specs.Prelude.{◌≡◌, ◌<◌, ◌≤◌, ◌^◌, ℕ, List, All, map, slice_index}
+use Rattle.std.specs.Prelude.{◌≡◌, ◌<◌, ◌≤◌, ◌^◌, ℕ, List, All, length, map, slice_index}
 use Rattle.std.specs.List.{filter_map, sum_by}
 use Rattle.std.specs.Option.{option_map}
+use Rattle.cold_model.specs.Cold.{standing_lines_of}
 use Rattle.key_types.specs.Segments.{key_told}
+use Rattle.key_types.specs.declared.key.Key.{Key}
 use Rattle.key_types.specs.declared.places.Seg.{Seg}
 use Rattle.sample_model.specs.Limits.{max_branches}
 use Rattle.profile_model.specs.Profile.{lines_of}
@@ -20,6 +22,7 @@ use Rattle.profile_report.specs.Classed.{all_times}
 use Rattle.profile_report.specs.Told.{Tells}
 use Rattle.profile_report.specs.declared.classed.Classed.{Classed}
 use Rattle.profile_report.specs.declared.report.Units.{Units}
+use Rattle.profile_tree.specs.Standing.{first_ways}
 use Rattle.profile_tree.specs.Told.{told}
 use Rattle.profile_tree.specs.declared.line.Line.{Line}
 use Rattle.profile_tree.specs.declared.line.Line.TheVariants.{Function, Body, Call}
@@ -72,3 +75,14 @@ pub record IsProfileOf
       → option_map (λ key. slice_index parts.counts key.0) (key_told segments address)
       ≡ option_map (count_of_way program sampled) (way_at program address)
   pub passing : passed (ran parts) ≡ ran_past program sampled
+
+-- The parts are those of the profile of a program and its samples with a line for each of these keys whose function
+-- stands there: the lines and the report are theirs.
+pub record IsProfileWithCold
+    (program : Program) (sampled : Sampled) (names : List (List ℕ)) (keys : List Key) (parts : Parts)
+    : Type 0 where
+  pub written : map (told names) parts.lines
+      ≡ standing_lines_of (first_ways names keys (length keys)) (profile_of program sampled)
+  pub classes : Classes
+  pub classed : Tells classes sampled parts.branches parts.ranges parts.units
+  pub reported : report_text classes sampled ≡ report_text (classes_of program) sampled

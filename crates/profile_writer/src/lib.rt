@@ -4,6 +4,7 @@
 //! `Profile` classes the sampled branches and ranges once, and counts how often addresses ran, what
 //! was called and what was entered. It appends the lines that come of these and the report, tells
 //! their totals, and lends the counts of keys and the ranges that ran to what is weighed by them.
+//! `Profile::make_with_cold` makes it with the lines that never ran, in the functions that it has.
 #![tactic(auto)]
 
 mod counted;

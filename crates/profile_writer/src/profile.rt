@@ -11,12 +11,12 @@ ghost use Rattle.profile_tree.specs.Told.{IsOf};
 ghost use Rattle.report_model.specs.Report.{Classes, Sampled, report_text};
 ghost use Rattle.sample_model.specs.Limits.{max_branches};
 ghost use Rattle.output_model.specs.Program.{Program};
-ghost use Rattle.profile_writer.specs.Profile.{IsProfileOf, lines_text, ran as ranges_run, total_of, total_of_line};
+ghost use Rattle.profile_writer.specs.Profile.{IsProfileOf, IsProfileWithCold, lines_text, ran as ranges_run, total_of, total_of_line};
 ghost use Rattle.profile_writer.specs.Told.{TellsProgram, TellsSampled};
 
 use crate::counted::ran_of;
 use crate::samples::Samples;
-use crate::tree::tree_of;
+use crate::tree::{tree_of, tree_with_cold};
 use branch_class::{Class, RangeClass};
 use key_types::{Keys, Names, Places, Seg};
 use profile_report::{Classed, Units, class_branches, class_ranges};
@@ -92,6 +92,46 @@ impl Profile {
         let branches = class_branches(alloc, samples.branches, places)?;
         let ranges = class_ranges(alloc, samples.ranges, places)?;
         let tree = tree_of(alloc, &branches, &ranges, places, segments, keys, names)?;
+        Ok(Profile {
+            tree,
+            branches,
+            ranges,
+            units: samples.units,
+        })
+    }
+
+    /// The same, where each key has a line whose function stands there: with count 0 where it has
+    /// neither a count nor a target.
+    ///
+    /// # Errors
+    /// `NoMemory`.
+    pub fn make_with_cold<P: Places>(
+        alloc: Global,
+        samples: &Samples<'_>,
+        places: &P,
+        segments: &[Seg],
+        keys: &Keys,
+        names: &Names,
+    ) -> Result<Profile, NoMemory>
+        requires segments { AreSegments segments.now }
+        requires fit { AllFit (length keys.now) segments.now }
+        requires key_names { All (HasNames (length names.now)) keys.now }
+        requires few_branches { total_in samples.now.branches.now ≤ max_branches }
+        requires few_ranges { total_in samples.now.ranges.now ≤ max_branches }
+        requires shown { (program : Program) × TellsProgram program names.now keys.now segments.now
+            (P.place_of places.now) (P.function_of places.now) (P.entry_name_of places.now) }
+        ensures told { IfOk result (λ profile. (program : Program) (sampled : Sampled)
+            → TellsProgram program names.now keys.now segments.now
+            (P.place_of places.now) (P.function_of places.now) (P.entry_name_of places.now)
+            → TellsSampled sampled samples.now.branches.now samples.now.ranges.now samples.now.units
+            → IsProfileWithCold program sampled names.now keys.now profile) }
+        ensures names { IfOk result (λ profile. All (IsOf names.now) profile.lines) }
+    {
+        keys.each_once();
+        names.each_once();
+        let branches = class_branches(alloc, samples.branches, places)?;
+        let ranges = class_ranges(alloc, samples.ranges, places)?;
+        let tree = tree_with_cold(alloc, &branches, &ranges, places, segments, keys, names)?;
         Ok(Profile {
             tree,
             branches,

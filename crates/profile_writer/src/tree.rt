@@ -1,12 +1,14 @@
 // The lines of a profile, from classed branches and ranges.
 ghost use Rattle.std.specs.Prelude.{◌≡◌, ◌<◌, ◌≤◌, ◌^◌, ℕ, All, IfOk, OnOk, false, length, map, nat_lt};
 ghost use Rattle.std.specs.List.{filter_map};
+ghost use Rattle.cold_model.specs.Cold.{standing_lines_of};
 ghost use Rattle.profile_model.specs.Hits.{AreRanges, hits_at};
 ghost use Rattle.profile_lists.specs.Segments.{AllFit};
 ghost use Rattle.key_types.specs.Segments.{AreSegments};
 ghost use Rattle.profile_model.specs.Profile.{lines_of};
 ghost use Rattle.profile_report.specs.Classed.{all_times};
 ghost use Rattle.profile_tree.specs.Said.{AreCountsOfPlaces, said};
+ghost use Rattle.profile_tree.specs.Standing.{first_ways};
 ghost use Rattle.profile_tree.specs.Stated.{AreGiven};
 ghost use Rattle.profile_tree.specs.Told.{IsOf, told};
 ghost use Rattle.sample_model.specs.Limits.{max_branches};
@@ -16,7 +18,7 @@ use crate::counted::{calls_of, heads_of, ran_of};
 use branch_class::{Class, RangeClass};
 use key_types::{Keys, Names, Places, Seg};
 use profile_report::Classed;
-use profile_tree::{Tree, build};
+use profile_tree::{Tree, build, build_with_cold};
 use range_counts::sweep;
 use refusal::NoMemory;
 use std::alloc::Global;
@@ -55,4 +57,41 @@ pub(crate) fn tree_of<P: Places>(
     let calls = calls_of(alloc, branches, places)?;
     let heads = heads_of(alloc, branches)?;
     build(alloc, segments, &hits, &calls, &heads, keys, names)
+}
+
+/// The same, where each key has a line whose function stands there.
+pub(crate) fn tree_with_cold<P: Places>(
+    alloc: Global,
+    branches: &[Classed<Class>],
+    ranges: &[Classed<RangeClass>],
+    places: &P,
+    segments: &[Seg],
+    keys: &Keys,
+    names: &Names,
+) -> Result<Tree, NoMemory>
+    requires segments { AreSegments segments.now }
+    requires fit { AllFit (length keys.now) segments.now }
+    requires given { AreGiven (length names.now) keys.now
+        (filter_map (call_in (P.place_of places.now)) branches.now)
+        (filter_map head_in branches.now) }
+    requires forward { AreRanges (filter_map ran_in ranges.now) }
+    requires few_branches { all_times branches.now ≤ max_branches }
+    requires few_ranges { all_times ranges.now ≤ max_branches }
+    ensures lines { IfOk result (λ tree. map (told names.now) tree.lines
+        ≡ standing_lines_of (first_ways names.now keys.now (length keys.now))
+        (said names.now keys.now tree.counts
+        (filter_map (call_in (P.place_of places.now)) branches.now)
+        (filter_map head_in branches.now))) }
+    ensures names { IfOk result (λ tree. All (IsOf names.now) tree.lines) }
+    ensures counts { IfOk result (λ tree. AreCountsOfPlaces segments.now
+        (hits_at (filter_map ran_in ranges.now)) tree.counts) }
+    ensures len { IfOk result (λ tree. length tree.counts ≡ length keys.now) }
+    ensures small { IfOk result (λ tree. All (λ count. count < 2 ^ 44) tree.counts) }
+    ensures beyond { OnOk result ((address : ℕ) → nat_lt address (2 ^ 64) ≡ false
+        → hits_at (filter_map ran_in ranges.now) address ≡ 0) }
+{
+    let hits = sweep(alloc, &ran_of(alloc, ranges)?)?;
+    let calls = calls_of(alloc, branches, places)?;
+    let heads = heads_of(alloc, branches)?;
+    build_with_cold(alloc, segments, &hits, &calls, &heads, keys, names)
 }

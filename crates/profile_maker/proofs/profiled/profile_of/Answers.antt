@@ -1,4 +1,4 @@
-use Rattle.std.proofs.Common.{subst, sym}
+use Rattle.std.proofs.Common.{◌∙◌, subst, sym}
 use Rattle.std.proofs.lemmas.Result.{IfOk-weaker}
 use Rattle.branch_counts.specs.Table.{Tallies}
 use Rattle.sample_model.specs.Moves.{ranges_by}
@@ -14,7 +14,7 @@ returns-clause-told c =
       of_branches = rows.0;
       of_ranges = subst (Tallies (ranges_by loading lines)) (sym c.deref.ensures.value) rows.1;
       in_order = c.in_ok-branches.ensures.sorted;
-      read = is.read_are;
-      passed = is.passed_are;
+      read = c.units_of-units.ensures.read ∙ is.read_are;
+      passed = c.units_of-units.ensures.passed ∙ is.passed_are;
     })
     rows.2) c.profile_by_rows.ensures.told

@@ -1,6 +1,7 @@
 pub mod AnswerLemmas
 pub mod BlockLemmas
 pub mod CheckedLemmas
+mod ColdLemmas
 mod CommentLemmas
 pub mod EntryLemmas
 pub mod LineLemmas

@@ -53,17 +53,17 @@ merged_again files p behind out text again wrote comments small can there =
       λ wrote_again. wrote_again ∙ ap (λ t. merge_text ((1, t) ∷ [])) is ∙ law.1,
     )
 
-output_is : (program : Program) (sampled : Sampled) (text : List ℕ) → text ≡ output_text program sampled → text ≡ profile_text (profile_of program sampled) ++ report_text (classes_of program) sampled
+pub output_is : (program : Program) (sampled : Sampled) (text : List ℕ) → text ≡ output_text program sampled → text ≡ profile_text (profile_of program sampled) ++ report_text (classes_of program) sampled
 unfolding output_text
 output_is program sampled text wrote = wrote
 
-abbrev program_in : Options → List (List ℕ) → Program
+abbrev pub program_in : Options → List (List ℕ) → Program
 program_in options contents = program_of (file_at 0 contents) options.base
 
-abbrev sampled_in : Options → List (List ℕ) → Sampled
+abbrev pub sampled_in : Options → List (List ℕ) → Sampled
 sampled_in options contents = sampled_by (loading_of options.map (file_at 0 contents)) (file_at 0 contents) (lines_of (file_at 1 contents))
 
-can_be_told : (options : Options) (contents : List (List ℕ)) → first_bad_of_text 2 (file_at 1 contents) ≡ None → CanBeWritten (profile_of (program_in options contents) (sampled_in options contents))
+pub can_be_told : (options : Options) (contents : List (List ℕ)) → first_bad_of_text 2 (file_at 1 contents) ≡ None → CanBeWritten (profile_of (program_in options contents) (sampled_in options contents))
 can_be_told options contents good = profiles_can_be_told options.map options.base (file_at 0 contents) (file_at 1 contents) 2 good
 
 pub profiled_is_merged : ProfiledIsMerged

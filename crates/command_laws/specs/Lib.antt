@@ -1,4 +1,5 @@
 pub mod Checked
+pub mod Cold
 pub mod Entries
 pub mod Laws
 pub mod Merged

@@ -1,5 +1,6 @@
 // How one command answers what another one wrote.
 ghost use Rattle.command_laws.specs.Checked.{CheckedIsLeast};
+ghost use Rattle.command_laws.specs.Cold.{ColdIsOfBoth};
 ghost use Rattle.command_laws.specs.Entries.{EntriesCount};
 ghost use Rattle.command_laws.specs.Laws.{BuiltIsAccepted};
 ghost use Rattle.command_laws.specs.Merged.{BuiltIsMerged, ProfiledIsMerged};
@@ -27,6 +28,12 @@ pub fn entries_count_in_heads_and_targets()
 /// 1, accepts it and writes its profile lines again, without the report.
 pub fn what_profile_writes_is_merged()
     ensures { ProfiledIsMerged }
+{}
+
+/// Where `profile` may write a text of at most 2^28 bytes, `pgo-cold` writes of the samples what it
+/// writes of that text, and then the report.
+pub fn cold_lines_of_samples_or_of_their_text()
+    ensures { ColdIsOfBoth }
 {}
 
 /// Where `build` may write a text of at most 2^28 bytes, `merge` of it alone, with weight 1,

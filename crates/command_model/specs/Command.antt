@@ -36,6 +36,8 @@ pub data Command : Type 0 where
   -- A profile with a line for each place of a binary, in the functions that it has. No words of `pgo` spell this: it is
   -- what `pgo-cold` does.
   cold : Options → List ℕ → List ℕ → Command
+  -- The same of the profile of a binary and a branch text, with the report on it, likewise of `pgo-cold`.
+  cold_profile : Options → List ℕ → List ℕ → Command
 
 -- The digits of an address, which stand behind `0x` or alone.
 abbrev pub digits_of : List ℕ → List ℕ

@@ -19,12 +19,12 @@ use Rattle.sample_model.specs.Samples.{branches_of}
 use Rattle.binary_model.specs.Binary.{first_bad_of_binary}
 use Rattle.binary_model.specs.Places.{place_of_address}
 use Rattle.output_model.specs.Scaled.{IsBuiltOf}
-use Rattle.output_model.specs.Cold.{cold_output}
+use Rattle.output_model.specs.Cold.{cold_output, sampled_output}
 use Rattle.output_model.specs.Lift.{lift_output}
 use Rattle.output_model.specs.Output.{profile_output}
 use Rattle.output_model.specs.Summary.{IsSummaryOf}
 use Rattle.command_model.specs.Check.{checked_text}
-use Rattle.command_model.specs.Command.{Command, bin_file, perf_file, cfg_file, counts, where_, profile, build, check, make, make_sum, merge, summary, lift, cold}
+use Rattle.command_model.specs.Command.{Command, bin_file, perf_file, cfg_file, counts, where_, profile, build, check, make, make_sum, merge, summary, lift, cold, cold_profile}
 use Rattle.command_model.specs.Counts.{counts_text}
 use Rattle.command_model.specs.Make.{case_file}
 use Rattle.command_model.specs.Where.{where_text}
@@ -128,6 +128,7 @@ files_of (lift options bin cfg out) =
     alone bin first_bad_of_binary ∷ alone cfg (first_bad_of_blocks 2)
     ∷ record { source = named out; judge = λ before. first_bad_of_built 3 (functions_in 1 before) } ∷ []
 files_of (cold options bin prof) = alone bin first_bad_of_binary ∷ alone prof (first_bad_of_profile_text 2) ∷ []
+files_of (cold_profile options bin perf) = alone bin first_bad_of_binary ∷ alone perf (first_bad_of_text 2) ∷ []
 
 -- The line of a repair text of these functions that is the first to fail its test.
 abbrev pub first_failing : List Function → List ℕ → Option ℕ
@@ -158,3 +159,5 @@ IsOutput (lift options bin cfg out) contents text =
     text ≡ lift_output options.base (file_at 0 contents) (file_at 1 contents) (file_at 2 contents)
 IsOutput (cold options bin prof) contents text =
     text ≡ cold_output options.base (file_at 0 contents) (file_at 1 contents)
+IsOutput (cold_profile options bin perf) contents text =
+    text ≡ sampled_output options.map options.base (file_at 0 contents) (file_at 1 contents)

@@ -8,6 +8,7 @@ use Rattle.case_maker.specs.declared.case.CasePart.TheVariants.{Bin, Perf, Cfg}
 use Rattle.command_model.specs.Command as model
 use Rattle.command_model.specs.Options as options
 use Rattle.command_words.specs.declared.cold.Cold.{Cold}
+use Rattle.command_words.specs.declared.cold.Cold.TheVariants.{Text, Profile as ColdProfile}
 use Rattle.command_words.specs.declared.command.Command.{Command}
 use Rattle.command_words.specs.declared.command.Command.TheVariants.{Counts, Where, Profile, Build, Check, Make, MakeSum, Merge, Summary, Lift}
 use Rattle.command_words.specs.declared.command.Part.{Part}
@@ -54,4 +55,5 @@ meaning_of (Lift said binary blocks built) = model.lift (told_options said) bina
 
 -- What `pgo-cold` is asked for, likewise.
 abbrev pub cold_meaning : Cold → model.Command
-cold_meaning said = model.cold (told_options said.options) said.binary.now said.profile.now
+cold_meaning (Text said binary profile) = model.cold (told_options said) binary.now profile.now
+cold_meaning (ColdProfile said binary perf) = model.cold_profile (told_options said) binary.now perf.now

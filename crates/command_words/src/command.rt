@@ -29,7 +29,7 @@ pub(crate) const BASE_HAS: Has = Has {
 };
 
 /// The options of `profile`.
-const PROFILE_HAS: Has = Has {
+pub(crate) const PROFILE_HAS: Has = Has {
     map: true,
     base: true,
     edges: false,

@@ -13,7 +13,7 @@ answer_of files words = answer_of_words files (cold_of words)
 
 -- The usage line.
 abbrev pub usage_text : List ℕ
-usage_text = codes "usage: pgo-cold [--base] BIN PROFILE\n"
+usage_text = codes "usage: pgo-cold [--base] BIN PROFILE, or profile [--map=NAME] [--base] BIN PERF\n"
 
 -- The line on the error output, with its line feed: that of `pgo`, but for the usage.
 abbrev pub text_of : Status → List ℕ

@@ -18,8 +18,9 @@ use io_edge::{Inputs, Sink, write_all};
 use pgo_run::Status;
 use std::alloc::Global;
 
-/// Carries out what the words ask for: reads the binary and the profile text from `inputs`, each
-/// judged before the next is opened, makes the whole profile, and then writes it to `out`.
+/// Carries out what the words ask for: reads the binary and the profile text or the branch text
+/// from `inputs`, each judged before the next is opened, makes the whole output, and then writes it
+/// to `out`.
 ///
 /// `words` are those behind the program's name. The clauses on content hold where `inputs` tells
 /// its files and `out` its bytes; `answer_of` says what the words come to over those files.

@@ -5,7 +5,8 @@ ghost use Rattle.pgo_cold.specs.Run.{text_of};
 use pgo_run::{LINE_ROOM, Status};
 
 /// The line for words that ask for nothing that the program does.
-const USAGE: &[u8] = b"usage: pgo-cold [--base] BIN PROFILE\n";
+const USAGE: &[u8] =
+    b"usage: pgo-cold [--base] BIN PROFILE, or profile [--map=NAME] [--base] BIN PERF\n";
 
 /// Writes the status's line for the error output to the front of `buf`, with its line feed, and
 /// answers how many bytes it has: none for `Done`. No memory is taken.

@@ -33,6 +33,17 @@ pub same-loading : (map : Option (Bor (List ℕ))) (loads : List LoadSegment) (b
 same-loading None loads bytes same = refl
 same-loading (Some name) loads bytes same = ap (λ segments. Some (record { name = name.now; segments = segments })) same
 
+-- What is spelled of a binary and of what was counted of a branch text.
+pub written_by : (spell : List ℕ → Bool → Option LoadMap → List (List ℕ) → List ℕ) (bytes : List ℕ) (base : Bool) (binary : Binary) (map : Option (Bor (List ℕ))) (loads : List LoadSegment) (counts : Tally) (text out : List ℕ)
+    → IsBinary bytes base binary → loads ≡ binary.loads.items
+    → ((file : List ℕ) (base : Bool) (loading : Option LoadMap) (lines : List (List ℕ)) → IsBinary file base binary → counts.with_ranges ≡ true → Tells loading lines counts
+    → out ≡ spell file base loading lines)
+    → counts.with_ranges ≡ true → Tells (option_map (λ name. record { name = name.now; segments = loads }) map) (lines_of text) counts
+    → out ≡ spell bytes base (loading_of (option_map (λ name. name.now) map) bytes) (lines_of text)
+written_by spell bytes base binary map loads counts text out is same made ranged tells =
+    made bytes base (option_map (λ name. record { name = name.now; segments = loads }) map) (lines_of text) is ranged tells
+    ∙ ap (λ l. spell bytes base l (lines_of text)) (same-loading map loads bytes (same ∙ is.loads_are))
+
 -- The output of a binary and of what was counted of a branch text.
 pub written : (bytes : List ℕ) (base : Bool) (binary : Binary) (map : Option (Bor (List ℕ))) (loads : List LoadSegment) (counts : Tally) (text out : List ℕ)
     → IsBinary bytes base binary → loads ≡ binary.loads.items
@@ -40,9 +51,7 @@ pub written : (bytes : List ℕ) (base : Bool) (binary : Binary) (map : Option (
     → out ≡ output_text (program_of file base) (sampled_by loading file lines))
     → counts.with_ranges ≡ true → Tells (option_map (λ name. record { name = name.now; segments = loads }) map) (lines_of text) counts
     → out ≡ profile_output (option_map (λ name. name.now) map) base bytes text
-written bytes base binary map loads counts text out is same made ranged tells =
-    made bytes base (option_map (λ name. record { name = name.now; segments = loads }) map) (lines_of text) is ranged tells
-    ∙ ap (λ l. output_text (program_of bytes base) (sampled_by l bytes (lines_of text))) (same-loading map loads bytes (same ∙ is.loads_are))
+written = written_by (λ file base loading lines. output_text (program_of file base) (sampled_by loading file lines))
 
 -- ---- the text, opened and judged
 

@@ -25,4 +25,5 @@ mod where_;
 pub use halt::{Halt, in_file};
 pub use order::{MAX_BINARY_BYTES, MAX_PROFILE_BYTES, read_file};
 pub use program::run;
+pub use samples::sampled;
 pub use status::{LINE_ROOM, Status, status_line};

@@ -20,7 +20,7 @@ use std::alloc::Global;
 ///
 /// # Errors
 /// Those of reading file 2, and the first bad place of its text.
-pub(crate) fn sampled<I: Inputs>(
+pub fn sampled<I: Inputs>(
     alloc: Global,
     inputs: &mut I,
     perf: &[u8],

@@ -40,7 +40,7 @@ pub good : (p : Profile) (comments : List (List ℕ)) (file : ℕ) → CanBeWrit
 good p comments file can passed =
     ap (λ kept. first_bad (items_from file [] kept)) (kept_are p comments can passed) ∙ none_refused p can file 1 [] (written p) (at_first p can)
 
-numbers_read : (p : Profile) (comments : List (List ℕ)) → CanBeWritten p → AllByRecursion IsComment comments → numbers_of (text_with p comments) ≡ numbers_told p 1 (written p)
+pub numbers_read : (p : Profile) (comments : List (List ℕ)) → CanBeWritten p → AllByRecursion IsComment comments → numbers_of (text_with p comments) ≡ numbers_told p 1 (written p)
 numbers_read p comments can passed = ap (numbers_from []) (kept_are p comments can passed) ∙ numbers_are p can 1 [] (written p) (at_first p can)
 
 pub own : (p : Profile) (comments : List (List ℕ)) → CanBeWritten p → AllByRecursion IsComment comments → (what : What) → number_in (spelled (text_with p comments)) what ≡ number_in p what

@@ -15,4 +15,4 @@ mod step;
 mod walk;
 
 pub use list::RangeParts;
-pub use ranges::ranges_of;
+pub use ranges::{Ranges, ranges_of, read_ranges};

@@ -12,6 +12,13 @@ use dwarf_strings::Bases;
 use refusal::{Place, Stop};
 use std::alloc::Global;
 
+/// The ranges that a list means, and how many entries it has, the one that ends it aside.
+#[derive(Drop)]
+pub struct Ranges {
+    pub ranges: Vec<(u64, u64)>,
+    pub entries: u64,
+}
+
 /// The ranges of addresses that a value of `DW_AT_ranges` means, in the order of their list: each
 /// from its start up to its end, which is above it. Empty ranges are left out.
 ///
@@ -28,6 +35,31 @@ use std::alloc::Global;
 ///
 /// Source: DWARF 5, sections 2.17.3, 7.25 and 7.28; DWARF 4, section 2.17.3.
 #[tactic(auto, unfolding(range_model::specs::Lists::bad_range, range_model::specs::Lists::ranges_of))]
+pub fn read_ranges<'a>(
+    alloc: Global,
+    at: u64,
+    value: Value<'a>,
+    version: u16,
+    base: u64,
+    parts: &RangeParts<'a>,
+    bases: &Bases,
+) -> Result<Ranges, Stop>
+    ensures { let sections = range_sections_of parts.now in
+        let counted = bases_of bases.now in
+        let meant = meaning_of value.entry in
+        JudgesUnlessNoMemory (bad_range at version sections counted meant) result
+        (λ read. read.ranges.items ≡ ranges_of_value version base sections counted meant) }
+{
+    match list_of(value, version, parts, bases) {
+        Ok(list) => walk(alloc, list, base, &parts.texts, bases),
+        Err(kind) => Err(Stop::Refused(Place::in_binary(at as usize, kind))),
+    }
+}
+
+/// The same ranges alone.
+///
+/// # Errors
+/// Those of `read_ranges`.
 pub fn ranges_of<'a>(
     alloc: Global,
     at: u64,
@@ -43,8 +75,8 @@ pub fn ranges_of<'a>(
         JudgesUnlessNoMemory (bad_range at version sections counted meant) result
         (λ ranges. ranges.items ≡ ranges_of_value version base sections counted meant) }
 {
-    match list_of(value, version, parts, bases) {
-        Ok(list) => walk(alloc, list, base, &parts.texts, bases),
-        Err(kind) => Err(Stop::Refused(Place::in_binary(at as usize, kind))),
+    match read_ranges(alloc, at, value, version, base, parts, bases) {
+        Ok(read) => Ok(read.ranges),
+        Err(stop) => Err(stop),
     }
 }

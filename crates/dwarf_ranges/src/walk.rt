@@ -8,6 +8,7 @@ ghost use Rattle.dwarf_ranges.specs.Meaning.{start_of};
 ghost use Rattle.dwarf_ranges.specs.Walk.{TakesNext};
 
 use crate::list::RangeList;
+use crate::ranges::Ranges;
 use crate::read::read_entry;
 use crate::step::{Step, step_of};
 use byte_view::Cur;
@@ -50,18 +51,19 @@ fn add(ranges: &mut Vec<(u64, u64)>, range: Option<(u64, u64)>) -> Result<(), No
     Ok(())
 }
 
-/// The ranges that the entries of a list mean, counted from the base that stands at each.
+/// The ranges that the entries of a list mean, counted from the base that stands at each, and how
+/// many entries these are.
 pub(crate) fn walk(
     alloc: Global,
     list: RangeList<'_>,
     first_base: u64,
     texts: &Texts<'_>,
     bases: &Bases,
-) -> Result<Vec<(u64, u64)>, Stop>
+) -> Result<Ranges, Stop>
     ensures { let resolve = address_of (sections_of texts.now) (bases_of bases.now) in
         let listed = entries_of (start_of list.entry) in
         JudgesUnlessNoMemory (bad_in_list resolve 0 listed) result
-        (λ ranges. ranges.items ≡ ranges_from resolve first_base listed.entries) }
+        (λ read. read.ranges.items ≡ ranges_from resolve first_base listed.entries) }
 {
     let pairs = list.pairs;
     let mut cur = list.cur;
@@ -77,5 +79,8 @@ pub(crate) fn walk(
         add(&mut ranges, step.range)?;
         count += 1;
     }
-    Ok(ranges)
+    Ok(Ranges {
+        ranges,
+        entries: count,
+    })
 }

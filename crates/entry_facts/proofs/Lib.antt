@@ -3,3 +3,4 @@ pub mod FoundLemmas
 pub mod StepLemmas
 pub mod TextLemmas
 pub mod MemoLemmas
+pub mod ListLemmas

@@ -2,31 +2,30 @@
 ghost use Rattle.std.specs.Prelude.{◌≡◌, IfOk, None};
 ghost use Rattle.std.specs.Option.{option_to_list};
 ghost use Rattle.dwarf_strings.specs.Meaning.{Gives};
-ghost use Rattle.tree_model.specs.Pieces.{end_by as end_told, listed as listed_told, pair as pair_told, spelled_by, spelled_ranges};
+ghost use Rattle.unit_model.specs.Constants.{DW_AT_high_pc, DW_AT_low_pc};
+ghost use Rattle.tree_model.specs.Bases.{attribute as attribute_told};
+ghost use Rattle.tree_model.specs.Pieces.{end_by as end_told, listed as listed_told, pair as pair_told, spelled_by};
 ghost use Rattle.entry_facts.specs.Told.{GivesUnlessNoMemory, in_unit};
 
 use crate::attributes::{address_at, attribute};
 use crate::in_unit::InUnit;
 use dwarf_forms::Value;
-use dwarf_info::{DW_AT_HIGH_PC, DW_AT_LOW_PC, DW_AT_RANGES, Entry, Found};
-use dwarf_ranges::ranges_of;
+use dwarf_info::{DW_AT_HIGH_PC, DW_AT_LOW_PC, Entry, Found};
+use dwarf_ranges::{Ranges, read_ranges};
 use refusal::{NoMemory, Place, Stop};
 use std::alloc::Global;
 
-/// The ranges that an entry spells: by `DW_AT_ranges` where it stands, else by `DW_AT_low_pc` and
-/// `DW_AT_high_pc` where both do, else none.
-#[tactic(auto, unfolding(tree_model::specs::Pieces::spelled_ranges))]
-pub(crate) fn spelled(
+/// The ranges that an entry without `DW_AT_ranges` spells: by `DW_AT_low_pc` and `DW_AT_high_pc`
+/// where both stand, else none.
+pub(crate) fn by_ends(
     alloc: Global,
     of: &InUnit<'_>,
     entry: &Entry<'_, '_>,
 ) -> Result<Vec<(u64, u64)>, Stop>
     ensures { GivesUnlessNoMemory (λ ranges. ranges.items) result
-        (spelled_ranges (in_unit of.now) entry.now) }
+        (spelled_by (in_unit of.now) None (attribute_told DW_AT_low_pc entry.now.found)
+        (attribute_told DW_AT_high_pc entry.now.found)) }
 {
-    if let Some(list) = attribute(&entry.found, DW_AT_RANGES) {
-        return listed(alloc, of, &list);
-    }
     let low = attribute(&entry.found, DW_AT_LOW_PC);
     let high = attribute(&entry.found, DW_AT_HIGH_PC);
     let range = between(of, low, high)?;
@@ -34,8 +33,8 @@ pub(crate) fn spelled(
 }
 
 /// The ranges of the list that `DW_AT_ranges` leads to.
-fn listed(alloc: Global, of: &InUnit<'_>, found: &Found<'_>) -> Result<Vec<(u64, u64)>, Stop>
-    ensures { GivesUnlessNoMemory (λ ranges. ranges.items) result
+pub(crate) fn listed(alloc: Global, of: &InUnit<'_>, found: &Found<'_>) -> Result<Ranges, Stop>
+    ensures { GivesUnlessNoMemory (λ read. read.ranges.items) result
         (listed_told (in_unit of.now) found.now) }
 {
     let InUnit {
@@ -44,7 +43,7 @@ fn listed(alloc: Global, of: &InUnit<'_>, found: &Found<'_>) -> Result<Vec<(u64,
         base,
         bases,
     } = of;
-    ranges_of(alloc, found.at, found.value, *version, *base, parts, bases)
+    read_ranges(alloc, found.at, found.value, *version, *base, parts, bases)
 }
 
 /// The range by `DW_AT_low_pc` and `DW_AT_high_pc`, where both are there.

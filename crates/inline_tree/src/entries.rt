@@ -2,6 +2,8 @@
 ghost use Rattle.std.specs.Prelude.{◌≡◌, ◌+◌, ◌-◌, ◌<◌, ◌≤◌, ◌^◌, length, OnOk};
 ghost use Rattle.entry_facts.specs.Meaning.{Extends};
 ghost use Rattle.tree_model.specs.Pieces.{max_pieces, pieces as pieces_told};
+ghost use Rattle.dwarf_ranges.specs.Meaning.{range_sections_of};
+ghost use Rattle.entry_facts.specs.Lists.{RemembersLists};
 ghost use Rattle.entry_facts.specs.Told.{GivesUnlessNoMemory, in_unit};
 ghost use Rattle.member_lists.specs.Frames.{SoFar as so_far_told, frame_above};
 ghost use Rattle.tree_model.specs.Members.{Told};
@@ -12,7 +14,7 @@ use crate::collected::Collected;
 use crate::member::{call_of, function_of};
 use crate::source::Source;
 use dwarf_info::{DW_TAG_INLINED_SUBROUTINE, DW_TAG_SUBPROGRAM, Entry};
-use entry_facts::{InUnit, pieces};
+use entry_facts::{InUnit, Lists, pieces};
 use member_lists::{Frame, SoFar};
 use refusal::{Kind, Place, Stop};
 use std::alloc::Global;
@@ -27,12 +29,15 @@ fn pieces_behind<'a>(
     of: &InUnit<'a>,
     entry: &Entry<'a, '_>,
     before: &SoFar,
+    lists: &mut Lists,
 ) -> Result<Vec<(u64, u64)>, Stop>
-    requires { before.now.pieces ≤ max_pieces }
-    ensures { GivesUnlessNoMemory (λ pieces. pieces.items) result
+    requires few { before.now.pieces ≤ max_pieces }
+    requires lists { RemembersLists source.now.elf.now (range_sections_of of.now.parts) lists.old }
+    ensures told { GivesUnlessNoMemory (λ pieces. pieces.items) result
         (pieces_told source.now.elf.now (in_unit of.now) before.now.pieces entry.now) }
+    ensures lists { RemembersLists source.now.elf.now (range_sections_of of.now.parts) lists.new }
 {
-    pieces(alloc, source.elf, of, before.pieces(), entry)
+    pieces(alloc, source.elf, of, before.pieces(), entry, lists)
 }
 
 /// Reads a subprogram: a function, where it has pieces.
@@ -46,14 +51,18 @@ fn next_function<'a>(
     requires room { length all.old.names < 2 ^ 32 - 1 }
     requires few { all.old.members.pieces ≤ max_pieces }
     requires known { Knows (source_of source.now) all.old.names all.old.origins }
+    requires lists { RemembersLists source.now.elf.now (range_sections_of of.now.parts)
+        all.old.lists }
     ensures read { (told : so_far_told Told) → IsSoFar all.old.names told all.old.members
         → Advances all.new.names result all.new.members
         (next_function_told (source_of source.now) (in_unit of.now) entry.now told) }
     ensures names { Extends all.old.names all.new.names }
     ensures few { OnOk result (all.new.members.pieces ≤ max_pieces) }
     ensures known { OnOk result (Knows (source_of source.now) all.new.names all.new.origins) }
+    ensures lists { OnOk result
+        (RemembersLists source.now.elf.now (range_sections_of of.now.parts) all.new.lists) }
 {
-    let pieces = pieces_behind(alloc, source, of, entry, &all.members)?;
+    let pieces = pieces_behind(alloc, source, of, entry, &all.members, &mut all.lists)?;
     if pieces.is_empty() {
         all.members.pass(entry.depth, Frame::outside())?;
         return Ok(());
@@ -90,6 +99,8 @@ fn next_call<'a>(
     requires room { length all.old.names < 2 ^ 32 - 1 }
     requires few { all.old.members.pieces ≤ max_pieces }
     requires known { Knows (source_of source.now) all.old.names all.old.origins }
+    requires lists { RemembersLists source.now.elf.now (range_sections_of of.now.parts)
+        all.old.lists }
     ensures read { (told : so_far_told Told) → IsSoFar all.old.names told all.old.members
         → Advances all.new.names result all.new.members
         (next_call_told (source_of source.now) (in_unit of.now) entry.now
@@ -97,10 +108,12 @@ fn next_call<'a>(
     ensures names { Extends all.old.names all.new.names }
     ensures few { OnOk result (all.new.members.pieces ≤ max_pieces) }
     ensures known { OnOk result (Knows (source_of source.now) all.new.names all.new.origins) }
+    ensures lists { OnOk result
+        (RemembersLists source.now.elf.now (range_sections_of of.now.parts) all.new.lists) }
 {
     let above = all.members.frame_above(entry.depth);
     let calls = calls_below(&above, entry)?;
-    let pieces = pieces_behind(alloc, source, of, entry, &all.members)?;
+    let pieces = pieces_behind(alloc, source, of, entry, &all.members, &mut all.lists)?;
     if pieces.is_empty() {
         let function = None;
         all.members.pass(entry.depth, Frame { calls, function })?;
@@ -128,12 +141,16 @@ pub(crate) fn next_entry<'a>(
     requires room { length all.old.names < 2 ^ 32 - 1 }
     requires few { all.old.members.pieces ≤ max_pieces }
     requires known { Knows (source_of source.now) all.old.names all.old.origins }
+    requires lists { RemembersLists source.now.elf.now (range_sections_of of.now.parts)
+        all.old.lists }
     ensures read { (told : so_far_told Told) → IsSoFar all.old.names told all.old.members
         → Advances all.new.names result all.new.members
         (next_entry_told (source_of source.now) (in_unit of.now) entry.now told) }
     ensures names { Extends all.old.names all.new.names }
     ensures few { OnOk result (all.new.members.pieces ≤ max_pieces) }
     ensures known { OnOk result (Knows (source_of source.now) all.new.names all.new.origins) }
+    ensures lists { OnOk result
+        (RemembersLists source.now.elf.now (range_sections_of of.now.parts) all.new.lists) }
 {
     if entry.tag == DW_TAG_SUBPROGRAM {
         return next_function(alloc, source, of, entry, all);

@@ -2,6 +2,8 @@
 ghost use Rattle.std.specs.Prelude.{◌≡◌, ◌+◌, ◌-◌, ◌<◌, ◌≤◌, ◌^◌, length, IfOk, OnOk};
 ghost use Rattle.std.specs.Result.{result_err};
 ghost use Rattle.refusal.specs.Place.{JudgesUnlessNoMemory};
+ghost use Rattle.dwarf_ranges.specs.Meaning.{range_sections_of};
+ghost use Rattle.entry_facts.specs.Lists.{RemembersLists};
 ghost use Rattle.entry_facts.specs.Told.{in_unit};
 ghost use Rattle.member_lists.specs.Frames.{SoFar as so_far_told, all_members};
 ghost use Rattle.tree_model.specs.Members.{Told};
@@ -70,6 +72,8 @@ fn next_entries<'a>(
     requires room { length all.old.names + unit.now.count < 2 ^ 32 - 1 }
     requires few { all.old.members.pieces ≤ max_pieces }
     requires known { Knows (source_of source.now) all.old.names all.old.origins }
+    requires lists { RemembersLists source.now.elf.now (range_sections_of of.now.parts)
+        all.old.lists }
     ensures read { (told : so_far_told Told) → IsSoFar all.old.names told all.old.members
         → Advances all.new.names result all.new.members
         (next_entries_told (source_of source.now) (in_unit of.now)
@@ -77,6 +81,8 @@ fn next_entries<'a>(
     ensures names { Grows unit.now.count all.old.names all.new.names }
     ensures few { OnOk result (all.new.members.pieces ≤ max_pieces) }
     ensures known { OnOk result (Knows (source_of source.now) all.new.names all.new.origins) }
+    ensures lists { OnOk result
+        (RemembersLists source.now.elf.now (range_sections_of of.now.parts) all.new.lists) }
 {
     for entry in source.units.entries_of(unit) {
         next_entry(alloc, source, of, &entry, all)?;
@@ -96,12 +102,16 @@ fn next_unit<'a>(
     requires room { length all.old.names + unit.now.count < 2 ^ 32 - 1 }
     requires few { all.old.members.pieces ≤ max_pieces }
     requires known { Knows (source_of source.now) all.old.names all.old.origins }
+    requires lists { RemembersLists source.now.elf.now (range_sections_of source.now.parts.now)
+        all.old.lists }
     ensures read { (told : so_far_told Told) → IsSoFar all.old.names told all.old.members
         → Advances all.new.names result all.new.members
         (next_unit_told (source_of source.now) number unit.now told) }
     ensures names { Grows unit.now.count all.old.names all.new.names }
     ensures few { OnOk result (all.new.members.pieces ≤ max_pieces) }
     ensures known { OnOk result (Knows (source_of source.now) all.new.names all.new.origins) }
+    ensures lists { OnOk result
+        (RemembersLists source.now.elf.now (range_sections_of source.now.parts.now) all.new.lists) }
 {
     let base = base_address(source.units, number, &source.parts.texts)?;
     let of = InUnit {

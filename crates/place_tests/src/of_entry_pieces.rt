@@ -3,7 +3,7 @@ use dwarf_info::{Units, read_units};
 use dwarf_ranges::RangeParts;
 use dwarf_strings::{Bases, Texts};
 use elf_sections::{Elf, read};
-use entry_facts::{InUnit, MAX_PIECES, pieces};
+use entry_facts::{InUnit, Lists, MAX_PIECES, pieces};
 use refusal::Stop;
 use std::alloc::Global;
 use std::test::Fail;
@@ -109,7 +109,10 @@ fn pieces_of(
     number: usize,
 ) -> Result<Vec<(u64, u64)>, Stop> {
     match units.entry(number) {
-        Some(entry) => pieces(alloc, elf, &of_unit(), MAX_PIECES - 2, &entry),
+        Some(entry) => {
+            let mut lists = Lists::new(alloc);
+            pieces(alloc, elf, &of_unit(), MAX_PIECES - 2, &entry, &mut lists)
+        },
         None => Err(Stop::NoMemory),
     }
 }

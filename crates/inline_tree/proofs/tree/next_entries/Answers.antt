@@ -12,6 +12,7 @@ loop-entry-init c =
       grown = GrowsSoFar-start _ c.args.unit.now.first c.args.source.now.units.now.entries _ _ all;
       few = c.requires.few;
       known = c.requires.known;
+      lists = c.requires.lists;
     }
 
 pub loop-entry-preserved : goal.loop-entry-preserved
@@ -21,6 +22,7 @@ loop-entry-preserved c = record {
   grown = GrowsSoFar-more _ _ _ _ _ _ _ c.loop-entry.invariant.grown c.in-Some.ensures.steps c.in_ok-next_entry.ensures.names;
   few = c.in_ok-next_entry.ensures.few;
   known = c.in_ok-next_entry.ensures.known;
+  lists = c.in_ok-next_entry.ensures.lists;
 }
 
 pub returns-in_err-next_entry-clause-read : goal.returns-in_err-next_entry-clause-read

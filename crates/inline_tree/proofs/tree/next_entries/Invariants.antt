@@ -1,4 +1,6 @@
 use Rattle.std.proofs.Common.{◌≤◌}
+use Rattle.dwarf_ranges.specs.Meaning.{range_sections_of}
+use Rattle.entry_facts.specs.Lists.{RemembersLists}
 use Rattle.entry_facts.specs.Told.{in_unit}
 use Rattle.tree_model.specs.Pieces.{max_pieces}
 use Rattle.tree_model.specs.Tree.{entries_of_unit}
@@ -13,4 +15,5 @@ invariant-loop-entry l = record {
   grown : GrowsSoFar l.unit.count l.fn.all.names l.entry-iterator l.all.names;
   few : l.all.members.pieces ≤ max_pieces;
   known : Knows (source_of l.source) l.all.names l.all.origins;
+  lists : RemembersLists l.source.elf.now (range_sections_of l.of.parts) l.all.lists;
 }

@@ -92,30 +92,27 @@ already q told ways inside =
 
 -- ---- the counts of 0 in a profile's text
 
-some_inner : {A : Type 0} (x y : A) → Some x ≡ Some y → x ≡ y
-some_inner x y e = cc
+some_way : (x y : Way × ℕ) → Some x ≡ Some y → y.0 ≡ x.0
+some_way x y e = sym (ap (λ (c : Way × ℕ). c.0) (inner e))
+  where
+    inner : Some x ≡ Some y → x ≡ y
+    inner e = cc
+
+none_there : (y : Way × ℕ) → None ≡ Some y → ⊥
+none_there y e = cc
 
 -- a count on a line is that of its way
 count_on : (n : ℕ) (way w : Way) (t : ℕ) (line : Line) (number : Number) → Among number (numbers_on n way line) → as_count number.what number.times ≡ Some (w, t) → w ≡ way
 count_on n way w t (function_line name total entered) number h e = elim h as (λ _. w ≡ way) [
-  | inl q ↦ absurd (none_some (sym (ap (λ (x : Number). as_count x.what x.times) q) ∙ e))
+  | inl q ↦ absurd (none_there (w, t) (sym (ap (λ (x : Number). as_count x.what x.times) q) ∙ e))
   | inr r ↦ absurd r
 ]
-  where
-    none_some : None ≡ Some (w, t) → ⊥
-    none_some e = cc
 count_on n way w t (body_line depth offset disc times targets) number h e = elim h as (λ _. w ≡ way) [
-  | inl q ↦ same (sym (ap (λ (x : Number). as_count x.what x.times) q) ∙ e)
+  | inl q ↦ some_way (way, times) (w, t) (sym (ap (λ (x : Number). as_count x.what x.times) q) ∙ e)
   | inr r ↦
       let from = among_map_back (λ (called : List ℕ × ℕ). record { line = n; what = target way called.0; times = called.1 }) number targets r in
-      absurd (none_some (sym (ap (λ (x : Number). as_count x.what x.times) from.2) ∙ e))
+      absurd (none_there (w, t) (sym (ap (λ (x : Number). as_count x.what x.times) from.2) ∙ e))
 ]
-  where
-    none_some : None ≡ Some (w, t) → ⊥
-    none_some e = cc
-
-    same : Some (way, times) ≡ Some (w, t) → w ≡ way
-    same e = sym (ap (λ (c : Way × ℕ). c.0) (some_inner (way, times) (w, t) e))
 count_on n way w t (call_line depth offset disc name total) number h e = absurd h
 
 counts_on : (p : Profile) (n : ℕ) (ways : List Way) (w : Way) (t : ℕ) (number : Number) → Among number (numbers_told p n ways) → as_count number.what number.times ≡ Some (w, t) → Among w ways

@@ -1,4 +1,9 @@
 """contrib/layout: orders of blocks beside all orders of small functions, and programs of clang 19 that are laid out and run again."""
+import argparse
+import bisect
+import collections
+import importlib.machinery
+import importlib.util
 import itertools
 import json
 import random
@@ -148,6 +153,29 @@ class OfClang(Case):
             first = dict((number, at) for at, number in after[name])
             self.assertEqual(sorted(row, key=first.get), row, name)
         self.assertEqual(self.run_here("./laid"), self.run_here("./program"))
+
+    def wanted(self, numbers):
+        """How often control went from each numbered block to each, by what `build` wrote: a block goes on to where the next begins."""
+        functions, found, at = functions_of((self.folder / "cfg").read_text()), {}, -1
+        for words in map(str.split, (self.folder / "out").read_text().splitlines()):
+            at += words[:2] == ["#", "function"]
+            known = sorted(numbers.get(functions[at].name, [])) if at >= 0 else []
+            if words[:2] == ["#", "edge"] and known and int(words[-1]):
+                (_, end), (start, _) = (functions[at].blocks[int(it)] for it in words[2:4])
+                tail, head = known[bisect.bisect(known, (end - 1, 1 << 32)) - 1], dict(known).get(start)
+                if head is not None:
+                    found.setdefault(known[0][0], collections.Counter())[tail[1], head] += int(words[-1])
+        return found
+
+    def test_each_count_of_an_edge_is_taken(self):
+        self.repaired(self.file("program.c", PROGRAM))
+        loader = importlib.machinery.SourceFileLoader("layout_maker", str(LAYOUT))
+        maker = importlib.util.module_from_spec(importlib.util.spec_from_loader(loader.name, loader))
+        loader.exec_module(maker)
+        words = argparse.Namespace(cfg=str(self.folder / "cfg"), out=str(self.folder / "out"))
+        wanted = self.wanted(self.numbers("program"))
+        self.assertEqual(maker.counts_of(words, maker.Places(str(self.folder / "program"))), wanted)
+        self.assertGreater(sum(sum(edges.values()) for edges in wanted.values()), 50)
 
     def test_functions_of_one_name_stay_as_they_were(self):
         halves = [self.file(f"{name}.c", TWINS.replace("NAME", name).replace("NUMBER", str(number))) for number, name in enumerate(["a", "b"])]

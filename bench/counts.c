@@ -1,5 +1,5 @@
 /* A straight C program beside `pgo counts`: it judges the same text, counts branches in a hash table, sorts and prints.
- * It is what the ratios of docs/SPEED.md are taken against, and no part of pgo. Use: counts TEXT; cc -O2 -o counts counts.c */
+ * It is what the ratios of docs/FIGURES.md are taken against, and no part of pgo. Use: counts TEXT; cc -O2 -o counts counts.c */
 #define _GNU_SOURCE
 #include <inttypes.h>
 #include <stdint.h>

@@ -8,10 +8,13 @@ BLOCK_MAP = 0x6FFF4C0A
 
 
 class BlockMap:
-    """The map of basic blocks that clang writes (LLVM, "SHT_LLVM_BB_ADDR_MAP Section"), with their successors."""
+    """The map of basic blocks that clang writes (LLVM, "SHT_LLVM_BB_ADDR_MAP Section").
+
+    `numbered` has the rows [number, low, high, what] of each function, `functions` those with their successors, where it has them.
+    """
 
     def __init__(self, program):
-        self.program, self.functions = program, {}
+        self.program, self.functions, self.numbered = program, {}, []
         try:
             for section in program.sections:
                 if section.kind == BLOCK_MAP:
@@ -45,6 +48,8 @@ class BlockMap:
         names = {name for name, _, _, _ in blocks}
         if len(names) < len(blocks) or any(it not in names for there in follow.values() for it in there):
             raise ValueError("blocks of one number, or an edge to no block")
+        if blocks:
+            self.numbered.append(blocks)
         if blocks and features & 4:
             self.functions[blocks[0][1]] = (blocks, follow)
 

@@ -1,0 +1,55 @@
+#!/usr/bin/env python3
+"""layout.py BIN TEXT: prints the list of contrib/layout by the samples themselves, in place of repaired counts.
+
+An edge of blocks was gone along by a branch from the one to the start of the other, or by a stretch between two branches.
+"""
+import collections
+import importlib.machinery
+import importlib.util
+import os
+import sys
+
+sys.dont_write_bytecode = True
+from bolt_text import samples_of
+
+MAKER = os.path.join(os.path.dirname(os.path.realpath(__file__)), "..", "..", "contrib", "layout")
+
+
+def maker():
+    """contrib/layout as a module."""
+    loader = importlib.machinery.SourceFileLoader("layout_maker", MAKER)
+    made = importlib.util.module_from_spec(importlib.util.spec_from_loader(loader.name, loader))
+    loader.exec_module(made)
+    return made
+
+
+def counts_of(path, places):
+    counts = collections.defaultdict(collections.Counter)
+    branches, ranges = samples_of(path)
+
+    def step(tail, head, times):
+        if tail and head and tail.entry == head.entry:
+            counts[tail.entry][tail.number, head.number] += times
+
+    for (source, target), times in branches.items():
+        head = places.at(target)
+        if head and head.low == target:
+            step(places.at(source), head, times)
+    for (first, last), times in ranges.items():
+        row, end = places.at(first), places.at(last)
+        if row and end:
+            through = places.rows[places.rows.index(row) : places.rows.index(end) + 1]
+            for tail, head in zip(through, through[1:]):
+                step(tail, head, times)
+    return counts
+
+
+def main():
+    binary, text = sys.argv[1:]
+    made = maker()
+    places = made.Places(binary)
+    print("\n".join(made.listed(places, counts_of(text, places))))
+
+
+if __name__ == "__main__":
+    main()

@@ -3,7 +3,8 @@ ghost use Rattle.std.specs.Prelude.{◌≡◌, [], IfOk, OnOk, map};
 ghost use Rattle.profile_merge.specs.Called.{AreReached, AreWithSum, IsCalled, called_sum};
 ghost use Rattle.profile_merge.specs.Stated.{call_of};
 
-use indexmap::IndexMap;
+use crowd_watch::{Keyed, Watch};
+use indexmap::IndexSet;
 use key_types::{KeyId, NameId};
 use profile_tree::Call;
 use refusal::NoMemory;
@@ -12,19 +13,26 @@ use std::marker::Model;
 
 /// How often functions were called from keys: a sum for each key and callee, and 0 for those that
 /// have none yet.
+///
+/// The targets stand in a set too, in the same order, by which a sum is found at once.
 #[derive(Drop)]
 pub(crate) struct Called {
-    sums: IndexMap<(KeyId, NameId), u64>,
+    sums: Vec<((KeyId, NameId), u64)>,
+    targets: IndexSet<(KeyId, NameId), Keyed>,
+    watch: Watch,
 }
 
 // Clauses see the list of the keys and callees with their sums.
 impl Model for Called {
-    ghost use Rattle.std.specs.Prelude.{ℕ, List};
+    ghost use Rattle.std.specs.Prelude.{◌≡◌, ℕ, List};
+    ghost use Rattle.std.specs.Map.{keys_of};
     ghost use Rattle.profile_merge.specs.Called.{Target};
 
     ghost Value = { List (Target × ℕ) };
 
-    ghost view = { λ a. a.sums.entries };
+    ghost view = { λ a. a.sums.items };
+
+    ghost invariant = { λ a. a.targets.keys ≡ keys_of a.sums.items };
 }
 
 impl Called {
@@ -33,7 +41,9 @@ impl Called {
         ensures { IfOk result (λ called. called ≡ []) }
     {
         Ok(Called {
-            sums: IndexMap::with_capacity(alloc, 1)?,
+            sums: Vec::with_capacity(alloc, 1)?,
+            targets: IndexSet::with_capacity_and_hasher(alloc, 1, Keyed::by(0))?,
+            watch: Watch::new(alloc),
         })
     }
 
@@ -42,12 +52,8 @@ impl Called {
         ensures { IfOk result (λ calls. calls.items ≡ map call_of self.now) }
     {
         let mut calls = Vec::with_capacity(alloc, self.sums.len())?;
-        for (target, times) in self.sums.iter() {
-            calls.push(Call {
-                key: target.0,
-                callee: target.1,
-                times: *times,
-            })?;
+        for &((key, callee), times) in &self.sums {
+            calls.push(Call { key, callee, times })?;
         }
         Ok(calls)
     }
@@ -56,8 +62,8 @@ impl Called {
     pub(crate) fn sum(&self, key: KeyId, callee: NameId) -> u64
         ensures { result ≡ called_sum self.now key callee }
     {
-        match self.sums.get(&(key, callee)) {
-            Some(sum) => *sum,
+        match self.targets.get_index_of(&(key, callee)) {
+            Some(place) => self.sums[place].1,
             None => 0,
         }
     }
@@ -68,8 +74,10 @@ impl Called {
         ensures reached { OnOk result (IsCalled self.new key callee) }
     {
         let target = (key, callee);
-        if !self.sums.contains_key(&target) {
-            self.sums.insert(target, 0)?;
+        if !self.targets.contains(&target) {
+            self.sums.try_reserve(1)?;
+            self.watch.insert(&mut self.targets, target)?;
+            self.sums.push_reserved((target, 0));
         }
         Ok(())
     }
@@ -79,6 +87,8 @@ impl Called {
         requires { IsCalled self.old key callee }
         ensures { AreWithSum self.old self.new key callee sum }
     {
-        self.sums.insert((key, callee), sum).unwrap();
+        if let Some(place) = self.targets.get_index_of(&(key, callee)) {
+            self.sums[place].1 = sum;
+        }
     }
 }

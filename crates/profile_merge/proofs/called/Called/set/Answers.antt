@@ -1,21 +1,21 @@
--- The pair has a place, so nothing can fail.
-use Rattle.std.proofs.Common.{ap, subst, sym, ◌∙◌}
-use Rattle.std.specs.Map.{keys_of}
-use Rattle.indexmap.proofs.CallerLemmas.{keys-insert_entry-present}
-use Rattle.profile_merge.proofs.CalledLemmas.{ok_or_absent, with_sum}
-use Rattle.profile_merge.specs.Called.{AreWithSum, IsCalled, same_target}
+-- The pair has a place, whose sum is written.
+use Rattle.std.proofs.Common.{ap, set, subst, sym, true≢false, ◌∙◌}
+use Rattle.std.specs.Prelude.{is_some}
+use Rattle.profile_merge.specs.Called.{AreWithSum, IsCalled}
+use Rattle.profile_merge.proofs.CalledLemmas.{absent-place, at_place, keys-at, with_sum_at}
 use Rattle.profile_merge.proofs.called.Called.set.Goals as goal
 
-pub unwrap-requires : goal.unwrap-requires
-unwrap-requires c =
-    let there = subst (λ calls. IsCalled calls c.args.key c.args.callee) (sym c.self.view_is) c.requires in
-    ok_or_absent _ _ there c.insert.ensures.absent
+pub invariant_of-self : goal.invariant_of-self
+invariant_of-self c =
+    c.self.invariant ∙ sym (keys-at _ _ _ _ c.index_mut.ensures.value)
 
-pub returns : goal.returns
-returns c =
+pub returns-in-Some : goal.returns-in-Some
+returns-in-Some c =
+    let at = at_place _ _ _ _ c.self.invariant c.in-Some.ensures.index in
+    subst (λ old. AreWithSum old (set c.self.inside.sums.items c.in-Some.place (c.index_mut.result.now.0, c.args.sum)) c.args.key c.args.callee c.args.sum) c.self.view_is
+    (with_sum_at _ _ _ _ _ _ at c.index_mut.ensures.value)
+
+pub returns-in_default : goal.returns-in_default
+returns-in_default c =
     let there = subst (λ calls. IsCalled calls c.args.key c.args.callee) (sym c.self.view_is) c.requires in
-    let entries = rw c.unwrap.ensures at c.insert.ensures.entries in
-    let updates = rw c.unwrap.ensures at c.insert.ensures.updates in
-    subst (λ old. AreWithSum old c.insert.new.self.entries c.args.key c.args.callee c.args.sum) c.self.view_is
-    (with_sum c.self.inside.sums.entries c.insert.new.self.entries c.args.key c.args.callee c.args.sum updates.0
-    (ap keys_of entries ∙ keys-insert_entry-present same_target c.self.inside.sums (c.args.key, c.args.callee) c.args.sum there))
+    absurd (true≢false (sym there ∙ ap is_some (absent-place (c.args.key, c.args.callee) _ _ c.self.invariant c.in_default.ensures.index)))

@@ -108,7 +108,8 @@ fn kept_is_told(alloc: Global, units: &Units<'_>, start: usize, at: u64) -> Opti
     };
     let first = origins.origin_of(&info, &entry, &mut names);
     let again = origins.origin_of(&info, &entry, &mut names);
-    let alone = Origins::new(alloc).origin_of(&info, &entry, &mut names);
+    let mut others = Origins::new(alloc);
+    let alone = others.origin_of(&info, &entry, &mut names);
     Some(first == again && first == alone)
 }
 

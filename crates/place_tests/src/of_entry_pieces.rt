@@ -108,11 +108,9 @@ fn pieces_of(
     units: &Units<'_>,
     number: usize,
 ) -> Result<Vec<(u64, u64)>, Stop> {
+    let mut lists = Lists::new(alloc);
     match units.entry(number) {
-        Some(entry) => {
-            let mut lists = Lists::new(alloc);
-            pieces(alloc, elf, &of_unit(), MAX_PIECES - 2, &entry, &mut lists)
-        },
+        Some(entry) => pieces(alloc, elf, &of_unit(), MAX_PIECES - 2, &entry, &mut lists),
         None => Err(Stop::NoMemory),
     }
 }

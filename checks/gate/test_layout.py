@@ -183,7 +183,7 @@ class OfClang(Case):
         self.repaired(source, *halves)
         ran = self.run_here(LAYOUT, "program", "cfg", "out")
         self.assertNotIn("twin", self.rows(ran.out))
-        self.tells(ran, 0, "left as they were, since others have their names: twin, twin what helps: -funique-internal-linkage-names")
+        self.tells(ran, 0, "left as they were, since their names are not theirs alone: twin, twin what helps: -funique-internal-linkage-names")
 
 
 class Refusals(Case):

@@ -113,7 +113,7 @@ class OfTheDemo(Case):
     def test_sampled_by_branches_they_are_the_exact_ones_but_for_a_hundredth(self):
         made = run("cc", "-O2", "-shared", "-fPIC", "-o", self.folder / "recorder.so", TOP / "bench" / "repair" / "recorder.c")
         self.assertEqual(made.status, 0, made.said)
-        ran = self.run_here("qemu-x86_64", "-plugin", "./recorder.so,out=text,branches=9999", WORDS)
+        ran = self.run_here("qemu-x86_64", "-plugin", "./recorder.so,out=text,branches=2999", WORDS)
         self.assertEqual(ran.status, 0, ran.said)
         weights, counts, own_weights, own_counts = near = self.overlaps("text")
         self.assertGreater(min(own_weights, own_counts), 0.98, near)

@@ -179,7 +179,7 @@ class Releases(Launcher):
         """As with an older C library the program is whole, and ends before it begins."""
         self.script(self.top / "release" / "pgo", "#!/bin/sh\nexit 1\n")
         self.made(self.top)
-        self.refuses(126, "release/pgo does not run on this machine: it needs x86-64 Linux with glibc.*README")
+        self.refuses(126, "release/pgo does not run on this machine: it needs x86-64 Linux with glibc.*docs/USING.md")
         self.refuses(126, "does not run on this machine")
 
     def test_little_memory_is_no_other_machine(self):

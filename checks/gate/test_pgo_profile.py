@@ -90,11 +90,11 @@ class Demo(Profiles):
         self.assertEqual(self.run_here(PGO, "merge", "1", made).status, 0)
 
     def test_a_profile_that_was_there_stays(self):
-        self.file("kept", "old\n")
+        self.file("kept", "old:1:1\n")
         self.file("empty")
         ran = self.run_here(SCRIPT, "--base", WORDS, "empty", "kept")
         self.tells(ran, 1, "kept stays as it was: empty is empty")
-        self.assertEqual(((self.folder / "kept").read_text(), self.names()), ("old\n", ["empty", "kept"]))
+        self.assertEqual(((self.folder / "kept").read_text(), self.names()), ("old:1:1\n", ["empty", "kept"]))
 
     def test_a_closed_output(self):
         ran = on_closed_output(SCRIPT, WORDS, TEXT, "prof", folder=self.folder)
@@ -103,12 +103,12 @@ class Demo(Profiles):
 
     def test_a_signal(self):
         os.mkfifo(self.folder / "text")
-        self.file("prof", "old\n")
+        self.file("prof", "old:1:1\n")
         os.mkdir(self.folder / "tmp")
         words = ["env", f"TMPDIR={self.folder}/tmp", SCRIPT, WORDS, "text", "prof"]
         ran = terminated(*words, folder=self.folder, until=lambda: any(each.startswith("pgo-profile.") for each in self.names("tmp")))
         self.assertNotIn("Traceback", ran.said)
-        self.assertEqual((ran.status, self.names("tmp"), (self.folder / "prof").read_text()), (143, [], "old\n"))
+        self.assertEqual((ran.status, self.names("tmp"), (self.folder / "prof").read_text()), (143, [], "old:1:1\n"))
 
 
 class Forms(Profiles):
@@ -231,6 +231,11 @@ class Words(Profiles):
         for taken in (TEXT.read_bytes(), load_line("/srv/app/words"), gzip.compress(b"4011c0"), b"PERFILE2", WORDS.read_bytes()):
             # Two recordings and no profile: the second one stays.
             judge(2, "taken stays as it was: it is a program or a recording.*several recordings", self.file("taken", taken).name)
+        for taken in (b"int main(void) {}\n", b"# words\nall:\n\tcc words.c\n", b"\x81\xff\0", b"#!/bin/sh\nexit\n"):
+            judge(2, "taken stays as it was: it is no profile in text, and would be lost.*another name", self.file("taken", taken).name)
+            self.assertEqual((self.folder / "taken").read_bytes(), taken)
+        for profile in (b"", b"# branches 0\n", b"# made\n\nmain:7:1\n 1: 7\n"):
+            judge(0, "^$", self.file("taken", profile).name)
         (self.folder / "taken").unlink()
         self.file("-text", TEXT.read_bytes())
         judge(0, "^$", "-prof", WORDS, "-text")
@@ -400,9 +405,9 @@ class Builds(Profiles):
             bad = self.file("loaded", load_line("/srv/program", "0123") + text).name
             self.judge(1, "was not made: the build 0123 ran, and program is .*or --other-build", *words, bad)
             self.judge(0, "made/prof again: the build 0123 ran, and program is ", "--other-build", *words, bad)
-        self.file("kept", "old\n")
+        self.file("kept", "old:1:1\n")
         self.tells(self.run_here(SCRIPT, *named, "loaded", "kept"), 1, "kept stays as it was: the build 0123 ran")
-        self.assertEqual((self.folder / "kept").read_text(), "old\n")
+        self.assertEqual((self.folder / "kept").read_text(), "old:1:1\n")
 
     @needs("cc")
     def test_branches(self):

@@ -117,6 +117,17 @@ def entries(file, path="the profile"):
         yield Entry(number, depth, said)
 
 
+def is_at(path):
+    """The file at a path begins as a profile does, or has nothing but comments; so does one that cannot be read."""
+    try:
+        with open(path, "rb") as file:
+            head = file.read(1 << 16)
+    except OSError:
+        return True
+    told = (line for line in head.split(b"\n") if line.strip(b" \t") and not line.lstrip(b" ").startswith(b"#"))
+    return FUNCTION.fullmatch(next(told, b"f:0:0").decode("latin-1")) is not None
+
+
 class Node:
     """A function, or a call that was inlined: its lines by (offset, disc), and its calls by (offset, disc, callee)."""
 

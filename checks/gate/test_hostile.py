@@ -89,17 +89,9 @@ class Farm(Case):
 # The families of growing.py that are known to be slow, with what is known; docs/LIMITS.md has their figures. These are tried in small
 # alone. A row goes with what it tells of.
 KNOWN_SLOW = {
-    "one long name": "each function reads and hashes the name anew",
-    "one long name of lines": "each function reads and hashes the name anew",
     "one origin": "each function reads and hashes the name anew",
     "tails of a name": "each name is a text of its own",
-    "one range list": "each function reads the list anew",
-    "one range list of units": "each function reads the list anew",
     "tails of a table": "each table is read and kept whole",
-    "blocks over all": "the largest count is looked for in all segments of each block",
-    "nested loads": "the load that moves an address is looked for anew behind each load line",
-    "ladder": "the plain run makes a way for each edge of the middle in each step",
-    "ladder of great counts, scaled": "counts above 2^36 are solved by the plain run",
 }
 # How often both sizes are run, the quickest of each being taken; once more so often where that is not enough.
 TURNS = 3

@@ -267,11 +267,13 @@ class Words(Profiles):
     def test_programs_that_are_ended(self):
         """A signal is no status, and is told."""
         self.judge(6, "made/prof was not made: write fault: .*higher ulimit -f", WORDS, TEXT, prepare=lambda: limit_files(100))
-        for name, said in (("pgo", "pgo was ended by signal 9"), ("pgo-cold", "pgo-cold was ended by signal 9")):
+        shutil.copy(WORDS, self.folder / "another")
+        # One program takes pgo-cold alone, several take both.
+        for name, variable, words in (("pgo", "PGO", ("--also=another", WORDS, TEXT)), ("pgo-cold", "PGO_COLD", (WORDS, TEXT))):
             with self.subTest(name):
                 fake = self.file(f"fake/{name}", "#!/bin/sh\nkill -9 $$\n")
                 fake.chmod(0o755)
-                self.judge(1, f"made/prof was not made: {said}", WORDS, TEXT, environment={"PGO_COLD" if name == "pgo-cold" else "PGO": str(fake)})
+                self.judge(1, f"made/prof was not made: {name} was ended by signal 9", *words, environment={variable: str(fake)})
 
     def test_alone(self):
         shutil.copy(SCRIPT, self.folder)

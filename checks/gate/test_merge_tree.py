@@ -29,6 +29,10 @@ def profile(number, build=""):
     return f"main:{number + 1}:{number}\n 1: {number}\n 2: 1 f:{number}\nf_{number % 7}:{number}:1\n 3: {number}\n{end}"
 
 
+# A sum of an earlier night.
+OLD = "old:7:1\n 1: 7\n"
+
+
 class Tree(Case):
     """A case with some small profiles, p/0 and so on."""
 
@@ -128,7 +132,7 @@ class Sums(Tree):
         self.tells(self.merge(given=b"-1\tp/0\n"), MISSING, "no such file")
 
     def test_a_sum_in_place(self):
-        (self.folder / "out").write_text("old")
+        (self.folder / "out").write_text(OLD)
         (self.folder / "out").chmod(0o640)
         self.expect(self.merge("-o", "out", given=b"2\tp/0\n" + lines(*self.files[1:])), DONE)
         self.assertEqual((self.folder / "out").read_bytes(), self.expected((2, "p/0"), *((1, name) for name in self.files[1:])))
@@ -152,9 +156,15 @@ class Refusals(Tree):
     def refused(self, status, said, *words, **how):
         """Nothing is printed, and exactly this is said."""
         self.expect(self.merge(*words, **how), status, b"", said)
-        (self.folder / "out").write_text("old")
+        (self.folder / "out").write_text(OLD)
         ran = self.merge("-o", "out", *words, **how)
-        self.assertEqual((ran.status, (self.folder / "out").read_text()), (status, "old"))
+        self.assertEqual((ran.status, (self.folder / "out").read_text()), (status, OLD))
+
+    def test_what_is_no_profile_stays(self):
+        for text in ("int main(void) { return 0; }\n", "\x7fELF\2\1\1"):
+            (self.folder / "out").write_text(text)
+            self.tells(self.merge("-o", "out", "p/0"), BAD_WORDS, "out is no profile in text, and would be lost")
+            self.assertEqual((self.folder / "out").read_text(), text)
 
     def test_files(self):
         self.file("bad", BAD)

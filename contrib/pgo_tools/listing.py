@@ -2,6 +2,7 @@
 import collections
 import os
 
+from pgo_tools import profile_text
 from pgo_tools.cli import FAILED, USAGE, Trouble, given
 from pgo_tools.names import text_of
 from pgo_tools.tree import File
@@ -82,10 +83,12 @@ def check_builds(files, choice):
 
 
 def check_out(files, out):
-    """Refuses an output that is listed: the sum of last night would go into that of this one."""
+    """Refuses an output that is listed, since the sum of last night would go into that of this one, and one that is no profile."""
     if not os.path.exists(out):
         return
     key = identity(out)
     for name, _ in files:
         if identity(name) == key:
             raise Trouble(f"{out} is listed to be merged, too: {name}", USAGE, "a folder of its own for it, or a list without it")
+    if os.path.isfile(out) and not profile_text.is_at(out):
+        raise Trouble(f"{out} is no profile in text, and would be lost", USAGE, "another name")

@@ -90,5 +90,5 @@ def check_out(files, out):
     for name, _ in files:
         if identity(name) == key:
             raise Trouble(f"{out} is listed to be merged, too: {name}", USAGE, "a folder of its own for it, or a list without it")
-    if os.path.isfile(out) and not profile_text.is_at(out):
+    if profile_text.would_go(out):
         raise Trouble(f"{out} is no profile in text, and would be lost", USAGE, "another name")

@@ -2,6 +2,7 @@
 
 The rules and the causes are pgo's own: what it refuses is refused here at the same line, by the same kind.
 """
+import os
 import re
 from typing import NamedTuple, Optional, Union
 
@@ -126,6 +127,11 @@ def is_at(path):
         return True
     told = (line for line in head.split(b"\n") if line.strip(b" \t") and not line.lstrip(b" ").startswith(b"#"))
     return FUNCTION.fullmatch(next(told, b"f:0:0").decode("latin-1")) is not None
+
+
+def would_go(path):
+    """A file stands at a path that is no profile, so that a profile in its place would lose it."""
+    return os.path.isfile(path) and not is_at(path)
 
 
 class Node:

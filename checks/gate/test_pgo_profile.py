@@ -466,19 +466,26 @@ class Information(Profiles):
 class Spoiled(Profiles):
     """Builds by which a profile is worth nothing, and recordings that are too short."""
 
-    def test_options(self):
+    def sources(self):
+        """Compilers, each with a program of C and one of C++."""
         source = self.file("words.cc", "extern \"C\" {\n#include \"words.c\"\n}\n")
         shutil.copy(TOP / "demo/words.c", self.folder)
         for cc in filter(shutil.which, ("clang-14", "clang-19")):
-            for name, path in (("C", TOP / "demo/words.c"), ("C++", source)):
-                for flags, is_good in ((["-g"], False), (["-gmlt"], False), (["-g", "-fdebug-info-for-profiling"], True),
-                                       (["-gmlt", "-fdebug-info-for-profiling"], True)):
-                    with self.subTest(f"{cc} {name} {flags}"):
-                        self.one_build(cc, path, flags, is_good)
+            yield from ((cc, "C", TOP / "demo/words.c"), (cc, "C++", source))
+
+    def test_options(self):
+        for cc, name, path in self.sources():
+            for flags, is_good in ((["-g"], False), (["-gmlt"], False), (["-g", "-fdebug-info-for-profiling"], True),
+                                   (["-gmlt", "-fdebug-info-for-profiling"], True)):
+                with self.subTest(f"{cc} {name} {flags}"):
+                    self.one_build(cc, path, flags, is_good)
+
+    def program(self, cc, path, flags):
+        more = ["-x", "c++", "-fpermissive"] if str(path).endswith(".cc") else []
+        return self.build("program", "-O2", "-no-pie", *flags, *more, source=path, cc=cc)
 
     def one_build(self, cc, path, flags, is_good):
-        more = ["-x", "c++", "-fpermissive"] if str(path).endswith(".cc") else []
-        program = self.build("program", "-O2", "-no-pie", *flags, *more, source=path, cc=cc)
+        program = self.program(cc, path, flags)
         text = self.text_of(program)
         said = "built without -fdebug-info-for-profiling.*-g -fdebug-info-for-profiling on the build that is sampled"
         self.judge(0, "" if is_good else said, program.name, text)
@@ -493,6 +500,13 @@ class Spoiled(Profiles):
             if ends:
                 lines.append("".join(f" 0x{at}/0x{rows[0][0]}" for at in reversed(ends)))
         return self.file("text", ("\n".join(lines) + "\n") * 100).name
+
+    def test_few_samples_of_each_compiler(self):
+        for cc, name, path in self.sources():
+            with self.subTest(f"{cc} {name}"):
+                program = self.program(cc, path, ["-g", "-fdebug-info-for-profiling"])
+                sample = (self.folder / self.text_of(program)).read_text().split("\n")[0]
+                self.judge(0, "too few samples: .*record longer", program.name, self.file("few", sample + "\n"))
 
     def test_few_samples(self):
         self.judge(0, "too few samples: .* times as many: record longer", WORDS, self.file("few", b" ".join(ONE.split()[:4]) + b"\n"))

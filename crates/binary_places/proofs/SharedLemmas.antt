@@ -16,7 +16,7 @@ use Rattle.line_model.specs.Fields.{Judged, ◌>>=◌}
 use Rattle.line_model.specs.Program.{max_rows_of_all, rows_at}
 use Rattle.line_model.specs.Rows.{Sequence, live_sequences}
 use Rattle.binary_model.specs.LinePrograms.{rows_from}
-use Rattle.binary_places.specs.declared.programs.Named.{Named}
+use Rattle.binary_places.specs.declared.programs.NamedProgram.{NamedProgram}
 use Rattle.binary_places.specs.declared.shared.Known.{Known}
 use Rattle.binary_places.specs.declared.shared.UnitRows.{UnitRows}
 use Rattle.binary_places.specs.declared.shared.UnitRows.TheVariants.{Absent, Read, Again}
@@ -82,7 +82,7 @@ still file section tables table offset one is = record {
 -- ---- the rows of the next unit
 
 module _ (file : List ℕ) (section : Option Cursor) (tables : List (Option (List Sequence))) (known : BTreeMap ℕ Known) (are : AreKnown file section tables known) (before : ℕ) where
-  pub has_table : (program : Option Named) (rows : UnitRows) → GivesUnitRows section known before program (Ok rows) → HasTable (length tables) rows
+  pub has_table : (program : Option NamedProgram) (rows : UnitRows) → GivesUnitRows section known before program (Ok rows) → HasTable (length tables) rows
   has_table None Absent gives = tt
   has_table None (Read offset rows) gives = tt
   has_table None (Again one) gives = absurd cc
@@ -91,13 +91,13 @@ module _ (file : List ℕ) (section : Option Cursor) (tables : List (Option (Lis
   has_table (Some program) (Again one) gives = slice_get_within tables one.unit _ (are program.offset one gives.0).table
 
   -- The rows of a unit that are told, with their table and their number.
-  pub record IsUnit (program : Option Named) (rows : UnitRows) (table : Option (List Sequence)) : Type 0 where
+  pub record IsUnit (program : Option NamedProgram) (rows : UnitRows) (table : Option (List Sequence)) : Type 0 where
     pub all : Option (List Row)
     pub told : rows_named before section program ≡ Ok all
     pub table_is : table ≡ option_map (live_sequences file) all
     pub count_is : count_of rows ≡ option_map_or length all 0
 
-  pub is_unit : (program : Option Named) (rows : UnitRows) (table : Option (List Sequence)) → GivesUnitRows section known before program (Ok rows) → IsTable file tables rows table
+  pub is_unit : (program : Option NamedProgram) (rows : UnitRows) (table : Option (List Sequence)) → GivesUnitRows section known before program (Ok rows) → IsTable file tables rows table
       → IsUnit program rows table
   is_unit None Absent table gives is = record { all = None; told = refl; table_is = is; count_is = refl }
   is_unit None (Read offset rows) table gives is = absurd cc
@@ -135,7 +135,7 @@ module _ (file : List ℕ) (section : Option Cursor) (tables : List (Option (Lis
       repeats = repeats section before at offset rows read;
     }
 
-    pub AreKnown-more : (program : Option Named) (rows : UnitRows) → GivesUnitRows section known before program (Ok rows) → IsTable file tables rows table → Keeps unit rows known more
+    pub AreKnown-more : (program : Option NamedProgram) (rows : UnitRows) → GivesUnitRows section known before program (Ok rows) → IsTable file tables rows table → Keeps unit rows known more
         → AreKnown file section (tables ++ table ∷ []) more
     AreKnown-more program Absent gives is keeps = kept keeps
     AreKnown-more program (Again one) gives is keeps = kept keeps

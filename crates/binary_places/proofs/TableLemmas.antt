@@ -21,7 +21,7 @@ use Rattle.line_model.specs.Fields.{Judged, ◌>>=◌}
 use Rattle.line_model.specs.Program.{max_rows_of_all, rows_at}
 use Rattle.line_model.specs.Rows.{Sequence, live_sequences}
 use Rattle.binary_model.specs.LinePrograms.{row_count, rows_behind, rows_by, rows_from, rows_if, rows_of_unit, rows_of_units}
-use Rattle.binary_places.specs.declared.programs.Named.{Named}
+use Rattle.binary_places.specs.declared.programs.NamedProgram.{NamedProgram}
 use Rattle.binary_places.specs.declared.shared.Known.{Known}
 use Rattle.binary_places.specs.Shared.{GivesUnitRows}
 use Rattle.binary_places.specs.Tables.{AreTables, AreTablesOf, rows_named}
@@ -139,7 +139,7 @@ TablesSoFar-end file section told index before tables so_far past =
     judged file (rows_of_units section told) so_far.now tables
     (so_far.reached ∙ ap (λ us. rows_behind section told index us so_far.now) (drop_all index told.units past)) so_far.is
 
-pub TablesSoFar-stop : (file : List ℕ) (section : Option Cursor) (told : Units) (index before : ℕ) (tables : List (Option (List Sequence))) (known : BTreeMap ℕ Known) (program : Option Named) (why : Stop)
+pub TablesSoFar-stop : (file : List ℕ) (section : Option Cursor) (told : Units) (index before : ℕ) (tables : List (Option (List Sequence))) (known : BTreeMap ℕ Known) (program : Option NamedProgram) (why : Stop)
     {T : Type 0} (P : T → Type 0) (r : Result T Stop) → TablesSoFar file section told index before tables → index < length told.units
     → rows_of_unit section told index before ≡ rows_named before section program → GivesUnitRows section known before program (Err why)
     → IsErrAnd r (λ s. s ≡ why) → JudgesUnlessNoMemory (result_err (rows_of_units section told)) r P

@@ -9,7 +9,7 @@ use Rattle.byte_view.specs.Cursor.{Cursor}
 use Rattle.line_model.specs.Program.{max_rows_of_all}
 use Rattle.line_model.specs.Rows.{Sequence, live_sequences}
 use Rattle.binary_model.specs.LinePrograms.{rows_from}
-use Rattle.binary_places.specs.declared.programs.Named.{Named}
+use Rattle.binary_places.specs.declared.programs.NamedProgram.{NamedProgram}
 use Rattle.binary_places.specs.declared.shared.Known.{Known}
 use Rattle.binary_places.specs.declared.shared.UnitRows.{UnitRows}
 use Rattle.binary_places.specs.declared.shared.UnitRows.TheVariants.{Absent, Read, Again}
@@ -26,7 +26,7 @@ FitsBehind before rows true = before + rows ≤ max_rows_of_all
 FitsBehind before rows false = max_rows_of_all < before + rows
 
 -- The rows of a program are read, or it is known and its rows are within the limit; else it has a first bad place.
-abbrev pub GivesProgramRows : Option Cursor → BTreeMap ℕ Known → ℕ → Named → Result UnitRows Stop → Type 0
+abbrev pub GivesProgramRows : Option Cursor → BTreeMap ℕ Known → ℕ → NamedProgram → Result UnitRows Stop → Type 0
 GivesProgramRows section known before program (Ok Absent) = ⊥
 GivesProgramRows section known before program (Ok (Read offset rows)) =
     (offset ≡ program.offset) × (rows_from before section program.at program.offset ≡ Ok rows.items)
@@ -37,7 +37,7 @@ GivesProgramRows section known before program (Err (Refused place)) =
 GivesProgramRows section known before program (Err NoMemory) = ⊤
 
 -- The rows of the program that a unit names, if it names one.
-abbrev pub GivesUnitRows : Option Cursor → BTreeMap ℕ Known → ℕ → Option Named → Result UnitRows Stop → Type 0
+abbrev pub GivesUnitRows : Option Cursor → BTreeMap ℕ Known → ℕ → Option NamedProgram → Result UnitRows Stop → Type 0
 GivesUnitRows section known before None result = result ≡ Ok Absent
 GivesUnitRows section known before (Some program) result = GivesProgramRows section known before program result
 

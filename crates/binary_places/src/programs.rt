@@ -16,7 +16,7 @@ use std::alloc::Global;
 
 /// A line program, as a unit names it.
 #[derive(Clone, Copy)]
-pub(crate) struct Named {
+pub(crate) struct NamedProgram {
     /// Where the value that names it stands in the file.
     pub at: u64,
     /// Where it begins in `.debug_line`.
@@ -27,12 +27,12 @@ pub(crate) struct Named {
 ///
 /// Source: DWARF 5, section 3.1.1.
 #[tactic(auto, unfolding(binary_model::specs::LinePrograms::rows_of_unit))]
-pub(crate) fn program_of(units: &Units<'_>, index: u32) -> Option<Named>
+pub(crate) fn program_of(units: &Units<'_>, index: u32) -> Option<NamedProgram>
     ensures { IsNamed units.now index result }
 {
     let found = root_attribute(units, index, DW_AT_STMT_LIST)?;
     let offset = section_place(found.value)?;
-    Some(Named {
+    Some(NamedProgram {
         at: found.at,
         offset,
     })
@@ -61,7 +61,7 @@ fn rest_from<'a>(section: Part<'a>, offset: u64) -> Option<Part<'a>>
 pub(crate) fn rows_from(
     alloc: Global,
     line: Option<Part<'_>>,
-    program: Named,
+    program: NamedProgram,
     before: u64,
 ) -> Result<Vec<Row>, Stop>
     requires { before ≤ max_rows_of_all }

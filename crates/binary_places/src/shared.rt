@@ -7,7 +7,7 @@ ghost use Rattle.placed_view.specs.Reader.{start_of};
 ghost use Rattle.line_model.specs.Program.{max_rows_of_all};
 ghost use Rattle.binary_places.specs.Shared.{FitsBehind, GivesProgramRows, GivesUnitRows, Keeps, count_of};
 
-use crate::programs::{Named, rows_from};
+use crate::programs::{NamedProgram, rows_from};
 use byte_view::Part;
 use line_program::Row;
 use refusal::{NoMemory, Stop};
@@ -61,7 +61,7 @@ fn fits(rows: u64, before: u64) -> bool
 fn rows_of_program(
     alloc: Global,
     line: Option<Part<'_>>,
-    program: Named,
+    program: NamedProgram,
     known: &BTreeMap<u64, Known>,
     before: u64,
 ) -> Result<UnitRows, Stop>
@@ -87,7 +87,7 @@ fn rows_of_program(
 pub(crate) fn rows_of_unit(
     alloc: Global,
     line: Option<Part<'_>>,
-    program: Option<Named>,
+    program: Option<NamedProgram>,
     known: &BTreeMap<u64, Known>,
     before: u64,
 ) -> Result<UnitRows, Stop>

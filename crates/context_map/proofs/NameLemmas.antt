@@ -9,7 +9,7 @@ use Rattle.chain_model.specs.declared.member.Member.{Member}
 use Rattle.chain_model.specs.Chains.{path}
 use Rattle.chain_model.specs.Places.{nameless, LineAndDisc, frame, frames, last_start, place_by, place_of, row_of}
 use Rattle.context_map.specs.declared.context.Context.{Context}
-use Rattle.context_map.specs.declared.named.Named.{Named}
+use Rattle.context_map.specs.declared.named.NamedPath.{NamedPath}
 use Rattle.context_map.specs.Paths.{member_at, numbered_at, parent_at, AreParents}
 use Rattle.context_map.specs.Contexts.{place_in, told, IsContext}
 use Rattle.context_map.proofs.ParentLemmas.{climb-more, climb-end, climb-before, members-of}
@@ -73,7 +73,7 @@ place-nameless base start (Some root) row = refl
 pub named-not : (base : Bool) (start : ℕ) (name : Option NameId) (row : Option LineAndDisc) → place_by base start name None row ≡ place_in base None row
 named-not base start name row = place-nameless base start name row
 
-pub named-all : (base : Bool) (named : Named) (row : Option LineAndDisc) → place_by base named.start (Some named.root) (Some named.calls.items) row ≡ place_in base (Some named) row
+pub named-all : (base : Bool) (named : NamedPath) (row : Option LineAndDisc) → place_by base named.start (Some named.root) (Some named.calls.items) row ≡ place_in base (Some named) row
 named-all base named None = refl
 named-all base named (Some row) = refl
 

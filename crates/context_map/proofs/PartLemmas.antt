@@ -8,7 +8,7 @@ use Rattle.key_types.specs.declared.key.Key.{Key}
 use Rattle.key_types.specs.declared.places.Seg.{Seg}
 use Rattle.row_table.specs.declared.row_data.RowData.{RowData}
 use Rattle.chain_model.specs.Places.{no_line, has_key, key}
-use Rattle.context_map.specs.declared.named.Named.{Named}
+use Rattle.context_map.specs.declared.named.NamedPath.{NamedPath}
 use Rattle.key_types.specs.Segments.{Kept}
 use Rattle.key_types.proofs.ToldLemmas.{TellBelow-keys, TellBelow-gap, TellBelow-push}
 use Rattle.context_map.specs.Parts.{line_and_disc, factor_of, with_factor, shown, IsSame, IsCutUp, Extends, KeepUp}
@@ -39,7 +39,7 @@ Extends-then lo mid hi show there keys more all segments longer whole up on firs
     second wanted (first wanted so_far (λ a low high. is a low (omega (arith, high)))) (λ a low high. is a (omega (arith, low)) high ∙ same a low high)
 
 -- what a row gives
-pub shown-row : (base : Bool) (named : Named) (row : RowData) → (row.line ≡ 0 → ⊥) → shown base (Some named) (Some (line_and_disc row)) ≡ Some (key base named.root named.calls.items named.start (line_and_disc row), factor_of base (Some (line_and_disc row)))
+pub shown-row : (base : Bool) (named : NamedPath) (row : RowData) → (row.line ≡ 0 → ⊥) → shown base (Some named) (Some (line_and_disc row)) ≡ Some (key base named.root named.calls.items named.start (line_and_disc row), factor_of base (Some (line_and_disc row)))
 shown-row base named row lined = by (row.line == 0) refl
   where
     by : (t : Bool) → (row.line == 0) ≡ t → with_factor (if row.line == 0 then no_line else has_key (key base named.root named.calls.items named.start (line_and_disc row))) (factor_of base (Some (line_and_disc row)))
@@ -47,7 +47,7 @@ shown-row base named row lined = by (row.line == 0) refl
     by true is = absurd (lined (grind (arith, nat_tests)))
     by false is = rw is refl
 
-pub shown-no_line : (base : Bool) (named : Named) (row : RowData) → row.line ≡ 0 → shown base (Some named) (Some (line_and_disc row)) ≡ None
+pub shown-no_line : (base : Bool) (named : NamedPath) (row : RowData) → row.line ≡ 0 → shown base (Some named) (Some (line_and_disc row)) ≡ None
 shown-no_line base named row none = by (row.line == 0) refl
   where
     by : (t : Bool) → (row.line == 0) ≡ t → with_factor (if row.line == 0 then no_line else has_key (key base named.root named.calls.items named.start (line_and_disc row))) (factor_of base (Some (line_and_disc row))) ≡ None
@@ -55,11 +55,11 @@ shown-no_line base named row none = by (row.line == 0) refl
     by false is = absurd (grind (arith, nat_tests))
 
 -- what the rows of a span show
-abbrev pub show : (ℕ → Option RowData) → Bool → Named → ℕ → Option (Key × ℕ)
+abbrev pub show : (ℕ → Option RowData) → Bool → NamedPath → ℕ → Option (Key × ℕ)
 show answer base named a = shown base (Some named) (option_map line_and_disc (answer a))
 
 -- how far a span was taken: there are segments up to an address, one row counts from there to the cuts that are left
-pub record SoFar (answer : ℕ → Option RowData) (base : Bool) (named : Named) (first hi most : ℕ) (left : List ℕ) (lo : ℕ) (row : Option RowData) (keys more : List Key) (segments longer : List Seg) (at : ℕ) : Type 0 where
+pub record SoFar (answer : ℕ → Option RowData) (base : Bool) (named : NamedPath) (first hi most : ℕ) (left : List ℕ) (lo : ℕ) (row : Option RowData) (keys more : List Key) (segments longer : List Seg) (at : ℕ) : Type 0 where
   pub up : first ≤ lo
   pub reached : lo ≤ at
   pub same : (a : ℕ) → lo ≤ a → a < at → answer a ≡ row
@@ -70,7 +70,7 @@ pub record SoFar (answer : ℕ → Option RowData) (base : Bool) (named : Named)
   pub kept : Kept keys more
   pub room : length keys ≤ most → length more ≤ most
 
-pub SoFar-none : (answer : ℕ → Option RowData) (base : Bool) (named : Named) (first hi most : ℕ) (left : List ℕ) (row : Option RowData) (keys : List Key) (segments : List Seg) → IsCutUp answer first hi left → row ≡ answer first → SoFar answer base named first hi most left first row keys keys segments segments first
+pub SoFar-none : (answer : ℕ → Option RowData) (base : Bool) (named : NamedPath) (first hi most : ℕ) (left : List ℕ) (row : Option RowData) (keys : List Key) (segments : List Seg) → IsCutUp answer first hi left → row ≡ answer first → SoFar answer base named first hi most left first row keys keys segments segments first
 SoFar-none answer base named first hi most left row keys segments cut is = record {
   up = omega arith;
   reached = omega arith;
@@ -90,10 +90,10 @@ same_up answer lo at cut row before here same a low high = elim (either a at) [
   | inr from ↦ same a from high ∙ here
 ]
 
-shows : (answer : ℕ → Option RowData) (base : Bool) (named : Named) (lo hi : ℕ) (row : Option RowData) → ((a : ℕ) → lo ≤ a → a < hi → answer a ≡ row) → (a : ℕ) → lo ≤ a → a < hi → show answer base named a ≡ shown base (Some named) (option_map line_and_disc row)
+shows : (answer : ℕ → Option RowData) (base : Bool) (named : NamedPath) (lo hi : ℕ) (row : Option RowData) → ((a : ℕ) → lo ≤ a → a < hi → answer a ≡ row) → (a : ℕ) → lo ≤ a → a < hi → show answer base named a ≡ shown base (Some named) (option_map line_and_disc row)
 shows answer base named lo hi row same a low high = ap (λ r. shown base (Some named) (option_map line_and_disc r)) (same a low high)
 
-pub SoFar-on : (answer : ℕ → Option RowData) (base : Bool) (named : Named) (first hi most cut : ℕ) (left : List ℕ) (lo : ℕ) (row next : Option RowData) (keys more : List Key) (segments longer : List Seg) (at : ℕ)
+pub SoFar-on : (answer : ℕ → Option RowData) (base : Bool) (named : NamedPath) (first hi most cut : ℕ) (left : List ℕ) (lo : ℕ) (row next : Option RowData) (keys more : List Key) (segments longer : List Seg) (at : ℕ)
     → SoFar answer base named first hi most (cut ∷ left) lo row keys more segments longer at → next ≡ answer cut → next ≡ row → SoFar answer base named first hi most left lo row keys more segments longer cut
 SoFar-on answer base named first hi most cut left lo row next keys more segments longer at so_far is equal = record {
   up = so_far.up;
@@ -107,7 +107,7 @@ SoFar-on answer base named first hi most cut left lo row next keys more segments
   room = so_far.room;
 }
 
-pub SoFar-more : (answer : ℕ → Option RowData) (base : Bool) (named : Named) (first hi most cut : ℕ) (left : List ℕ) (lo : ℕ) (row next : Option RowData) (keys more all : List Key) (segments longer whole : List Seg) (at : ℕ)
+pub SoFar-more : (answer : ℕ → Option RowData) (base : Bool) (named : NamedPath) (first hi most cut : ℕ) (left : List ℕ) (lo : ℕ) (row next : Option RowData) (keys more all : List Key) (segments longer whole : List Seg) (at : ℕ)
     → SoFar answer base named first hi most (cut ∷ left) lo row keys more segments longer at → next ≡ answer cut → Extends lo cut (λ _. shown base (Some named) (option_map line_and_disc row)) more all longer whole → KeepUp more all longer whole → Kept more all
     → (length more ≤ most → length all ≤ most) → SoFar answer base named first hi most left cut next keys all segments whole cut
 SoFar-more answer base named first hi most cut left lo row next keys more all segments longer whole at so_far is part keep_up kept room = record {
@@ -123,7 +123,7 @@ SoFar-more answer base named first hi most cut left lo row next keys more all se
   room = λ h. room (so_far.room h);
 }
 
-pub SoFar-all : (answer : ℕ → Option RowData) (base : Bool) (named : Named) (first hi most : ℕ) (left : List ℕ) (lo : ℕ) (row : Option RowData) (keys more all : List Key) (segments longer whole : List Seg) (at : ℕ)
+pub SoFar-all : (answer : ℕ → Option RowData) (base : Bool) (named : NamedPath) (first hi most : ℕ) (left : List ℕ) (lo : ℕ) (row : Option RowData) (keys more all : List Key) (segments longer whole : List Seg) (at : ℕ)
     → SoFar answer base named first hi most left lo row keys more segments longer at → left ≡ [] → Extends lo hi (λ _. shown base (Some named) (option_map line_and_disc row)) more all longer whole
     → Extends first hi (show answer base named) keys all segments whole
 SoFar-all answer base named first hi most left lo row keys more all segments longer whole at so_far none part =

@@ -15,7 +15,7 @@ use Rattle.chain_model.specs.Places.{outside, no_line, has_key, LineAndDisc, pla
 use Rattle.chain_model.proofs.ChainLemmas.{are_paths}
 use Rattle.span_cover.specs.Asked.{asks, innermost_asked}
 use Rattle.span_cover.proofs.AskedLemmas.{asked-there}
-use Rattle.context_map.specs.declared.named.Named.{Named}
+use Rattle.context_map.specs.declared.named.NamedPath.{NamedPath}
 use Rattle.context_map.specs.declared.context.Context.{Context}
 use Rattle.context_map.specs.Contexts.{place_in, IsContext}
 use Rattle.key_types.specs.Segments.{HaveSegments, Kept, TellBelow}
@@ -120,11 +120,11 @@ none-some None is = refl
 none-some (Some x) is = absurd (cc)
 
 -- the spans of a context without names
-AreBetween-unnamed : (named : Option Named) (span : Span) → span.lo < span.hi → AreBetween span.lo span.hi (unnamed named span)
+AreBetween-unnamed : (named : Option NamedPath) (span : Span) → span.lo < span.hi → AreBetween span.lo span.hi (unnamed named span)
 AreBetween-unnamed None span full = (omega arith, full, omega arith)
 AreBetween-unnamed (Some named) span full = omega (arith, full)
 
-unnamed-owner : (base : Bool) (named : Option Named) (row : Option LineAndDisc) (span : Span) (a : ℕ) → span.lo ≤ a → a < span.hi → is_some (owner_at (unnamed named span) a) ≡ is_nameless (place_in base named row)
+unnamed-owner : (base : Bool) (named : Option NamedPath) (row : Option LineAndDisc) (span : Span) (a : ℕ) → span.lo ≤ a → a < span.hi → is_some (owner_at (unnamed named span) a) ≡ is_nameless (place_in base named row)
 unnamed-owner base None row span a low high = ap is_some (owner-hit span [] a (held span a low high))
 unnamed-owner base (Some named) None span a low high = refl
 unnamed-owner base (Some named) (Some row) span a low high = sym (lined (row.0 == 0))
@@ -205,11 +205,11 @@ PartsSoFar-there marks rows base members most span rest keys more parts spans bo
     asked-there marks members span.lo span.owner (sym (so_far.owners span.lo so_far.left_ascend.0) ∙ owner-hit span rest span.lo (held span span.lo (omega arith) so_far.left_ascend.1))
 
 -- the rows of a unit with and without a table
-pub show-nameless : (base : Bool) (named : Option Named) (row : Option LineAndDisc) → named ≡ None → shown base named row ≡ None
-show-nameless base named row is = ap (λ (n : Option Named). shown base n row) is
+pub show-nameless : (base : Bool) (named : Option NamedPath) (row : Option LineAndDisc) → named ≡ None → shown base named row ≡ None
+show-nameless base named row is = ap (λ (n : Option NamedPath). shown base n row) is
 
-pub show-rowless : (base : Bool) (named : Option Named) (name : Named) (row : Option LineAndDisc) → named ≡ Some name → row ≡ None → shown base named row ≡ None
-show-rowless base named name row is none = ap (λ (n : Option Named). shown base n row) is ∙ ap (shown base (Some name)) none
+pub show-rowless : (base : Bool) (named : Option NamedPath) (name : NamedPath) (row : Option LineAndDisc) → named ≡ Some name → row ≡ None → shown base named row ≡ None
+show-rowless base named name row is none = ap (λ (n : Option NamedPath). shown base n row) is ∙ ap (shown base (Some name)) none
 
 pub rowless : (tables : List (Option (List Sequence))) (unit a : ℕ) → table_of tables unit ≡ None → rows_of tables unit a ≡ None
 rowless tables unit a none = ap (λ t. option_map line_and_disc (option_and_then (λ table. told table a) t)) none

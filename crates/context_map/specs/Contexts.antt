@@ -6,10 +6,10 @@ use Rattle.chain_model.specs.declared.member.Member.{Member}
 use Rattle.chain_model.specs.Chains.{path}
 use Rattle.chain_model.specs.Places.{Place, nameless, no_line, has_key, LineAndDisc, key, place_of, row_of}
 use Rattle.context_map.specs.declared.context.Context.{Context}
-use Rattle.context_map.specs.declared.named.Named.{Named}
+use Rattle.context_map.specs.declared.named.NamedPath.{NamedPath}
 
 -- The place that names and a row give.
-abbrev pub place_in : Bool → Option Named → Option LineAndDisc → Place
+abbrev pub place_in : Bool → Option NamedPath → Option LineAndDisc → Place
 place_in base None row = nameless
 place_in base (Some named) None = no_line
 place_in base (Some named) (Some row) =

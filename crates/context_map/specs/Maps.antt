@@ -19,7 +19,7 @@ use Rattle.chain_model.specs.Places.{Place, outside, nameless, LineAndDisc, Tell
 use Rattle.span_cover.specs.Asked.{asks}
 use Rattle.span_cover.specs.Stretches as stretches
 use Rattle.key_types.specs.Segments as segments
-use Rattle.context_map.specs.declared.named.Named.{Named}
+use Rattle.context_map.specs.declared.named.NamedPath.{NamedPath}
 use Rattle.context_map.specs.Parts.{line_and_disc, with_factor}
 use Rattle.context_map.specs.declared.entrance.Entrance.{Entrance}
 
@@ -53,7 +53,7 @@ is_nameless nameless = true
 is_nameless _ = false
 
 -- A span, where its chain has no names.
-abbrev pub unnamed : Option Named → Span → List Span
+abbrev pub unnamed : Option NamedPath → Span → List Span
 unnamed None span = span ∷ []
 unnamed (Some named) span = []
 

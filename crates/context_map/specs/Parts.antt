@@ -6,7 +6,7 @@ use Rattle.key_types.specs.declared.key.Key.{Key}
 use Rattle.key_types.specs.declared.places.Seg.{Seg}
 use Rattle.row_table.specs.declared.row_data.RowData.{RowData}
 use Rattle.chain_model.specs.Places.{Place, has_key, LineAndDisc}
-use Rattle.context_map.specs.declared.named.Named.{Named}
+use Rattle.context_map.specs.declared.named.NamedPath.{NamedPath}
 use Rattle.context_map.specs.Contexts.{place_in}
 use Rattle.key_types.specs.Segments.{HaveSegments, TellBelow}
 
@@ -24,7 +24,7 @@ with_factor (has_key key) factor = Some (key, factor)
 with_factor _ factor = None
 
 -- The key and the factor that names and a row give.
-abbrev pub shown : Bool → Option Named → Option LineAndDisc → Option (Key × ℕ)
+abbrev pub shown : Bool → Option NamedPath → Option LineAndDisc → Option (Key × ℕ)
 shown base named row = with_factor (place_in base named row) (factor_of base row)
 
 -- An answer does not change from an address up to a bound.

@@ -2,7 +2,7 @@ ghost use Rattle.std.specs.Prelude.{◌≡◌, ◌<◌, IfOk, length};
 ghost use Rattle.context_map.specs.Paths.{AreParents};
 ghost use Rattle.context_map.specs.Contexts.{IsContext};
 
-use crate::named::{Named, named_by, push_frame};
+use crate::named::{NamedPath, named_by, push_frame};
 use chain_model::Member;
 use refusal::NoMemory;
 use std::alloc::Global;
@@ -15,7 +15,7 @@ pub struct Context {
     /// Its unit.
     pub unit: u32,
     /// The names of the chain, if all its members have one.
-    pub named: Option<Named>,
+    pub named: Option<NamedPath>,
 }
 
 /// The context of the chains that end with a member; with `base` the discriminators of their calls

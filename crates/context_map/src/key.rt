@@ -4,7 +4,7 @@ ghost use Rattle.key_types.specs.Segments.{Kept};
 ghost use Rattle.row_table.specs.declared.row_data.RowData.{RowData};
 ghost use Rattle.context_map.specs.Parts.{factor_of, line_and_disc};
 
-use crate::named::Named;
+use crate::named::NamedPath;
 use crate::offset::{kept, line_offset};
 use crate::rules::Rules;
 use item_lists::Items;
@@ -20,7 +20,7 @@ use std::alloc::Global;
 pub(crate) fn key_of(
     alloc: Global,
     keys: &mut Keys,
-    named: &Named,
+    named: &NamedPath,
     row: RowData,
     rules: Rules,
 ) -> Result<KeyId, NoMemory>

@@ -33,7 +33,7 @@ pub use context::{Context, context_of};
 pub use entrance::Entrance;
 pub use functions::Functions;
 pub use map::{Map, make, make_asked};
-pub use named::Named;
+pub use named::NamedPath;
 pub use offset::{kept, line_offset};
 pub use parent::parents;
 pub use rules::Rules;

@@ -10,7 +10,7 @@ use refusal::NoMemory;
 
 /// The names on the way from a function to a call in it.
 #[derive(Debug, Drop)]
-pub struct Named {
+pub struct NamedPath {
     /// The function.
     pub root: NameId,
     /// The calls in it, the outermost first.
@@ -48,7 +48,7 @@ pub(crate) fn named_by(
     all_named: bool,
     calls: Vec<Frame>,
     start: u64,
-) -> Option<Named>
+) -> Option<NamedPath>
     ensures { (base : Bool) (row : Option LineAndDisc)
         → place_by base start root (told all_named calls.items) row ≡ place_in base result row }
 {
@@ -56,7 +56,7 @@ pub(crate) fn named_by(
         return None;
     };
     if all_named {
-        Some(Named { root, calls, start })
+        Some(NamedPath { root, calls, start })
     } else {
         None
     }

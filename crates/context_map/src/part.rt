@@ -4,7 +4,7 @@ ghost use Rattle.key_types.specs.Segments.{Kept};
 ghost use Rattle.context_map.specs.Parts.{Extends, KeepUp, line_and_disc, shown};
 
 use crate::key::{factor, key_of};
-use crate::named::Named;
+use crate::named::NamedPath;
 use crate::rules::Rules;
 use address_spans::Span;
 use key_types::{Keys, Seg};
@@ -18,7 +18,7 @@ pub(crate) fn push_part(
     segments: &mut Vec<Seg>,
     keys: &mut Keys,
     part: &Span,
-    named: &Named,
+    named: &NamedPath,
     row: Option<RowData>,
     rules: Rules,
 ) -> Result<(), NoMemory>

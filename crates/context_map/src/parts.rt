@@ -6,7 +6,7 @@ use crate::asked::Asked;
 use crate::context::context_of;
 use crate::parent::parents;
 use crate::rules::Rules;
-use crate::span::{Parts, push_span};
+use crate::span::{MapParts, push_span};
 use chain_model::Member;
 use key_types::Keys;
 use refusal::NoMemory;
@@ -23,7 +23,7 @@ pub(crate) fn parts_of(
     rows: &[Option<RowTable>],
     keys: &mut Keys,
     rules: Rules,
-) -> Result<Parts, NoMemory>
+) -> Result<MapParts, NoMemory>
     requires { rules.most < 2 ^ 32 - 1 }
     ensures parts { IfOk result (λ parts. ArePartsOf asked.now (rows_of rows.now) rules.base
         members.now keys.new parts.segments.items parts.nameless.items) }
@@ -34,7 +34,7 @@ pub(crate) fn parts_of(
 {
     let cover = cover_asked(alloc, members, asked.marks())?;
     let parents = parents(alloc, members)?;
-    let mut parts = Parts {
+    let mut parts = MapParts {
         segments: Vec::new(alloc),
         nameless: Vec::new(alloc),
     };

@@ -5,7 +5,7 @@ ghost use Rattle.key_types.specs.Segments.{Kept};
 ghost use Rattle.context_map.specs.Parts.{Extends, KeepUp, line_and_disc, shown};
 
 use crate::cuts::cuts_between;
-use crate::named::Named;
+use crate::named::NamedPath;
 use crate::part::push_part;
 use crate::rules::Rules;
 use address_spans::Span;
@@ -24,7 +24,7 @@ pub fn push_segments(
     segments: &mut Vec<Seg>,
     keys: &mut Keys,
     span: &Span,
-    named: &Named,
+    named: &NamedPath,
     table: &RowTable,
     rules: Rules,
 ) -> Result<(), NoMemory>

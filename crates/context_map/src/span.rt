@@ -15,7 +15,7 @@ use std::alloc::Global;
 
 /// What of the addresses is made so far: segments, and the spans of chains with a nameless member.
 #[derive(Drop)]
-pub(crate) struct Parts {
+pub(crate) struct MapParts {
     pub segments: Vec<Seg>,
     pub nameless: Vec<Span>,
 }
@@ -23,7 +23,7 @@ pub(crate) struct Parts {
 /// Appends what a span comes to whose addresses have this context.
 pub(crate) fn push_span(
     alloc: Global,
-    parts: &mut Parts,
+    parts: &mut MapParts,
     keys: &mut Keys,
     span: &Span,
     context: &Context,

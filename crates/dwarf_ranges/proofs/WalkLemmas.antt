@@ -9,12 +9,12 @@ use Rattle.range_model.specs.Entries.{Entry, entry_at}
 use Rattle.range_model.specs.Lists.{Resolves, entries_from, bad_in_list, ranges_from, max_entries, base_behind, ranges_of_entry}
 use Rattle.range_model.proofs.EntryLemmas.{entry_at-shorter}
 use Rattle.range_model.proofs.ListLemmas.{entries_from-entry, bad_in_list-good, bad_in_list-many}
-use Rattle.dwarf_ranges.specs.declared.step.Step.{Step}
+use Rattle.dwarf_ranges.specs.declared.step.ListStep.{ListStep}
 use Rattle.dwarf_ranges.specs.Meaning.{IsStep}
 use Rattle.dwarf_ranges.specs.Walk.{IsNext}
 
 -- an entry was read, and means something
-pub next-made : (resolve : Resolves) (pairs : Bool) (base place : ℕ) (old new : Cursor) (entry : Entry) (step : Step)
+pub next-made : (resolve : Resolves) (pairs : Bool) (base place : ℕ) (old new : Cursor) (entry : Entry) (step : ListStep)
     → entry_at pairs old.left ≡ Ok (Some (entry, new.left)) → new.at + length new.left ≡ old.at + length old.left
     → place ≡ old.at → IsStep resolve place base entry step → IsNext resolve pairs base old new step
 next-made resolve pairs base place old new entry step read end place_is made =
@@ -37,7 +37,7 @@ module _ (resolve : Resolves) (pairs : Bool) (first_base : ℕ) (start : Cursor)
   SoFar-start = record { bad = refl; found = refl; few = omega arith }
 
   -- one entry more
-  pub SoFar-more : (old new : Cursor) (base count : ℕ) (ranges more : List (ℕ × ℕ)) (step : Step) → SoFar old base count ranges
+  pub SoFar-more : (old new : Cursor) (base count : ℕ) (ranges more : List (ℕ × ℕ)) (step : ListStep) → SoFar old base count ranges
       → IsNext resolve pairs base old new step → count < max_entries → more ≡ ranges ++ option_to_list step.range
       → SoFar new step.base (count + 1) more
   SoFar-more old new base count ranges more step so_far next few more_is =
@@ -66,7 +66,7 @@ module _ (resolve : Resolves) (pairs : Bool) (first_base : ℕ) (start : Cursor)
       (so_far.bad ∙ rw end refl, sym (so_far.found ∙ rw (end, append-nil) refl))
 
   -- one entry too many
-  pub SoFar-many : (old new : Cursor) (base count : ℕ) (ranges : List (ℕ × ℕ)) (step : Step) → SoFar old base count ranges
+  pub SoFar-many : (old new : Cursor) (base count : ℕ) (ranges : List (ℕ × ℕ)) (step : ListStep) → SoFar old base count ranges
       → IsNext resolve pairs base old new step → max_entries ≤ count
       → bad_in_list resolve 0 (entries_from pairs start.at start.left) ≡ Some (in_binary step.at TooManyRanges)
   SoFar-many old new base count ranges step so_far next many =

@@ -5,7 +5,7 @@ use dwarf_forms::Value;
 ///
 /// Source: DWARF 5, section 2.17.3.
 #[derive(Clone, Copy, Debug)]
-pub(crate) enum Entry<'a> {
+pub(crate) enum ListEntry<'a> {
     /// From here on this address is the base.
     SetsBase(Value<'a>),
     /// A range from the first address up to the second.

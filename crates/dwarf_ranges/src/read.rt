@@ -4,7 +4,7 @@ ghost use Rattle.range_model.specs.Entries.{uleb as uleb_of, word as word_of};
 ghost use Rattle.byte_view.specs.Reading.{field_at};
 ghost use Rattle.dwarf_ranges.specs.Meaning.{GivesEntry, GivesNumber};
 
-use crate::entry::Entry;
+use crate::entry::ListEntry;
 use byte_view::Cur;
 use dwarf_forms::Value;
 use placed_view::kind_of;
@@ -50,33 +50,33 @@ fn code(cur: &mut Cur<'_>) -> Result<u8, Kind>
 ///
 /// Source: DWARF 5, section 7.25, table 7.30.
 #[tactic(auto, unfolding(range_model::specs::Entries::coded_entry_at))]
-fn read_coded<'a>(cur: &mut Cur<'a>) -> Result<Option<Entry<'a>>, Kind>
+fn read_coded<'a>(cur: &mut Cur<'a>) -> Result<Option<ListEntry<'a>>, Kind>
     ensures exact { GivesEntry result cur.new.left (coded_entry_at cur.old.left) }
     ensures end { cur.new.at + length cur.new.left ≡ cur.old.at + length cur.old.left }
 {
     match code(cur)? {
         0 => Ok(None),
-        1 => Ok(Some(Entry::SetsBase(Value::AddrIndex(uleb(cur)?)))),
+        1 => Ok(Some(ListEntry::SetsBase(Value::AddrIndex(uleb(cur)?)))),
         2 => {
             let start = Value::AddrIndex(uleb(cur)?);
-            Ok(Some(Entry::Between(start, Value::AddrIndex(uleb(cur)?))))
+            Ok(Some(ListEntry::Between(start, Value::AddrIndex(uleb(cur)?))))
         }
         3 => {
             let start = Value::AddrIndex(uleb(cur)?);
-            Ok(Some(Entry::Along(start, uleb(cur)?)))
+            Ok(Some(ListEntry::Along(start, uleb(cur)?)))
         }
         4 => {
             let start = uleb(cur)?;
-            Ok(Some(Entry::FromBase(start, uleb(cur)?)))
+            Ok(Some(ListEntry::FromBase(start, uleb(cur)?)))
         }
-        5 => Ok(Some(Entry::SetsBase(Value::Addr(word(cur)?)))),
+        5 => Ok(Some(ListEntry::SetsBase(Value::Addr(word(cur)?)))),
         6 => {
             let start = Value::Addr(word(cur)?);
-            Ok(Some(Entry::Between(start, Value::Addr(word(cur)?))))
+            Ok(Some(ListEntry::Between(start, Value::Addr(word(cur)?))))
         }
         7 => {
             let start = Value::Addr(word(cur)?);
-            Ok(Some(Entry::Along(start, uleb(cur)?)))
+            Ok(Some(ListEntry::Along(start, uleb(cur)?)))
         }
         _ => Err(Kind::BadRangeEntry),
     }
@@ -86,7 +86,7 @@ fn read_coded<'a>(cur: &mut Cur<'a>) -> Result<Option<Entry<'a>>, Kind>
 ///
 /// Source: DWARF 4, section 2.17.3.
 #[tactic(auto, unfolding(range_model::specs::Entries::pair_entry_at))]
-fn read_pair<'a>(cur: &mut Cur<'a>) -> Result<Option<Entry<'a>>, Kind>
+fn read_pair<'a>(cur: &mut Cur<'a>) -> Result<Option<ListEntry<'a>>, Kind>
     ensures exact { GivesEntry result cur.new.left (pair_entry_at cur.old.left) }
     ensures end { cur.new.at + length cur.new.left ≡ cur.old.at + length cur.old.left }
 {
@@ -95,14 +95,14 @@ fn read_pair<'a>(cur: &mut Cur<'a>) -> Result<Option<Entry<'a>>, Kind>
     if first == 0 && second == 0 {
         Ok(None)
     } else if first == u64::MAX {
-        Ok(Some(Entry::SetsBase(Value::Addr(second))))
+        Ok(Some(ListEntry::SetsBase(Value::Addr(second))))
     } else {
-        Ok(Some(Entry::FromBase(first, second)))
+        Ok(Some(ListEntry::FromBase(first, second)))
     }
 }
 
 /// The entry at the cursor in either section, where the list does not end there.
-pub(crate) fn read_entry<'a>(cur: &mut Cur<'a>, pairs: bool) -> Result<Option<Entry<'a>>, Kind>
+pub(crate) fn read_entry<'a>(cur: &mut Cur<'a>, pairs: bool) -> Result<Option<ListEntry<'a>>, Kind>
     ensures exact { GivesEntry result cur.new.left (entry_at pairs cur.old.left) }
     ensures end { cur.new.at + length cur.new.left ≡ cur.old.at + length cur.old.left }
 {

@@ -5,14 +5,14 @@ ghost use Rattle.range_model.specs.Texts.{address_of};
 ghost use Rattle.dwarf_strings.specs.Meaning.{bases_of, sections_of};
 ghost use Rattle.dwarf_ranges.specs.Meaning.{TakesStep, entry_of};
 
-use crate::entry::Entry;
+use crate::entry::ListEntry;
 use dwarf_strings::{Bases, Texts, address};
 use refusal::Kind;
 
 /// What an entry at a place in the file makes of a base: the base behind it, and the range that it
 /// adds, if any.
 #[derive(Clone, Copy, Debug)]
-pub(crate) struct Step {
+pub(crate) struct ListStep {
     pub at: usize,
     pub base: u64,
     pub range: Option<(u64, u64)>,
@@ -32,38 +32,38 @@ fn proper(start: u64, end: u64) -> Option<(u64, u64)>
 /// What an entry makes of a base. Sums are those of addresses: they wrap at 64 bits.
 pub(crate) fn step_of(
     at: usize,
-    entry: Entry<'_>,
+    entry: ListEntry<'_>,
     base: u64,
     texts: &Texts<'_>,
     bases: &Bases,
-) -> Result<Step, Kind>
+) -> Result<ListStep, Kind>
     ensures { TakesStep (address_of (sections_of texts.now) (bases_of bases.now)) at base
         (entry_of entry.entry) result }
 {
     match entry {
-        Entry::SetsBase(value) => Ok(Step {
+        ListEntry::SetsBase(value) => Ok(ListStep {
             at,
             base: address(value, texts, bases)?,
             range: None,
         }),
-        Entry::Between(start, end) => {
+        ListEntry::Between(start, end) => {
             let start = address(start, texts, bases)?;
             let end = address(end, texts, bases)?;
-            Ok(Step {
+            Ok(ListStep {
                 at,
                 base,
                 range: proper(start, end),
             })
         }
-        Entry::Along(start, size) => {
+        ListEntry::Along(start, size) => {
             let start = address(start, texts, bases)?;
-            Ok(Step {
+            Ok(ListStep {
                 at,
                 base,
                 range: proper(start, start.wrapping_add(size)),
             })
         }
-        Entry::FromBase(start, end) => Ok(Step {
+        ListEntry::FromBase(start, end) => Ok(ListStep {
             at,
             base,
             range: proper(base.wrapping_add(start), base.wrapping_add(end)),

@@ -10,7 +10,7 @@ ghost use Rattle.dwarf_ranges.specs.Walk.{TakesNext};
 use crate::list::RangeList;
 use crate::ranges::Ranges;
 use crate::read::read_entry;
-use crate::step::{Step, step_of};
+use crate::step::{ListStep, step_of};
 use byte_view::Cur;
 use dwarf_strings::{Bases, Texts};
 use refusal::{Kind, NoMemory, Place, Stop, refuse_if};
@@ -26,7 +26,7 @@ fn next_step(
     base: u64,
     texts: &Texts<'_>,
     bases: &Bases,
-) -> Result<Option<Step>, Place>
+) -> Result<Option<ListStep>, Place>
     ensures { TakesNext (address_of (sections_of texts.now) (bases_of bases.now)) pairs base
         cur.old cur.new result }
 {

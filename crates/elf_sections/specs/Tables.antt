@@ -7,7 +7,7 @@ use Rattle.elf_model.specs.Tables.{SectionHeader, section_headers}
 use Rattle.elf_model.specs.Sections.{used, name_section, name_table}
 use Rattle.elf_model.specs.Items.{items_of}
 use Rattle.elf_sections.specs.declared.section_table.SectionTable.{SectionTable}
-use Rattle.elf_sections.specs.declared.names.Names.{Names}
+use Rattle.elf_sections.specs.declared.names.SectionNames.{SectionNames}
 use Rattle.elf_sections.specs.Texts.{KnowsEnd}
 
 -- The header that a table names, where it names one.
@@ -20,7 +20,7 @@ pub record IsSectionTable (file : List ℕ) (table : SectionTable) : Type 0 wher
   pub names : named table ≡ name_section file
 
 -- The names of a file's sections, and where the last of them ends.
-pub record AreNames (file : List ℕ) (names : Names) : Type 0 where
+pub record AreNames (file : List ℕ) (names : SectionNames) : Type 0 where
   pub table : option_copied names.table ≡ name_table file
   pub end : KnowsEnd names
 

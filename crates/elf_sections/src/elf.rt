@@ -2,10 +2,10 @@ ghost use Rattle.std.specs.Prelude.{◌≡◌};
 ghost use Rattle.refusal.specs.Place.{JudgesUnlessNoMemory, first_bad};
 ghost use Rattle.elf_model.specs.Items.{items};
 
-use crate::entries::Entries;
+use crate::entries::TableEntries;
 use crate::file_header::FileHeader;
 use crate::judgement::judge_sections;
-use crate::names::Names;
+use crate::names::SectionNames;
 use crate::program_header::{ProgramHeader, judge_program_headers, loads_of};
 use crate::reach::{Reach, reached, reaches_of};
 use crate::section_header::SectionHeader;
@@ -23,11 +23,11 @@ use std::marker::Model;
 #[derive(Debug, Drop)]
 pub struct Elf<'a> {
     file: &'a [u8],
-    segments: Entries<'a, ProgramHeader>,
+    segments: TableEntries<'a, ProgramHeader>,
     /// How far code reaches from each address on.
     code: Vec<Reach>,
     sections: SectionTable<'a>,
-    names: Names<'a>,
+    names: SectionNames<'a>,
 }
 
 impl<'a> Model for Elf<'a> {

@@ -3,7 +3,7 @@ ghost use Rattle.std.specs.Prelude.{◌≡◌, ◌+◌, ◌≤◌, List, ℕ, le
 use std::marker::{Model, PhantomData};
 
 /// What stands in a table of a file one after another: a header of fixed size.
-pub(crate) trait Entry {
+pub(crate) trait TableEntry {
     ghost SIZE: { ℕ };
 
     /// The entry that a file has at an offset.
@@ -21,14 +21,14 @@ pub(crate) trait Entry {
 /// Entries of a file that follow one another, in their order: a table of them, and the iterator
 /// over those that are left.
 #[derive(Debug, Drop)]
-pub(crate) struct Entries<'a, E: Entry> {
+pub(crate) struct TableEntries<'a, E: TableEntry> {
     file: &'a [u8],
     at: usize,
     left: usize,
     entry: PhantomData<E>,
 }
 
-impl<'a, E: Entry> Model for Entries<'a, E> {
+impl<'a, E: TableEntry> Model for TableEntries<'a, E> {
     ghost use Rattle.std.specs.Prelude.{◌+◌, ◌*◌, ◌≤◌, List, length};
     ghost use Rattle.elf_model.specs.Tables.{entries};
 
@@ -39,16 +39,16 @@ impl<'a, E: Entry> Model for Entries<'a, E> {
     ghost invariant = { λ e. e.at + E.SIZE * e.left ≤ length e.file.now };
 }
 
-impl<'a, E: Entry> Entries<'a, E> {
+impl<'a, E: TableEntry> TableEntries<'a, E> {
     ghost use Rattle.std.specs.Prelude.{◌*◌, slice_get};
     ghost use Rattle.elf_model.specs.Tables.{entries};
 
     /// So many entries from an offset in bytes on.
-    pub fn new(file: &'a [u8], at: usize, left: usize) -> Entries<'a, E>
+    pub fn new(file: &'a [u8], at: usize, left: usize) -> TableEntries<'a, E>
         requires { at + E.SIZE * left ≤ length file.now }
         ensures { result ≡ entries (E.entry_at file.now) E.SIZE at left }
     {
-        Entries {
+        TableEntries {
             file,
             at,
             left,
@@ -57,10 +57,10 @@ impl<'a, E: Entry> Entries<'a, E> {
     }
 
     /// The same entries, to go over them.
-    pub fn iter(&self) -> Entries<'a, E>
+    pub fn iter(&self) -> TableEntries<'a, E>
         ensures { result ≡ self.now }
     {
-        Entries::new(self.file, self.at, self.left)
+        TableEntries::new(self.file, self.at, self.left)
     }
 
     /// The entry at an index, where there is one.
@@ -76,7 +76,7 @@ impl<'a, E: Entry> Entries<'a, E> {
     }
 }
 
-impl<'a, E: Entry> Iterator for Entries<'a, E> {
+impl<'a, E: TableEntry> Iterator for TableEntries<'a, E> {
     type Item = E;
 
     ghost use Rattle.std.specs.Iterator.{YieldsFirst, item_count};

@@ -6,7 +6,7 @@ ghost use Rattle.elf_model.specs.Tables.{name_index, section_count};
 ghost use Rattle.elf_model.specs.Items.{fails, header_0_passes_end, section_headers_pass_end};
 ghost use Rattle.elf_sections.specs.Room.{HasRoom};
 
-use crate::entries::Entry;
+use crate::entries::TableEntry;
 use crate::fields::passes_end;
 use crate::file_header::{E_SHOFF, FileHeader};
 use crate::section_header::SectionHeader;

@@ -5,7 +5,7 @@ ghost use Rattle.elf_model.specs.Sections.{sections};
 ghost use Rattle.elf_model.specs.Items.{items_of};
 ghost use Rattle.elf_sections.specs.Tables.{IsSectionTable, AreNames, judged};
 
-use crate::names::Names;
+use crate::names::SectionNames;
 use crate::section_header::SectionHeader;
 use crate::section_table::SectionTable;
 use refusal::{Kind, Place, refuse_if};
@@ -14,7 +14,7 @@ use refusal::{Kind, Place, refuse_if};
 pub(crate) fn judge_sections(
     table: &SectionTable<'_>,
     file: &[u8],
-    names: &Names<'_>,
+    names: &SectionNames<'_>,
 ) -> Result<(), Place>
     requires table { IsSectionTable file.now table.now }
     requires names { AreNames file.now names.now }
@@ -28,7 +28,7 @@ pub(crate) fn judge_sections(
 }
 
 /// Judges the extent and the name that a header gives, where it describes a section.
-fn judge_section(header: &SectionHeader, file: &[u8], names: &Names<'_>) -> Result<(), Place>
+fn judge_section(header: &SectionHeader, file: &[u8], names: &SectionNames<'_>) -> Result<(), Place>
     requires { AreNames file.now names.now }
     ensures { Judges (first_bad (judged file.now (header.now ∷ []))) result (λ _. ⊤) }
 {

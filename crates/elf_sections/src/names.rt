@@ -8,14 +8,14 @@ use memchr::{memchr, memrchr};
 
 /// The string table that has the names of the sections, where there is one.
 #[derive(Clone, Copy, Debug)]
-pub(crate) struct Names<'a> {
+pub(crate) struct SectionNames<'a> {
     pub table: Option<&'a [u8]>,
     /// The index behind the table's last NUL, 0 where it has none: texts stand at the indexes
     /// before it, and at no others.
     pub end: usize,
 }
 
-impl<'a> Names<'a> {
+impl<'a> SectionNames<'a> {
     /// Whether a name stands at an index of the table. Without a table all names are empty.
     pub fn has_any(&self, at: u32) -> bool
         requires { KnowsEnd self.now }

@@ -4,7 +4,7 @@ ghost use Rattle.elf_model.specs.Tables.{program_headers};
 ghost use Rattle.elf_model.specs.Items.{program_table_items};
 ghost use Rattle.elf_model.specs.Segments.{is_code as is_code_segment, load_of as loaded};
 
-use crate::entries::{Entries, Entry};
+use crate::entries::{TableEntries, TableEntry};
 use crate::fields::{passes_end, u32_at, u64_at};
 use crate::file_header::{E_PHENTSIZE, E_PHNUM, E_PHOFF, FileHeader};
 use load_model::LoadSegment;
@@ -46,7 +46,7 @@ impl Model for ProgramHeader {
     } };
 }
 
-impl Entry for ProgramHeader {
+impl TableEntry for ProgramHeader {
     ghost use Rattle.elf_model.specs.Tables.{program_header_at};
 
     ghost SIZE = { 56 };
@@ -94,7 +94,7 @@ impl ProgramHeader {
 /// `BadHeader` at `E_PHNUM`, at `E_PHENTSIZE` or at `E_PHOFF`, in this order.
 pub(crate) fn judge_program_headers<'a>(
     header: &FileHeader<'a>,
-) -> Result<Entries<'a, ProgramHeader>, Place>
+) -> Result<TableEntries<'a, ProgramHeader>, Place>
     ensures { let file = header.now.file.now in
         Judges (first_bad (program_table_items file)) result
         (λ segments. segments ≡ program_headers file) }
@@ -107,7 +107,7 @@ pub(crate) fn judge_program_headers<'a>(
     let size = u128::from(ProgramHeader::SIZE) * u128::from(count);
     let passes = passes_end(header.file, at, size);
     refuse_if(passes, Place::in_binary(E_PHOFF, Kind::BadHeader))?;
-    Ok(Entries::new(header.file, at as usize, usize::from(count)))
+    Ok(TableEntries::new(header.file, at as usize, usize::from(count)))
 }
 
 /// The segments of code among some, as they are loaded.
@@ -116,7 +116,7 @@ pub(crate) fn judge_program_headers<'a>(
 /// `NoMemory`.
 pub(crate) fn loads_of(
     alloc: Global,
-    segments: &Entries<'_, ProgramHeader>,
+    segments: &TableEntries<'_, ProgramHeader>,
 ) -> Result<Vec<LoadSegment>, NoMemory>
     ensures { IfOk result
         (λ loads. loads.items ≡ map loaded (filter is_code_segment segments.now)) }

@@ -2,7 +2,7 @@
 ghost use Rattle.std.specs.Prelude.{◌≡◌, IfOk};
 ghost use Rattle.elf_sections.specs.Reach.{AreReaches, Rise, farthest, reaches_from};
 
-use crate::entries::Entries;
+use crate::entries::TableEntries;
 use crate::program_header::{ProgramHeader, loads_of};
 use load_model::LoadSegment;
 use refusal::NoMemory;
@@ -24,7 +24,7 @@ pub(crate) struct Reach {
 /// `NoMemory`.
 pub(crate) fn reaches_of(
     alloc: Global,
-    segments: &Entries<'_, ProgramHeader>,
+    segments: &TableEntries<'_, ProgramHeader>,
 ) -> Result<Vec<Reach>, NoMemory>
     ensures { IfOk result (λ reaches. AreReaches segments.now reaches.items) }
 {

@@ -4,7 +4,7 @@ ghost use Rattle.elf_model.specs.Fields.{passes_end};
 ghost use Rattle.elf_model.specs.Sections.{is_unused, has_bytes, is_compressed};
 ghost use Rattle.elf_model.specs.Items.{extent_item};
 
-use crate::entries::Entry;
+use crate::entries::TableEntry;
 use crate::fields::{passes_end, u32_at, u64_at};
 use byte_view::Part;
 use refusal::{Kind, Place, refuse_if};
@@ -46,7 +46,7 @@ impl Model for SectionHeader {
     } };
 }
 
-impl Entry for SectionHeader {
+impl TableEntry for SectionHeader {
     ghost use Rattle.elf_model.specs.Tables.{section_header_at};
 
     ghost SIZE = { 64 };

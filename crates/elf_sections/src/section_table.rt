@@ -1,7 +1,7 @@
-use crate::entries::{Entries, Entry};
+use crate::entries::{TableEntries, TableEntry};
 use crate::file_header::{E_SHENTSIZE, E_SHSTRNDX, FileHeader};
 use crate::header_0::{judge_table_extent, name_index};
-use crate::names::{Names, end_of_texts};
+use crate::names::{SectionNames, end_of_texts};
 use crate::section_header::SectionHeader;
 use refusal::{Kind, Place, refuse_if};
 
@@ -9,7 +9,7 @@ use refusal::{Kind, Place, refuse_if};
 /// is none.
 #[derive(Debug, Drop)]
 pub(crate) struct SectionTable<'a> {
-    pub entries: Entries<'a, SectionHeader>,
+    pub entries: TableEntries<'a, SectionHeader>,
     pub name_index: u32,
 }
 
@@ -30,7 +30,7 @@ impl<'a> SectionTable<'a> {
         let at = header.section_headers_at();
         if at == 0 {
             return Ok(SectionTable {
-                entries: Entries::new(header.file, 0, 0),
+                entries: TableEntries::new(header.file, 0, 0),
                 name_index: 0,
             });
         }
@@ -41,13 +41,13 @@ impl<'a> SectionTable<'a> {
         let no_header = u64::from(name_index) >= count;
         refuse_if(no_header, Place::in_binary(E_SHSTRNDX, Kind::BadHeader))?;
         Ok(SectionTable {
-            entries: Entries::new(header.file, at as usize, count as usize),
+            entries: TableEntries::new(header.file, at as usize, count as usize),
             name_index,
         })
     }
 
     /// The headers behind header 0.
-    pub fn headers(&self) -> Entries<'a, SectionHeader>
+    pub fn headers(&self) -> TableEntries<'a, SectionHeader>
         ensures { result ≡ drop 1 self.now.entries }
     {
         let mut headers = self.entries.iter();
@@ -66,12 +66,12 @@ impl<'a> SectionTable<'a> {
     }
 
     /// Judges where the names of the sections are.
-    pub fn judge_names(&self, file: &'a [u8]) -> Result<Names<'a>, Place>
+    pub fn judge_names(&self, file: &'a [u8]) -> Result<SectionNames<'a>, Place>
         requires { IsSectionTable file.now self.now }
         ensures { Judges (name_table_item file.now) result (AreNames file.now) }
     {
         let Some(header) = self.name_section() else {
-            return Ok(Names {
+            return Ok(SectionNames {
                 table: None,
                 end: 0,
             });
@@ -79,7 +79,7 @@ impl<'a> SectionTable<'a> {
         header.judge_extent(file)?;
         let table = header.piece(file).bytes();
         let end = end_of_texts(table);
-        Ok(Names {
+        Ok(SectionNames {
             table: Some(table),
             end,
         })

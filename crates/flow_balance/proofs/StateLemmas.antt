@@ -30,8 +30,8 @@ use Rattle.path_search.specs.Path.{IsPath, pushed, step_start, step_end}
 use Rattle.path_search.proofs.PathLemmas.{HasRoom, pushed-length, pushed_fit, pushed_excess, pushed_raised}
 use Rattle.path_search.proofs.TraceLemmas.{marked}
 use Rattle.flow_balance.specs.Excess.{surplus, transferred}
-use Rattle.flow_balance.specs.declared.balancing.Sides.{Sides}
-use Rattle.flow_balance.specs.declared.balancing.Sides.TheVariants.{All as Every}
+use Rattle.flow_balance.specs.declared.balancing.ExcessSides.{ExcessSides}
+use Rattle.flow_balance.specs.declared.balancing.ExcessSides.TheVariants.{All as Every}
 use Rattle.flow_balance.specs.State.{AreLater, AreSpent, HasMoved, IsAugmented, IsClosedFrom, IsDone, IsGiven, IsLowPrice, IsNearLack, IsStart, IsState, two_ways}
 use Rattle.flow_balance.proofs.ExcessLemmas.{IsFair, transferred_at, transferred-length, fair_sums, fair_kept, fair_lacks, none_lacks}
 use Rattle.flow_balance.proofs.StartLemmas.{starting_small}
@@ -403,7 +403,7 @@ augmented net counts prices excess source side marks steps new_counts new_prices
 
 -- the sides before this one have no excess, unless some sides are left out
 pub record IsBalancing (net : Network) (old_counts : List ℕ) (old_prices old_excess : List ℤ) (old_left : ℕ) (counts : List ℕ)
-    (prices excess : List ℤ) (left : ℕ) (marks : List (Option Mark)) (sides : Sides) (side : ℕ) : Type 0 where
+    (prices excess : List ℤ) (left : ℕ) (marks : List (Option Mark)) (sides : ExcessSides) (side : ℕ) : Type 0 where
   pub given : IsGiven net old_counts old_prices old_excess counts prices excess
   pub spent : AreSpent old_left old_excess left excess
   pub marked_each : length marks ≡ length prices
@@ -441,7 +441,7 @@ pub spent_one : (left last_left : ℕ) (excess last_excess : List ℤ) → last_
 spent_one left last_left excess last_excess one less = record { fewer = omega (arith, one); taken = omega (arith, one, less) }
 
 pub side_passed : (net : Network) (old_counts : List ℕ) (old_prices old_excess : List ℤ) (old_left : ℕ) (counts new_counts : List ℕ)
-    (prices excess new_prices new_excess : List ℤ) (left new_left : ℕ) (marks new_marks : List (Option Mark)) (sides : Sides) (side : ℕ)
+    (prices excess new_prices new_excess : List ℤ) (left new_left : ℕ) (marks new_marks : List (Option Mark)) (sides : ExcessSides) (side : ℕ)
     → IsBalancing net old_counts old_prices old_excess old_left counts prices excess left marks sides side
     → IsGiven net counts prices excess new_counts new_prices new_excess → AreSpent left excess new_left new_excess
     → length new_marks ≡ length new_prices → (sides ≡ Every → price_at new_excess side ≤ℤ pos 0)
@@ -461,7 +461,7 @@ side_passed net old_counts old_prices old_excess old_left counts new_counts pric
     }
 
 pub all_passed : (net : Network) (old_counts : List ℕ) (old_prices old_excess : List ℤ) (old_left : ℕ) (counts : List ℕ)
-    (prices excess : List ℤ) (left : ℕ) (marks : List (Option Mark)) (sides : Sides) (side : ℕ)
+    (prices excess : List ℤ) (left : ℕ) (marks : List (Option Mark)) (sides : ExcessSides) (side : ℕ)
     → IsBalancing net old_counts old_prices old_excess old_left counts prices excess left marks sides side
     → length excess ≤ side → sides ≡ Every → IsDone net counts prices excess
 all_passed net old_counts old_prices old_excess old_left counts prices excess left marks sides side so_far past all = record {

@@ -3,7 +3,7 @@ ghost use Rattle.std.specs.Prelude.{◌≡◌, ◌<◌, ◌≤◌, ◌*◌, leng
 ghost use Rattle.std.specs.Prelude.{IfOk, OnOk};
 ghost use Rattle.path_search.specs.Ground.{price_at};
 ghost use Rattle.flow_balance.specs.declared.balancing.Outcome.TheVariants.{Closed, Even, Spent};
-ghost use Rattle.flow_balance.specs.declared.balancing.Sides.TheVariants.{All};
+ghost use Rattle.flow_balance.specs.declared.balancing.ExcessSides.TheVariants.{All};
 ghost use Rattle.flow_balance.specs.State.{AreLater, AreSpent, IsClosedFrom};
 ghost use Rattle.flow_balance.specs.State.{IsDone, IsGiven, IsState};
 
@@ -48,8 +48,8 @@ pub fn balance(
         → IsClosedFrom net.now counts.new prices.new excess.new work.new.search.marks) }
     ensures none_left { IfOk result (λ end. end ≡ Spent → work.new.left ≡ 0) }
 {
-    match balance_sides(net, counts, prices, excess, work, Sides::OfOneArc)? {
-        Outcome::Even => balance_sides(net, counts, prices, excess, work, Sides::All),
+    match balance_sides(net, counts, prices, excess, work, ExcessSides::OfOneArc)? {
+        Outcome::Even => balance_sides(net, counts, prices, excess, work, ExcessSides::All),
         Outcome::Closed => Ok(Outcome::Closed),
         Outcome::Spent => Ok(Outcome::Spent),
     }
@@ -57,7 +57,7 @@ pub fn balance(
 
 /// The sides whose excess is taken.
 #[derive(Clone, Copy, Debug)]
-enum Sides {
+enum ExcessSides {
     /// Those that one arc leaves.
     OfOneArc,
     All,
@@ -70,7 +70,7 @@ fn balance_sides(
     prices: &mut [i64],
     excess: &mut [i64],
     work: &mut Workspace,
-    sides: Sides,
+    sides: ExcessSides,
 ) -> Result<Outcome, NoMemory>
     requires state { IsState net.now counts.old prices.old excess.old }
     requires marked { length work.old.search.marks ≡ length prices.old }
@@ -99,7 +99,7 @@ fn balance_sides(
 }
 
 /// Whether a side has excess, and is one of these.
-fn is_due(net: &Net, excess: &[i64], side: u32, sides: Sides) -> bool
+fn is_due(net: &Net, excess: &[i64], side: u32, sides: ExcessSides) -> bool
     requires inside { side < length excess.now }
     requires side { side ≤ 2 * length net.now.blocks }
     ensures due { result ≡ true → pos 0 <ℤ price_at excess.now side }
@@ -109,8 +109,8 @@ fn is_due(net: &Net, excess: &[i64], side: u32, sides: Sides) -> bool
         return false;
     }
     match sides {
-        Sides::OfOneArc => net.leaving(side).len() == 1,
-        Sides::All => true,
+        ExcessSides::OfOneArc => net.leaving(side).len() == 1,
+        ExcessSides::All => true,
     }
 }
 

@@ -9,7 +9,7 @@ use Rattle.scaling_model.specs.Coarse.{coarse, coarse_arc}
 use Rattle.scaling_model.proofs.HalvedLemmas.{coarse_nets_are_nets}
 use Rattle.flow_network.specs.Net.{KeepsNet, heads_of, network_by, tails_of}
 use Rattle.flow_network.specs.Table.{AreRows, IsRow, row_of}
-use Rattle.flow_network.specs.declared.rows.Rows.{Rows}
+use Rattle.flow_network.specs.declared.rows.KeyRows.{KeyRows}
 use Rattle.flow_network.proofs.NetLemmas.{network_by-arcs}
 
 -- the sides of arcs stay
@@ -32,11 +32,11 @@ heads_same shift net =
     (heads_more shift net.blocks _ _ (heads_more shift net.edges net.returns net.returns refl))
 
 -- the same rows once more
-pub record AreCopied (rows copy : Rows) : Type 0 where
+pub record AreCopied (rows copy : KeyRows) : Type 0 where
   pub starts : copy.starts.items ≡ rows.starts.items
   pub places : copy.places.items ≡ rows.places.items
 
-rows_copied : (keys : List ℕ) (count : ℕ) (rows copy : Rows) → AreCopied rows copy → AreRows keys count rows → AreRows keys count copy
+rows_copied : (keys : List ℕ) (count : ℕ) (rows copy : KeyRows) → AreCopied rows copy → AreRows keys count rows → AreRows keys count copy
 rows_copied keys count rows copy are all key below =
     let was = all key below in (
       record {
@@ -48,15 +48,15 @@ rows_copied keys count rows copy are all key below =
     )
 
 -- what a network and copies of its rows give
-pub record IsCoarsened (shift : ℕ) (arcs : List Arc) (blocks edges : ℕ) (leaving entering : Rows) (new_arcs : List Arc)
-    (new_leaving new_entering : Rows) : Type 0 where
+pub record IsCoarsened (shift : ℕ) (arcs : List Arc) (blocks edges : ℕ) (leaving entering : KeyRows) (new_arcs : List Arc)
+    (new_leaving new_entering : KeyRows) : Type 0 where
   pub keeps : KeepsNet arcs blocks edges leaving entering
   pub arcs_are : new_arcs ≡ arcs_of (coarse shift (network_by arcs blocks edges))
   pub leave : AreCopied leaving new_leaving
   pub enter : AreCopied entering new_entering
 
-pub view_coarsened : (shift : ℕ) (arcs : List Arc) (blocks edges : ℕ) (leaving entering : Rows) (new_arcs : List Arc)
-    (new_leaving new_entering : Rows) → IsCoarsened shift arcs blocks edges leaving entering new_arcs new_leaving new_entering
+pub view_coarsened : (shift : ℕ) (arcs : List Arc) (blocks edges : ℕ) (leaving entering : KeyRows) (new_arcs : List Arc)
+    (new_leaving new_entering : KeyRows) → IsCoarsened shift arcs blocks edges leaving entering new_arcs new_leaving new_entering
     → network_by new_arcs blocks edges ≡ coarse shift (network_by arcs blocks edges)
 view_coarsened shift arcs blocks edges leaving entering new_arcs new_leaving new_entering made =
     let net = network_by arcs blocks edges in
@@ -66,8 +66,8 @@ view_coarsened shift arcs blocks edges leaving entering new_arcs new_leaving new
     ∙ network_by-arcs (coarse shift net) blocks edges (length-map net.blocks (coarse_arc shift) ∙ keeps.block_count)
     (length-map net.edges (coarse_arc shift) ∙ keeps.edge_count)
 
-pub keeps_coarsened : (shift : ℕ) (arcs : List Arc) (blocks edges : ℕ) (leaving entering : Rows) (new_arcs : List Arc)
-    (new_leaving new_entering : Rows) → IsCoarsened shift arcs blocks edges leaving entering new_arcs new_leaving new_entering
+pub keeps_coarsened : (shift : ℕ) (arcs : List Arc) (blocks edges : ℕ) (leaving entering : KeyRows) (new_arcs : List Arc)
+    (new_leaving new_entering : KeyRows) → IsCoarsened shift arcs blocks edges leaving entering new_arcs new_leaving new_entering
     → KeepsNet new_arcs blocks edges new_leaving new_entering
 keeps_coarsened shift arcs blocks edges leaving entering new_arcs new_leaving new_entering made =
     let net = network_by arcs blocks edges in

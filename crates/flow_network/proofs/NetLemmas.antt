@@ -14,7 +14,7 @@ use Rattle.flow_model.proofs.LimitLemmas.{nets_are_limited}
 use Rattle.flow_model.proofs.NetLemmas.{length-block_arcs, length-edge_arcs}
 use Rattle.flow_network.specs.Net.{network_by, tails_of, heads_of, KeepsNet}
 use Rattle.flow_network.specs.Table.{AreRows}
-use Rattle.flow_network.specs.declared.rows.Rows.{Rows}
+use Rattle.flow_network.specs.declared.rows.KeyRows.{KeyRows}
 
 pub network_by-arcs : (net : Network) (blocks edges : ℕ) → length net.blocks ≡ blocks → length net.edges ≡ edges
     → network_by (arcs_of net) blocks edges ≡ net
@@ -50,7 +50,7 @@ view_is blocks edges weights edge_weights arcs made =
     ∙ network_by-arcs (network_of blocks edges weights edge_weights) (length blocks) (length edges)
     (length-block_arcs 0 blocks weights made.weighed.each) (length-edge_arcs edges edge_weights made.edges_weighed.each)
 
-pub net_keeps : (blocks : List Block) (edges : List Edge) (weights edge_weights : List Weight) (arcs : List Arc) (leaving entering : Rows)
+pub net_keeps : (blocks : List Block) (edges : List Edge) (weights edge_weights : List Weight) (arcs : List Arc) (leaving entering : KeyRows)
     → IsMadeOf blocks edges weights edge_weights arcs
     → AreRows (tails_of arcs) (2 * length blocks + 1) leaving → AreRows (heads_of arcs) (2 * length blocks + 1) entering
     → KeepsNet arcs (length blocks) (length edges) leaving entering

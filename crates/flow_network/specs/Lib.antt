@@ -1,5 +1,5 @@
 pub mod Cost
 pub mod Flow
 pub mod Net
-pub mod Rows
+pub mod KeyRows
 pub mod Table

@@ -5,7 +5,7 @@ use Rattle.flow_model.specs.Circulation.{root}
 use Rattle.flow_model.specs.Network.{Network, arcs_of, free_arc}
 use Rattle.flow_model.specs.Sound.{IsNet}
 use Rattle.flow_network.specs.Table.{AreRows}
-use Rattle.flow_network.specs.declared.rows.Rows.{Rows}
+use Rattle.flow_network.specs.declared.rows.KeyRows.{KeyRows}
 
 -- The network that has these arcs, with arcs for so many blocks and edges.
 abbrev pub network_by : List Arc → ℕ → ℕ → Network
@@ -24,7 +24,7 @@ abbrev pub heads_of : List Arc → List ℕ
 heads_of arcs = map (λ arc. arc.head) arcs
 
 -- These are the arcs of the network, and their places are kept for each side.
-pub record KeepsNet (arcs : List Arc) (blocks edges : ℕ) (leaving entering : Rows) : Type 0 where
+pub record KeepsNet (arcs : List Arc) (blocks edges : ℕ) (leaving entering : KeyRows) : Type 0 where
   pub net : IsNet (network_by arcs blocks edges)
   pub all : arcs ≡ arcs_of (network_by arcs blocks edges)
   pub block_count : length (network_by arcs blocks edges).blocks ≡ blocks

@@ -9,7 +9,7 @@ ghost use Rattle.flow_network.specs.Rows.{places_of};
 
 use crate::arcs::arcs_by;
 use crate::coarse::coarse_arcs;
-use crate::rows::Rows;
+use crate::rows::KeyRows;
 use cfg_text::{Fun, Weight};
 use flow_model::Arc;
 use refusal::NoMemory;
@@ -27,8 +27,8 @@ pub struct Net {
     arcs: Vec<Arc>,
     blocks: usize,
     edges: usize,
-    leaving: Rows,
-    entering: Rows,
+    leaving: KeyRows,
+    entering: KeyRows,
 }
 
 // Clauses see the network.
@@ -149,8 +149,8 @@ pub fn net_of(
     let edges = fun.edges.as_slice();
     let arcs = arcs_by(alloc, blocks, edges, weights, edge_weights)?;
     let sides = 2 * blocks.len() + 1;
-    let leaving = Rows::of(alloc, &tails(alloc, &arcs)?, sides)?;
-    let entering = Rows::of(alloc, &heads(alloc, &arcs)?, sides)?;
+    let leaving = KeyRows::of(alloc, &tails(alloc, &arcs)?, sides)?;
+    let entering = KeyRows::of(alloc, &heads(alloc, &arcs)?, sides)?;
     Ok(Net {
         arcs,
         blocks: blocks.len(),

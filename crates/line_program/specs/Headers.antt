@@ -1,6 +1,6 @@
 -- What is kept of a header, and what the reading of a program gives.
 use Rattle.std.specs.Prelude.{◌≡◌, ◌<◌, ◌+◌, ℕ, Bool, true, List, length, Result, Ok, Err}
-use Rattle.line_program.specs.declared.fields.Fields.{Fields}
+use Rattle.line_program.specs.declared.fields.LineFields.{LineFields}
 use Rattle.std.specs.Borrow.{Bor}
 use Rattle.refusal.specs.declared.place.Place.{Place}
 use Rattle.byte_view.specs.declared.Part.{Part}
@@ -29,7 +29,7 @@ GivesPassed (Ok done) new read = read ≡ Ok new
 GivesPassed (Err place) new read = read ≡ Err place
 
 -- The bytes of a program and whether it is 64-bit DWARF, or the place of its length.
-abbrev pub GivesUnit : Result (Bool × Fields) Place → Judged (Bool × Cursor) → Type 0
+abbrev pub GivesUnit : Result (Bool × LineFields) Place → Judged (Bool × Cursor) → Type 0
 GivesUnit (Ok (wide, fields)) read = read ≡ Ok (wide, fields.cur)
 GivesUnit (Err place) read = read ≡ Err place
 
@@ -39,7 +39,7 @@ GivesLengths (Ok lengths) read = read ≡ Ok lengths.now
 GivesLengths (Err place) read = read ≡ Err place
 
 -- The bytes of a program, or the place of its length.
-abbrev pub GivesBody : Result Fields Place → Judged (Bool × Cursor) → Type 0
+abbrev pub GivesBody : Result LineFields Place → Judged (Bool × Cursor) → Type 0
 GivesBody (Ok fields) read = read ≡ Ok (true, fields.cur)
 GivesBody (Err place) read = read ≡ Err place
 

@@ -16,11 +16,11 @@ const RESERVED_LENGTHS: u32 = 0xffff_fff0;
 /// The bytes of a program from its next field on. What each field is refused for stands at its
 /// first byte.
 #[derive(Debug, Drop)]
-pub(crate) struct Fields<'a> {
+pub(crate) struct LineFields<'a> {
     pub cur: Cur<'a>,
 }
 
-impl<'a> Fields<'a> {
+impl<'a> LineFields<'a> {
     /// The place of the next field, where it is refused so.
     fn place(&self, kind: Kind) -> Place
         ensures { result ≡ in_binary self.now.cur.at kind }
@@ -76,7 +76,7 @@ impl<'a> Fields<'a> {
     ///
     /// Source: DWARF 5, section 7.4.
     #[tactic(auto, unfolding(line_model::specs::Fields::unit_at))]
-    pub fn of_unit(part: Part<'a>) -> Result<(bool, Fields<'a>), Place>
+    pub fn of_unit(part: Part<'a>) -> Result<(bool, LineFields<'a>), Place>
         ensures { GivesUnit result (unit_at (cursor_of part.entry)) }
     {
         let mut cur = Cur::new(part);
@@ -88,18 +88,18 @@ impl<'a> Fields<'a> {
             let Ok(size) = cur.u64() else {
                 return Err(place);
             };
-            return Ok((true, Fields::of_size(size, cur, place)?));
+            return Ok((true, LineFields::of_size(size, cur, place)?));
         }
         refuse_if(first >= RESERVED_LENGTHS, place)?;
-        Ok((false, Fields::of_size(u64::from(first), cur, place)?))
+        Ok((false, LineFields::of_size(u64::from(first), cur, place)?))
     }
 
     /// The next bytes, so many of them.
-    fn of_size(size: u64, mut cur: Cur<'a>, place: Place) -> Result<Fields<'a>, Place>
+    fn of_size(size: u64, mut cur: Cur<'a>, place: Place) -> Result<LineFields<'a>, Place>
         ensures { GivesBody result (body_of place true (size, cur.entry)) }
     {
         match cur.sub(size) {
-            Ok(cur) => Ok(Fields { cur }),
+            Ok(cur) => Ok(LineFields { cur }),
             Err(_) => Err(place),
         }
     }

@@ -4,7 +4,7 @@ use std::marker::Model;
 ///
 /// Source: DWARF 5, section 6.2.4.
 #[derive(Debug, Drop)]
-pub(crate) struct Header<'a> {
+pub(crate) struct LineHeader<'a> {
     pub min_inst_length: u8,
     pub line_base: i8,
     pub line_range: u8,
@@ -13,7 +13,7 @@ pub(crate) struct Header<'a> {
     pub opcode_lengths: &'a [u8],
 }
 
-impl<'a> Model for Header<'a> {
+impl<'a> Model for LineHeader<'a> {
     ghost use Rattle.line_model.specs.Header.{Header};
     ghost use Rattle.line_program.specs.Headers.{IsGood};
 

@@ -12,7 +12,7 @@ ghost use Rattle.refusal.specs.declared.kind.Kind.TheVariants.{NoEnd};
 ghost use Rattle.line_program.specs.declared.machine.OperationStop.TheVariants.{Refused, NoMemory as no_memory};
 
 use crate::fault::Fault;
-use crate::header::Header;
+use crate::header::LineHeader;
 use crate::program::Program;
 use crate::registers::Registers;
 use byte_view::Cur;
@@ -119,7 +119,11 @@ impl Machine {
     }
 
     /// Does the operation at the front.
-    pub fn next(&mut self, header: &Header<'_>, opcodes: &mut Cur<'_>) -> Result<(), OperationStop>
+    pub fn next(
+        &mut self,
+        header: &LineHeader<'_>,
+        opcodes: &mut Cur<'_>,
+    ) -> Result<(), OperationStop>
         ensures exact { GivesNext result self.new opcodes.new.left
             (behind_read header.now self.old.before self.old.machine
             (operation_at header.now opcodes.old.left)) }

@@ -5,7 +5,7 @@ ghost use Rattle.line_model.specs.Reading.{code_at, extended_at, operation_at, s
 ghost use Rattle.line_program.specs.Faults.{GivesOperation};
 
 use crate::fault::Fault;
-use crate::header::Header;
+use crate::header::LineHeader;
 use crate::tables::{extended_place, standard_place};
 use byte_view::Cur;
 use line_model::Operation;
@@ -16,7 +16,7 @@ const BAD_EXTENDED: Fault = Fault {
     kind: Kind::BadExtended,
 };
 
-impl<'a> Header<'a> {
+impl<'a> LineHeader<'a> {
     /// Reads the operation at the front.
     ///
     /// # Errors

@@ -2,15 +2,15 @@ ghost use Rattle.line_model.specs.Fields.{header_at, program_at};
 ghost use Rattle.line_program.specs.Headers.{cursor_of, GivesHeader};
 ghost use Rattle.line_program.specs.Programs.{GivesProgram};
 
-use crate::fields::Fields;
-use crate::header::Header;
+use crate::fields::LineFields;
+use crate::header::LineHeader;
 use byte_view::{Cur, Part};
 use refusal::{Kind, Place};
 
 /// A program whose header is good: the header, and the bytes from the first opcode on.
 #[derive(Debug, Drop)]
 pub(crate) struct Program<'a> {
-    pub header: Header<'a>,
+    pub header: LineHeader<'a>,
     pub opcodes: Cur<'a>,
 }
 
@@ -25,7 +25,7 @@ impl<'a> Program<'a> {
     pub fn read(part: Part<'a>) -> Result<Program<'a>, Place>
         ensures { GivesProgram result (program_at (cursor_of part.entry)) }
     {
-        let (wide, mut fields) = Fields::of_unit(part)?;
+        let (wide, mut fields) = LineFields::of_unit(part)?;
         let version = fields.version()?;
         fields.pass_sizes(version)?;
         let opcodes = fields.opcodes(wide)?;
@@ -36,7 +36,7 @@ impl<'a> Program<'a> {
 
 /// Reads the fields from the minimum instruction length on.
 #[tactic(auto, unfolding(line_model::specs::Fields::header_at))]
-fn read_header<'a>(version: u16, fields: &mut Fields<'a>) -> Result<Header<'a>, Place>
+fn read_header<'a>(version: u16, fields: &mut LineFields<'a>) -> Result<LineHeader<'a>, Place>
     ensures { GivesHeader result (header_at version fields.old.cur) }
 {
     let min_inst_length = fields.u8()?;
@@ -46,7 +46,7 @@ fn read_header<'a>(version: u16, fields: &mut Fields<'a>) -> Result<Header<'a>, 
     let line_range = fields.above_0(Kind::BadLineRange)?;
     let opcode_base = fields.above_0(Kind::BadOpcodeBase)?;
     let opcode_lengths = fields.lengths(opcode_base - 1)?;
-    Ok(Header {
+    Ok(LineHeader {
         min_inst_length,
         line_base,
         line_range,

@@ -3,7 +3,7 @@ ghost use Rattle.line_model.specs.Registers as model;
 ghost use Rattle.line_program.specs.Steps.{GivesMoved, GivesStep};
 
 use crate::fault::Fault;
-use crate::header::Header;
+use crate::header::LineHeader;
 use line_model::{Operation, Row};
 use refusal::Kind;
 use std::marker::Model;
@@ -46,7 +46,7 @@ impl Registers {
     }
 
     /// Moves the address by so many instructions.
-    fn instructions_on(&mut self, header: &Header<'_>, instructions: u64)
+    fn instructions_on(&mut self, header: &LineHeader<'_>, instructions: u64)
         ensures { self.new ≡ model.instructions_on header.now instructions self.old }
     {
         self.bytes_on(instructions.wrapping_mul(u64::from(header.min_inst_length)));
@@ -102,7 +102,7 @@ impl Registers {
     }
 
     /// Does what a special opcode says, counted from the first one.
-    fn special(&mut self, header: &Header<'_>, adjusted: u8) -> Result<Option<Row>, Fault>
+    fn special(&mut self, header: &LineHeader<'_>, adjusted: u8) -> Result<Option<Row>, Fault>
         ensures { GivesStep result self.new (model.step_of header.now self.old
             (Operation.Special adjusted)) }
     {
@@ -114,7 +114,7 @@ impl Registers {
     }
 
     /// Moves the address as special opcode 255 does.
-    fn const_add_pc(&mut self, header: &Header<'_>)
+    fn const_add_pc(&mut self, header: &LineHeader<'_>)
         ensures { self.new ≡ model.instructions_on header.now
             (model.special_instructions header.now (255 - header.now.opcode_base)) self.old }
     {
@@ -126,7 +126,11 @@ impl Registers {
     ///
     /// # Errors
     /// `LineOverflow` where the line would fall below 0 or pass 2^32 - 1.
-    pub fn step(&mut self, header: &Header<'_>, operation: Operation) -> Result<Option<Row>, Fault>
+    pub fn step(
+        &mut self,
+        header: &LineHeader<'_>,
+        operation: Operation,
+    ) -> Result<Option<Row>, Fault>
         ensures { GivesStep result self.new (model.step_of header.now self.old operation) }
     {
         macro_rules! moves {

@@ -9,12 +9,12 @@ use std::marker::Model;
 
 /// A list of members for each function: itself, then the calls inlined into it.
 #[derive(Debug, Drop)]
-pub(crate) struct Functions {
+pub(crate) struct FunctionMembers {
     lists: Vec<Vec<Member>>,
 }
 
 // Clauses see the list of the lists.
-impl Model for Functions {
+impl Model for FunctionMembers {
     ghost use Rattle.std.specs.Prelude.{List, map};
     ghost use Rattle.chain_model.specs.declared.member.Member.{Member};
 
@@ -23,12 +23,12 @@ impl Model for Functions {
     ghost view = { λ f. map (λ list. list.items) f.lists.items };
 }
 
-impl Functions {
+impl FunctionMembers {
     /// No functions.
-    pub fn new(alloc: Global) -> Functions
+    pub fn new(alloc: Global) -> FunctionMembers
         ensures { result ≡ [] }
     {
-        Functions {
+        FunctionMembers {
             lists: Vec::new(alloc),
         }
     }

@@ -2,7 +2,7 @@ ghost use Rattle.std.specs.Prelude.{◌≡◌, ◌+◌, ◌<◌, ◌^◌, IfOk, 
 ghost use Rattle.member_lists.specs.Frames.{all_members, behind_call, behind_function, behind_other, behind_unit, frame_above as above_told, nothing};
 
 use crate::frame::{self, Frame};
-use crate::functions::Functions;
+use crate::functions::FunctionMembers;
 use chain_model::Member;
 use refusal::NoMemory;
 use std::alloc::Global;
@@ -12,7 +12,7 @@ use std::marker::Model;
 /// and the frames of the entries down to the last one of the unit, each with its entry's depth.
 #[derive(Debug, Drop)]
 pub struct SoFar {
-    functions: Functions,
+    functions: FunctionMembers,
     pieces: u64,
     frames: Vec<(u32, Frame)>,
 }
@@ -38,7 +38,7 @@ impl SoFar {
         ensures { result ≡ nothing }
     {
         SoFar {
-            functions: Functions::new(alloc),
+            functions: FunctionMembers::new(alloc),
             pieces: 0,
             frames: Vec::new(alloc),
         }

@@ -18,7 +18,7 @@ use Rattle.profile_lists.specs.Lists.{entry_of, target_cmp, tells, AreTargets}
 use Rattle.profile_lists.specs.Pairs.{was_made, pair_of, is_at, times_at, sum_at, place_cmp, AreMerged}
 use Rattle.profile_lists.specs.declared.lists.Target.{Target}
 use Rattle.profile_lists.specs.declared.pairs.Call.{Call}
-use Rattle.profile_lists.specs.declared.pairs.Pair.{Pair}
+use Rattle.profile_lists.specs.declared.pairs.RankedCall.{RankedCall}
 
 -- keys do not fall
 not_lower : (s t : Target) → is_lt (target_cmp t s) ≡ false → s.key ≤ t.key
@@ -83,10 +83,10 @@ made_pairs ranks (call ∷ calls) =
       | false ↦ λ _. made_pairs ranks calls
     ] refl
 
-pub all_made : (ranks : List ℕ) (calls : List Call) (old new : List Pair) → old ≡ map (pair_of ranks) (filter was_made calls) → IsPermutation old new → All (λ p. 0 < p.times) new
+pub all_made : (ranks : List ℕ) (calls : List Call) (old new : List RankedCall) → old ≡ map (pair_of ranks) (filter was_made calls) → IsPermutation old new → All (λ p. 0 < p.times) new
 all_made ranks calls old new e p = All-permutation (λ q. 0 < q.times) old new p (subst (All (λ q. 0 < q.times)) (sym e) (all_index (λ q. 0 < q.times) (map (pair_of ranks) (filter was_made calls)) (made_pairs ranks calls)))
 
-pub same_sums : (old new : List Pair) → IsPermutation old new → (key rank : ℕ) → sum_at new key rank ≡ sum_at old key rank
+pub same_sums : (old new : List RankedCall) → IsPermutation old new → (key rank : ℕ) → sum_at new key rank ≡ sum_at old key rank
 same_sums old new p key rank = sum_by-IsPermutation (times_at key rank) old new p
 
 -- targets of different places differ
@@ -97,15 +97,15 @@ place_flips : (s t : Target) → same_place s t ≡ same_place t s
 unfolding same_place
 place_flips s t = grind (arith, nat_tests)
 
-less_differs : (p q : Pair) → place_cmp p q ≡ Less → same_place (entry_of p) (entry_of q) ≡ false
+less_differs : (p q : RankedCall) → place_cmp p q ≡ Less → same_place (entry_of p) (entry_of q) ≡ false
 unfolding same_place
 less_differs p q e = grind (arith, nat_tests)
 
-all_differ : (p : Pair) (pairs : List Pair) → AllByRecursion (λ q. place_cmp p q ≡ Less) pairs → AllByRecursion (λ t. same_place (entry_of p) t ≡ false) (map entry_of pairs)
+all_differ : (p : RankedCall) (pairs : List RankedCall) → AllByRecursion (λ q. place_cmp p q ≡ Less) pairs → AllByRecursion (λ t. same_place (entry_of p) t ≡ false) (map entry_of pairs)
 all_differ p [] above = tt
 all_differ p (q ∷ pairs) above = (less_differs p q above.0, all_differ p pairs above.1)
 
-places_differ : (pairs : List Pair) → IsStrictlySortedBy place_cmp pairs → IsDistinct same_place (map entry_of pairs)
+places_differ : (pairs : List RankedCall) → IsStrictlySortedBy place_cmp pairs → IsDistinct same_place (map entry_of pairs)
 unfolding IsStrictlySortedBy IsDistinct
 places_differ [] s = tt
 places_differ (p ∷ pairs) s = (all_differ p pairs s.0, places_differ pairs s.1)
@@ -151,7 +151,7 @@ ascend (x ∷ xs) s differ =
     sorted_from_all_adjacent target_total (x ∷ xs) x (λ k h.
     next_above (get_or (x ∷ xs) k x) (get_or (x ∷ xs) (k + 1) x) (s k x (omega arith) h) (apart_from_distinct same_place (x ∷ xs) k (k + 1) x differ (omega arith) h))
 
-any_map : (key rank times : ℕ) (pairs : List Pair) → list_any (tells key rank times) (map entry_of pairs) ≡ list_any (λ q. is_at key rank q && (q.times == times)) pairs
+any_map : (key rank times : ℕ) (pairs : List RankedCall) → list_any (tells key rank times) (map entry_of pairs) ≡ list_any (λ q. is_at key rank q && (q.times == times)) pairs
 any_map key rank times [] = refl
 any_map key rank times (q ∷ pairs) = λ i. and_assoc (q.key == key) (q.rank == rank) (q.times == times) i || any_map key rank times pairs i
   where
@@ -159,11 +159,11 @@ any_map key rank times (q ∷ pairs) = λ i. and_assoc (q.key == key) (q.rank ==
     and_assoc true b c = refl
     and_assoc false b c = refl
 
-all_recursion : (P : Pair → Type 0) (xs : List Pair) → All P xs → AllByRecursion P xs
+all_recursion : (P : RankedCall → Type 0) (xs : List RankedCall) → All P xs → AllByRecursion P xs
 all_recursion P [] all = tt
 all_recursion P (x ∷ xs) all = (all 0 x (omega arith), all_recursion P xs (λ k d h. all (suc k) d (omega arith)))
 
-pub are_targets : (ranks : List ℕ) (calls : List Call) (old sorted merged : List Pair) (targets : List Target) → old ≡ map (pair_of ranks) (filter was_made calls) → IsPermutation old sorted → AreMerged sorted merged → IsPermutation (map entry_of merged) targets → IsSorted target_cmp targets → AreTargets ranks calls targets
+pub are_targets : (ranks : List ℕ) (calls : List Call) (old sorted merged : List RankedCall) (targets : List Target) → old ≡ map (pair_of ranks) (filter was_made calls) → IsPermutation old sorted → AreMerged sorted merged → IsPermutation (map entry_of merged) targets → IsSorted target_cmp targets → AreTargets ranks calls targets
 are_targets ranks calls old sorted merged targets e p m q s = record {
   ascending = ascend targets s (IsDistinct-IsPermutation same_place place_flips (map entry_of merged) targets q (places_differ merged m.ascending));
   told = λ key rank times.

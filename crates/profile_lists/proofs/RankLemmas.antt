@@ -17,7 +17,7 @@ use Rattle.profile_model.proofs.OrderLemmas.{nat_apart, then_second}
 use Rattle.list_lemmas.proofs.Sums.{map_map}
 use Rattle.profile_lists.specs.Ranks.{entry_cmp, entry_of, number_cmp, AreRanks}
 use Rattle.profile_lists.specs.Told.{told}
-use Rattle.profile_lists.specs.declared.ranks.Entry.{Entry}
+use Rattle.profile_lists.specs.declared.ranks.WeighedName.{WeighedName}
 
 get_map : {S T : Type 0} (f : S → T) (xs : List S) (k : ℕ) (d : T) (e : S) → k < length xs → get_or (map f xs) k d ≡ f (get_or xs k e)
 get_map f [] k d e h = absurd (omega arith)
@@ -38,7 +38,7 @@ flips : (x y : ℕ) → nat_eq x y ≡ nat_eq y x
 flips x y = grind (arith, nat_tests)
 
 -- the numbers in order
-ids_permute : (names : List (List ℕ)) (weights : List ℕ) (n : ℕ) (old new : List Entry) → map told old ≡ map (entry_of names weights) (range_with_len 0 n) → IsPermutation (map told old) (map told new) → IsPermutation (range_with_len 0 n) (map (λ e. e.id) new)
+ids_permute : (names : List (List ℕ)) (weights : List ℕ) (n : ℕ) (old new : List WeighedName) → map told old ≡ map (entry_of names weights) (range_with_len 0 n) → IsPermutation (map told old) (map told new) → IsPermutation (range_with_len 0 n) (map (λ e. e.id) new)
 ids_permute names weights n old new e p =
     let q : IsPermutation (map (λ v. v.2) (map (entry_of names weights) (range_with_len 0 n))) (map (λ v. v.2) (map told new)) =
     IsPermutation-map (λ v. v.2) (map (entry_of names weights) (range_with_len 0 n)) (map told new) (subst (λ xs. IsPermutation xs (map told new)) e p) in
@@ -74,7 +74,7 @@ entries_told names weights n = λ k d h.
     let a : get_or (map (entry_of names weights) (range_with_len 0 n)) k d ≡ entry_of names weights k = get_or-map-range_with_len (entry_of names weights) 0 n k k d low (omega arith) in
     a ∙ ap (λ v. entry_of names weights v.2) (sym a)
 
-each_told : (names : List (List ℕ)) (weights : List ℕ) (n : ℕ) (old new : List Entry) → map told old ≡ map (entry_of names weights) (range_with_len 0 n) → IsPermutation (map told old) (map told new) → All (λ v. v ≡ entry_of names weights v.2) (map told new)
+each_told : (names : List (List ℕ)) (weights : List ℕ) (n : ℕ) (old new : List WeighedName) → map told old ≡ map (entry_of names weights) (range_with_len 0 n) → IsPermutation (map told old) (map told new) → All (λ v. v ≡ entry_of names weights v.2) (map told new)
 each_told names weights n old new e p =
     All-permutation (λ v. v ≡ entry_of names weights v.2) (map (entry_of names weights) (range_with_len 0 n)) (map told new) (subst (λ xs. IsPermutation xs (map told new)) e p) (entries_told names weights n)
 
@@ -90,7 +90,7 @@ not_after names weights i j n ne =
       | Greater ↦ λ e. absurd (true≢false (sym (ap is_lt (o.antisymm j i ∙ ap ordering_reverse e)) ∙ n))
     ] refl
 
-ids_ascend : (names : List (List ℕ)) (weights : List ℕ) (n : ℕ) (old new : List Entry) → map told old ≡ map (entry_of names weights) (range_with_len 0 n) → IsPermutation (map told old) (map told new) → IsSortedByKey told entry_cmp new → IsStrictlySortedBy (number_cmp names weights) (map (λ e. e.id) new)
+ids_ascend : (names : List (List ℕ)) (weights : List ℕ) (n : ℕ) (old new : List WeighedName) → map told old ≡ map (entry_of names weights) (range_with_len 0 n) → IsPermutation (map told old) (map told new) → IsSortedByKey told entry_cmp new → IsStrictlySortedBy (number_cmp names weights) (map (λ e. e.id) new)
 ids_ascend names weights n old [] e p s = sorted_from_all_adjacent (number_total names weights) [] 0 (λ k h. absurd (omega arith))
 ids_ascend names weights n old (x ∷ xs) e p s =
     let new = x ∷ xs in
@@ -128,7 +128,7 @@ range_has n i h = (i, omega (arith, length-range_with_len 0 n), get_or-range_wit
 has_place : (ids : List ℕ) (i : ℕ) → Contains ids i → (r : ℕ) × (r < length ids) × (get_or ids r 0 ≡ i)
 has_place ids i c = (c.0, c.1, get_or_default ids c.0 0 i c.1 ∙ c.2)
 
-pub are_ranks : (names : List (List ℕ)) (weights : List ℕ) (old new : List Entry) (ids ranks : List ℕ) → map told old ≡ map (entry_of names weights) (range_with_len 0 (length weights)) → IsPermutation (map told old) (map told new) → IsSortedByKey told entry_cmp new → ids ≡ map (λ e. e.id) new → length ranks ≡ length ids → ((r : ℕ) → r < length ids → get_or ranks (get_or ids r 0) 0 ≡ r) → AreRanks names weights ranks ids
+pub are_ranks : (names : List (List ℕ)) (weights : List ℕ) (old new : List WeighedName) (ids ranks : List ℕ) → map told old ≡ map (entry_of names weights) (range_with_len 0 (length weights)) → IsPermutation (map told old) (map told new) → IsSortedByKey told entry_cmp new → ids ≡ map (λ e. e.id) new → length ranks ≡ length ids → ((r : ℕ) → r < length ids → get_or ranks (get_or ids r 0) 0 ≡ r) → AreRanks names weights ranks ids
 are_ranks names weights old new ids ranks e p s is len back =
     let n = length weights in
     let perm : IsPermutation (range_with_len 0 n) ids = subst (λ xs. IsPermutation (range_with_len 0 n) xs) (sym is) (ids_permute names weights n old new e p) in
@@ -193,10 +193,10 @@ one_more_place ids ranks done h distinct within far =
     itself : (x : ℕ) → nat_eq x x ≡ true
     itself x = grind (arith, nat_tests)
 
-pub one_more_entry : (names : List (List ℕ)) (weights : List ℕ) (i : ℕ) (entries : List Entry) (e : Entry) → map told entries ≡ map (entry_of names weights) (range_with_len 0 i) → told e ≡ entry_of names weights i → map told (entries ++ e ∷ []) ≡ map (entry_of names weights) (range_with_len 0 (i + 1))
+pub one_more_entry : (names : List (List ℕ)) (weights : List ℕ) (i : ℕ) (entries : List WeighedName) (e : WeighedName) → map told entries ≡ map (entry_of names weights) (range_with_len 0 i) → told e ≡ entry_of names weights i → map told (entries ++ e ∷ []) ≡ map (entry_of names weights) (range_with_len 0 (i + 1))
 one_more_entry names weights i entries e far is =
     map-append told entries (e ∷ []) ∙ (λ m. far m ++ is m ∷ []) ∙ sym (map-range_with_len_more (entry_of names weights) 0 i i (zero-add i))
 
-pub permuted : (names : List (List ℕ)) (weights : List ℕ) (old new : List Entry) (ids : List ℕ) → map told old ≡ map (entry_of names weights) (range_with_len 0 (length weights)) → IsPermutation (map told old) (map told new) → ids ≡ map (λ e. e.id) new → IsPermutation (range_with_len 0 (length weights)) ids
+pub permuted : (names : List (List ℕ)) (weights : List ℕ) (old new : List WeighedName) (ids : List ℕ) → map told old ≡ map (entry_of names weights) (range_with_len 0 (length weights)) → IsPermutation (map told old) (map told new) → ids ≡ map (λ e. e.id) new → IsPermutation (range_with_len 0 (length weights)) ids
 permuted names weights old new ids e p is =
     subst (λ xs. IsPermutation (range_with_len 0 (length weights)) xs) (sym is) (ids_permute names weights (length weights) old new e p)

@@ -7,10 +7,10 @@ use Rattle.std.specs.declared.cmp.Ordering.{Ordering}
 use Rattle.profile_lists.specs.Pairs.{pair_of, sum_at, was_made}
 use Rattle.profile_lists.specs.declared.lists.Target.{Target}
 use Rattle.profile_lists.specs.declared.pairs.Call.{Call}
-use Rattle.profile_lists.specs.declared.pairs.Pair.{Pair}
+use Rattle.profile_lists.specs.declared.pairs.RankedCall.{RankedCall}
 
 -- The target of a pair.
-abbrev pub entry_of : Pair → Target
+abbrev pub entry_of : RankedCall → Target
 entry_of pair = record { key = pair.key; times = record { 0 = pair.times }; rank = pair.rank }
 
 -- Targets go by key, then by how often they were called, the most often first, then by rank.

@@ -3,7 +3,7 @@ ghost use Rattle.std.specs.Prelude.{◌≡◌, ◌==◌, ◌<◌, ◌^◌, All, 
 ghost use Rattle.profile_lists.specs.Lists.{AreTargets, entry_of, target_cmp};
 ghost use Rattle.profile_lists.specs.Pairs.{pair_of, sum_at, was_made};
 
-use crate::pairs::{Call, Pair, merged, pairs_of, sort_pairs};
+use crate::pairs::{Call, RankedCall, merged, pairs_of, sort_pairs};
 use refusal::NoMemory;
 use std::alloc::{AllocError, Global};
 use std::cmp::Reverse;
@@ -77,7 +77,7 @@ pub fn targets_of(alloc: Global, calls: &[Call], ranks: &[u32]) -> Result<Target
 }
 
 /// A target for each pair.
-fn entries_of(alloc: Global, pairs: &[Pair]) -> Result<Vec<Target>, NoMemory>
+fn entries_of(alloc: Global, pairs: &[RankedCall]) -> Result<Vec<Target>, NoMemory>
     ensures { IfOk result (λ targets. targets.items ≡ map entry_of pairs.now) }
 {
     let mut targets = Vec::new(alloc);

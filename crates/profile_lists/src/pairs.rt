@@ -19,14 +19,18 @@ pub struct Call {
 
 /// Calls of the function of a rank from a key.
 #[derive(Clone, Copy, Debug, PartialEq, Eq, PartialOrd, Ord)]
-pub(crate) struct Pair {
+pub(crate) struct RankedCall {
     pub key: u32,
     pub rank: u32,
     pub times: u64,
 }
 
 /// The calls that were made at all, by the ranks of the callees.
-pub(crate) fn pairs_of(alloc: Global, calls: &[Call], ranks: &[u32]) -> Result<Vec<Pair>, NoMemory>
+pub(crate) fn pairs_of(
+    alloc: Global,
+    calls: &[Call],
+    ranks: &[u32],
+) -> Result<Vec<RankedCall>, NoMemory>
     requires { All (λ call. call.callee.0 < length ranks.now) calls.now }
     ensures { IfOk result (λ pairs. pairs.items
         ≡ map (pair_of ranks.now) (filter was_made calls.now)) }
@@ -34,7 +38,7 @@ pub(crate) fn pairs_of(alloc: Global, calls: &[Call], ranks: &[u32]) -> Result<V
     let mut pairs = Vec::new(alloc);
     for call in calls {
         if call.times > 0 {
-            pairs.push(Pair {
+            pairs.push(RankedCall {
                 key: call.key.0,
                 rank: ranks[call.callee.0 as usize],
                 times: call.times,
@@ -45,7 +49,7 @@ pub(crate) fn pairs_of(alloc: Global, calls: &[Call], ranks: &[u32]) -> Result<V
 }
 
 /// Puts pairs into the order of their keys, and then of their ranks.
-pub(crate) fn sort_pairs(pairs: &mut Vec<Pair>) -> Result<(), AllocError>
+pub(crate) fn sort_pairs(pairs: &mut Vec<RankedCall>) -> Result<(), AllocError>
     ensures same { IsPermutation pairs.old.items pairs.new.items }
     ensures sorted { OnOk result (IsSorted pair_cmp pairs.new.items) }
 {
@@ -53,7 +57,7 @@ pub(crate) fn sort_pairs(pairs: &mut Vec<Pair>) -> Result<(), AllocError>
 }
 
 /// Pairs of one key and one rank made one, of pairs in order.
-pub(crate) fn merged(alloc: Global, pairs: &[Pair]) -> Result<Vec<Pair>, NoMemory>
+pub(crate) fn merged(alloc: Global, pairs: &[RankedCall]) -> Result<Vec<RankedCall>, NoMemory>
     requires sorted { IsSorted pair_cmp pairs.now }
     requires made { All (λ pair. 0 < pair.times) pairs.now }
     requires fit { (key rank : ℕ) → sum_at pairs.now key rank < 2 ^ 64 }
@@ -67,7 +71,7 @@ pub(crate) fn merged(alloc: Global, pairs: &[Pair]) -> Result<Vec<Pair>, NoMemor
 }
 
 /// Adds a pair to the last one, where that has the same key and rank, or else behind it.
-fn add(merged: &mut Vec<Pair>, pair: &Pair) -> Result<(), NoMemory>
+fn add(merged: &mut Vec<RankedCall>, pair: &RankedCall) -> Result<(), NoMemory>
     requires { sum_at merged.old.items pair.now.key pair.now.rank + pair.now.times < 2 ^ 64 }
     ensures { OnOk result (merged.new.items ≡ with_pair merged.old.items pair.now) }
 {
@@ -81,13 +85,17 @@ fn add(merged: &mut Vec<Pair>, pair: &Pair) -> Result<(), NoMemory>
 }
 
 /// Appends two pairs, as one where they have the same key and rank.
-fn push_joined(merged: &mut Vec<Pair>, last: Pair, pair: &Pair) -> Result<(), NoMemory>
+fn push_joined(
+    merged: &mut Vec<RankedCall>,
+    last: RankedCall,
+    pair: &RankedCall,
+) -> Result<(), NoMemory>
     requires { is_at last.key last.rank pair.now ≡ true → last.times + pair.now.times < 2 ^ 64 }
     ensures { OnOk result (merged.new.items ≡ merged.old.items ++ joined last pair.now) }
 {
     if pair.key == last.key && pair.rank == last.rank {
         let times = last.times + pair.times;
-        merged.push(Pair { times, ..last })?;
+        merged.push(RankedCall { times, ..last })?;
     } else {
         merged.push(last)?;
         merged.push(*pair)?;

@@ -21,7 +21,7 @@ pub struct Ranks {
 
 /// A name with its weight and its number.
 #[derive(Clone, Copy, Debug, PartialEq, Eq, PartialOrd, Ord)]
-struct Entry<'a> {
+struct WeighedName<'a> {
     weight: u64,
     name: &'a [u8],
     id: u32,
@@ -52,7 +52,7 @@ fn entries_of<'a>(
     alloc: Global,
     names: &Names<'a>,
     weights: &[u64],
-) -> Result<Vec<Entry<'a>>, NoMemory>
+) -> Result<Vec<WeighedName<'a>>, NoMemory>
     requires known { length weights.now ≤ length names.now }
     requires few { length weights.now < 2 ^ 32 }
     ensures { IfOk result (λ entries. map told entries.items
@@ -61,7 +61,7 @@ fn entries_of<'a>(
     let mut entries = Vec::new(alloc);
     for (i, weight) in weights.iter().enumerate() {
         let id = i as u32;
-        entries.push(Entry {
+        entries.push(WeighedName {
             weight: *weight,
             name: names.get(NameId(id)),
             id,
@@ -71,7 +71,7 @@ fn entries_of<'a>(
 }
 
 /// Puts entries into their order.
-fn sort_entries(entries: &mut Vec<Entry>) -> Result<(), AllocError>
+fn sort_entries(entries: &mut Vec<WeighedName>) -> Result<(), AllocError>
     ensures same { IsPermutation (map told entries.old.items) (map told entries.new.items) }
     ensures sorted { OnOk result (IsSortedByKey told entry_cmp entries.new.items) }
 {
@@ -79,7 +79,7 @@ fn sort_entries(entries: &mut Vec<Entry>) -> Result<(), AllocError>
 }
 
 /// The numbers of the names of some entries.
-fn ids_of(alloc: Global, entries: &[Entry]) -> Result<Vec<u32>, NoMemory>
+fn ids_of(alloc: Global, entries: &[WeighedName]) -> Result<Vec<u32>, NoMemory>
     ensures { IfOk result (λ ids. ids.items ≡ map (λ entry. entry.id) entries.now) }
 {
     Ok(entries.iter().map(|entry| entry.id).collect(alloc)?)

@@ -9,20 +9,20 @@ use branch_class::Class;
 
 /// How often branches were taken: all, those that enter a function, and those inside.
 #[derive(Clone, Copy, Debug, PartialEq, Eq)]
-pub(crate) struct Taken {
+pub(crate) struct TakenCounts {
     pub all: u64,
     pub entries: u64,
     pub inside: u64,
 }
 
 /// How often these branches were taken.
-pub(crate) fn count_taken(branches: &[Classed<Class>]) -> Taken
+pub(crate) fn count_taken(branches: &[Classed<Class>]) -> TakenCounts
     requires { all_times branches.now ≤ max_branches }
     ensures all { result.all ≡ all_times branches.now }
     ensures entries { result.entries ≡ times_where is_entry branches.now }
     ensures inside { result.inside ≡ times_where is_inside branches.now }
 {
-    let mut taken = Taken {
+    let mut taken = TakenCounts {
         all: 0,
         entries: 0,
         inside: 0,

@@ -6,7 +6,7 @@ ghost use Rattle.std.specs.List.Sorted.{IsPermutation};
 ghost use Rattle.std.specs.BinaryHeap.{heap_items, heap_len};
 ghost use Rattle.reached_sides.specs.Nearness.{IsNearestFirst, by_distance};
 
-use crate::rows::Rows;
+use crate::rows::SideRows;
 use refusal::NoMemory;
 use std::alloc::Global;
 use std::collections::BinaryHeap;
@@ -20,7 +20,7 @@ use std::marker::Model;
 #[derive(Debug, Drop)]
 pub struct Frontier {
     /// The sides that are little farther than the one that was taken out last, as a rule.
-    near: Rows,
+    near: SideRows,
     /// The other sides.
     heap: BinaryHeap<(u64, u32)>,
 }
@@ -43,7 +43,7 @@ impl Frontier {
     pub fn new(alloc: Global) -> Result<Frontier, NoMemory>
         ensures { IfOk result (λ frontier. frontier ≡ []) }
     {
-        let near = Rows::new(alloc)?;
+        let near = SideRows::new(alloc)?;
         Ok(Frontier {
             near,
             heap: BinaryHeap::new(alloc),

@@ -13,13 +13,13 @@ const FIRST_ROOM: usize = 32;
 /// They stand in one list, and those that were taken are dropped when the last one is. So a side is
 /// put behind the others without a look at where the list ends, as in a ring.
 #[derive(Debug, Drop)]
-pub(crate) struct Row {
+pub(crate) struct SideRow {
     sides: Vec<u32>,
     taken: usize,
 }
 
 // Clauses see the sides that are left.
-impl Model for Row {
+impl Model for SideRow {
     ghost use Rattle.std.specs.Prelude.{◌≤◌, ℕ, List, drop, length};
 
     ghost Value = { List ℕ };
@@ -29,12 +29,12 @@ impl Model for Row {
     ghost invariant = { λ row. row.taken ≤ length row.sides.items };
 }
 
-impl Row {
+impl SideRow {
     /// Without sides.
-    pub fn new(alloc: Global) -> Row
+    pub fn new(alloc: Global) -> SideRow
         ensures { result ≡ [] }
     {
-        Row {
+        SideRow {
             sides: Vec::new(alloc),
             taken: 0,
         }

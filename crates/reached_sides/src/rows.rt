@@ -5,7 +5,7 @@ ghost use Rattle.std.specs.List.{All};
 ghost use Rattle.std.specs.List.Sorted.{IsPermutation};
 ghost use Rattle.reached_sides.specs.Nearness.{AreEmptyBelow};
 
-use crate::row::Row;
+use crate::row::SideRow;
 use refusal::NoMemory;
 use std::alloc::Global;
 use std::marker::Model;
@@ -17,16 +17,16 @@ const ROWS: usize = 64;
 /// Sides at some distances from one on. Each of these has a row of its own, in which the side that
 /// was pushed first comes first.
 #[derive(Debug, Drop)]
-pub(crate) struct Rows {
+pub(crate) struct SideRows {
     /// The distance of the first row.
     here: u64,
     /// The rows below this one are empty.
     low: usize,
-    rows: Vec<Row>,
+    rows: Vec<SideRow>,
 }
 
 // Clauses see the distances and the sides.
-impl Model for Rows {
+impl Model for SideRows {
     ghost use Rattle.std.specs.Prelude.{◌≡◌, ◌≤◌, ℕ, List, length};
     ghost use Rattle.reached_sides.specs.Nearness.{AreEmptyBelow, HaveDistances, rows_from};
 
@@ -42,16 +42,16 @@ impl Model for Rows {
     } };
 }
 
-impl Rows {
+impl SideRows {
     /// Without sides.
-    pub fn new(alloc: Global) -> Result<Rows, NoMemory>
+    pub fn new(alloc: Global) -> Result<SideRows, NoMemory>
         ensures { IfOk result (λ rows. rows ≡ []) }
     {
         let mut rows = Vec::with_capacity(alloc, ROWS)?;
         for _row in 0..ROWS {
-            rows.push(Row::new(alloc))?;
+            rows.push(SideRow::new(alloc))?;
         }
-        Ok(Rows {
+        Ok(SideRows {
             here: 0,
             low: ROWS,
             rows,
@@ -127,7 +127,7 @@ fn row_of(here: u64, distance: u64) -> Option<usize>
 }
 
 /// The first row from a place on that has sides; the number of all rows if none has.
-fn first_filled(rows: &[Row], from: usize) -> usize
+fn first_filled(rows: &[SideRow], from: usize) -> usize
     requires all { length rows.now ≡ 64 }
     requires low { from ≤ 64 }
     requires empty { AreEmptyBelow from rows.now }
@@ -145,7 +145,7 @@ fn first_filled(rows: &[Row], from: usize) -> usize
 }
 
 /// Empties the rows from a place on.
-fn empty_from(rows: &mut [Row], from: usize)
+fn empty_from(rows: &mut [SideRow], from: usize)
     requires all { length rows.old ≡ 64 }
     requires low { from ≤ 64 }
     requires empty { AreEmptyBelow from rows.old }

@@ -2,7 +2,7 @@ use Rattle.std.proofs.Common.{◌≡◌, Option, Some, None, sym, ap, ◌∙◌,
 use Rattle.std.specs.Option.{option_map}
 use Rattle.std.proofs.lemmas.Result.{on_ok_weaker}
 use Rattle.row_table.specs.Told.{told}
-use Rattle.context_map.specs.declared.named.Named.{Named}
+use Rattle.context_map.specs.declared.named.NamedPath.{NamedPath}
 use Rattle.context_map.specs.Parts.{line_and_disc, shown}
 use Rattle.context_map.proofs.PartLemmas.{Extends-none}
 use Rattle.context_map.specs.Maps.{rows_of, table_of}
@@ -28,6 +28,6 @@ returns-clause-told c =
     on_ok_weaker c.push_segments.result
     (Extends-same _ _ (λ a. shown base c.args.context.now.named (rows_of c.args.rows.now c.args.context.now.unit a)) (λ a. shown base (Some named) (option_map line_and_disc (told c.in-Some-table_of.table.now a))) _ _ _ _
     (λ a.
-    ap (λ (n : Option Named). shown base n (rows_of c.args.rows.now c.args.context.now.unit a)) c.in-Some.is
+    ap (λ (n : Option NamedPath). shown base n (rows_of c.args.rows.now c.args.context.now.unit a)) c.in-Some.is
     ∙ ap (shown base (Some named)) (rows-by c.args.rows.now c.in-Some-table_of.table.now c.args.context.now.unit a table)))
     c.push_segments.ensures.told

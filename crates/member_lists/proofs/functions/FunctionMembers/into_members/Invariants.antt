@@ -1,7 +1,7 @@
 use Rattle.std.proofs.Common.{◌≡◌, ◌++◌, length}
 use Rattle.std.specs.List.{flat_map}
 use Rattle.std.specs.Vec.Iter.{into_iter_items, into_iter_len}
-use Rattle.member_lists.proofs.functions.Functions.into_members.Given as goal
+use Rattle.member_lists.proofs.functions.FunctionMembers.into_members.Given as goal
 
 -- The members so far and those of the lists that are left are all members.
 abbrev pub invariant-loop-list : goal.invariant-loop-list

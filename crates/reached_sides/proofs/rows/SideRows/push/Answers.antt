@@ -1,7 +1,7 @@
 use Rattle.std.proofs.Common.{arith, ◌∙◌}
 use Rattle.std.proofs.lemmas.List.{length-set}
 use Rattle.reached_sides.proofs.RowLemmas.{pushed_row, kept_row, empty_kept, distances_kept}
-use Rattle.reached_sides.proofs.rows.Rows.push.Goals as goal
+use Rattle.reached_sides.proofs.rows.SideRows.push.Goals as goal
 
 pub invariant_of-self : goal.invariant_of-self
 invariant_of-self c =

@@ -2,7 +2,7 @@ use Rattle.std.proofs.Common.{arith, ◌<◌, ◌+◌, ℕ, refl, ◌∙◌}
 use Rattle.std.proofs.lemmas.List.{length-set}
 use Rattle.std.proofs.lemmas.List.Elements.{All-nil, All-same}
 use Rattle.reached_sides.proofs.RowLemmas.{popped_row, none_nearer, no_sides, empty_kept, distances_kept}
-use Rattle.reached_sides.proofs.rows.Rows.pop_up_to.Goals as goal
+use Rattle.reached_sides.proofs.rows.SideRows.pop_up_to.Goals as goal
 
 pub returns-then-self-eq-ROWS-clause-beyond : goal.returns-then-self-eq-ROWS-clause-beyond
 returns-then-self-eq-ROWS-clause-beyond c =

@@ -1,7 +1,7 @@
 use Rattle.std.proofs.Common.{◌≡◌, ◌∷◌, length, ap, sym, ◌∙◌, arith}
 use Rattle.std.specs.Vec.Iter.{into_iter_items}
 use Rattle.member_lists.proofs.ListLemmas.{joined-more, joined-all}
-use Rattle.member_lists.proofs.functions.Functions.into_members.Goals as goal
+use Rattle.member_lists.proofs.functions.FunctionMembers.into_members.Goals as goal
 
 pub loop-list-preserved : goal.loop-list-preserved
 loop-list-preserved c =

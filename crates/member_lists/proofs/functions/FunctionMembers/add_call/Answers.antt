@@ -1,6 +1,6 @@
 use Rattle.std.proofs.Common.{arith}
 use Rattle.member_lists.proofs.ListLemmas.{with_call-at, with_call-past}
-use Rattle.member_lists.proofs.functions.Functions.add_call.Goals as goal
+use Rattle.member_lists.proofs.functions.FunctionMembers.add_call.Goals as goal
 
 pub returns-in_ok-push : goal.returns-in_ok-push
 returns-in_ok-push c =

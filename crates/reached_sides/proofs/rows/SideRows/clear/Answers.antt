@@ -1,7 +1,7 @@
 use Rattle.std.proofs.Common.{rules, arith}
 use Rattle.std.proofs.lemmas.List.{with_items_is}
 use Rattle.reached_sides.proofs.RowLemmas.{no_sides}
-use Rattle.reached_sides.proofs.rows.Rows.clear.Goals as goal
+use Rattle.reached_sides.proofs.rows.SideRows.clear.Goals as goal
 
 pub returns : goal.returns
 returns c =

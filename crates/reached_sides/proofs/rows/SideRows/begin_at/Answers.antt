@@ -1,6 +1,6 @@
 use Rattle.std.proofs.Common.{arith, sym, ◌∙◌}
 use Rattle.reached_sides.proofs.RowLemmas.{no_sides}
-use Rattle.reached_sides.proofs.rows.Rows.begin_at.Goals as goal
+use Rattle.reached_sides.proofs.rows.SideRows.begin_at.Goals as goal
 
 pub returns-then-self-eq-ROWS : goal.returns-then-self-eq-ROWS
 returns-then-self-eq-ROWS c =

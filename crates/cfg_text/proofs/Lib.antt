@@ -1,4 +1,5 @@
 pub mod SaidLemmas
 pub mod TakenLemmas
+pub mod RisingLemmas
 pub mod DraftLemmas
 pub mod ReadingLemmas

@@ -1,5 +1,10 @@
 -- Spans of addresses.
 use Rattle.std.specs.Prelude.{ℕ, ◌<◌, ◌≤◌, nat_lt, Bool, ◌&&◌, ⊤, List, [], ◌∷◌}
+use Rattle.block_model.specs.declared.parts.Block.{Block}
+
+-- The addresses of a block: from its first one to below the one behind its last.
+abbrev pub span_of : Block → ℕ × ℕ
+span_of block = (block.lo, block.hi)
 
 -- A span from its first address to below its second holds an address from lo to below hi.
 abbrev pub meets : ℕ → ℕ → ℕ × ℕ → Bool

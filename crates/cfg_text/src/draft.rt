@@ -1,14 +1,17 @@
 // A function that is being read, line by line.
 ghost use Rattle.std.specs.Prelude.{◌≡◌, ◌<◌, ◌==◌, length, None, Some, if◌then◌else◌};
-ghost use Rattle.block_model.specs.Function.{named, with_block, with_edge};
+ghost use Rattle.std.specs.List.{list_any};
+ghost use Rattle.block_model.specs.Function.{joins, named, overlap, with_block, with_edge};
 ghost use Rattle.block_model.specs.Judging as judging;
-ghost use Rattle.cfg_text.specs.Draft.{JudgesLine, way_of};
+ghost use Rattle.cfg_text.specs.Draft.{JudgesLine};
 ghost use Rattle.cfg_text.specs.Fun.{function_of};
 ghost use Rattle.refusal.specs.declared.kind.Kind.TheVariants.{BadBound};
 ghost use Rattle.cfg_text.specs.declared.draft.DraftStop.TheVariants.{NoMemory as no_memory};
 
 use crate::fun::Fun;
+use crate::rising::{all_end_by, meet};
 use crate::taken::Taken;
+use crate::ways::{all_go_by, has_way, way};
 use block_model::{Block, Bound, Edge};
 use item_lists::Items;
 use refusal::{Kind, NoMemory};
@@ -55,14 +58,23 @@ impl<T: Drop> From<AllocFailed<T>> for DraftStop {
     }
 }
 
-/// A function so far. Beside its blocks and edges it keeps, in order, the addresses that the blocks
-/// hold and the ways that the edges go, so that a line is judged without looking through them.
+/// A function so far. Beside its blocks and edges it keeps, in order, the addresses that blocks hold
+/// and the ways that edges go, so that a line is judged without looking through them.
+///
+/// Most texts list both in order. So of what stands in order from the front on, no more than its
+/// number is kept.
 #[derive(Debug, Drop)]
 pub(crate) struct Draft<'a> {
     name: &'a [u8],
     blocks: Vec<Block>,
     edges: Vec<Edge>,
+    /// So many blocks at the front stand behind one another.
+    rising: usize,
+    /// The addresses that the other blocks hold.
     taken: Taken,
+    /// So many edges at the front stand by their ways.
+    sorted: usize,
+    /// The ways that the other edges go.
     ways: BTreeSet<u64>,
 }
 
@@ -78,7 +90,8 @@ impl<'a> Model for Draft<'a> {
       edges = d.edges.items;
     } };
 
-    ghost invariant = { λ d. IsDraft d.blocks.items d.edges.items d.taken d.ways };
+    ghost invariant = { λ d.
+        IsDraft d.blocks.items d.edges.items d.rising d.taken d.sorted d.ways };
 }
 
 impl<'a> Draft<'a> {
@@ -90,7 +103,9 @@ impl<'a> Draft<'a> {
             name,
             blocks: Vec::new(alloc),
             edges: Vec::new(alloc),
+            rising: 0,
             taken: Taken::new(alloc),
+            sorted: 0,
             ways: BTreeSet::new(alloc),
         }
     }
@@ -104,6 +119,11 @@ impl<'a> Draft<'a> {
             return Err(DraftStop::Refused(kind));
         }
         self.blocks.try_reserve(1)?;
+        if all_end_by(&self.blocks, self.rising, block.lo) {
+            self.rising += 1;
+            self.blocks.push_reserved(block);
+            return Ok(());
+        }
         self.taken.add(block.lo, block.hi)?;
         self.blocks.push_reserved(block);
         Ok(())
@@ -122,11 +142,21 @@ impl<'a> Draft<'a> {
             Some(Kind::BlockOrder)
         } else if block.hi <= block.lo {
             Some(Kind::BlockEmpty)
-        } else if self.taken.meet(block.lo, block.hi) {
+        } else if self.overlaps(block) {
             Some(Kind::BlockOverlap)
         } else {
             cause_of_bound(&block.bound)
         }
+    }
+
+    /// Whether a block has an address in common with another one.
+    fn overlaps(&self, block: &Block) -> bool
+        ensures { result ≡ list_any (overlap block.now) self.now.blocks }
+    {
+        if meet(&self.blocks[..self.rising], block.lo, block.hi) {
+            return true;
+        }
+        self.taken.meet(block.lo, block.hi)
     }
 
     /// Adds an edge between the blocks that the line says.
@@ -138,12 +168,19 @@ impl<'a> Draft<'a> {
             return Err(DraftStop::Refused(kind));
         }
         self.edges.try_reserve(1)?;
-        self.ways.insert(way(from, to))?;
-        self.edges.push_reserved(Edge {
+        let way = way(from, to);
+        let edge = Edge {
             from: from as u32,
             to: to as u32,
             bound,
-        });
+        };
+        if all_go_by(&self.edges, self.sorted, way) {
+            self.sorted += 1;
+            self.edges.push_reserved(edge);
+            return Ok(());
+        }
+        self.ways.insert(way)?;
+        self.edges.push_reserved(edge);
         Ok(())
     }
 
@@ -157,11 +194,24 @@ impl<'a> Draft<'a> {
             Some(Kind::TooManyEdges)
         } else if from.max(to) >= blocks {
             Some(Kind::EdgeEnd)
-        } else if self.ways.contains(&way(from, to)) {
+        } else if self.joins(from, to) {
             Some(Kind::EdgeTwice)
         } else {
             cause_of_bound(bound)
         }
+    }
+
+    /// Whether an edge joins these blocks.
+    fn joins(&self, from: u64, to: u64) -> bool
+        requires from_fits { from < 65536 }
+        requires to_fits { to < 65536 }
+        ensures { result ≡ list_any (joins from to) self.now.edges }
+    {
+        let way = way(from, to);
+        if has_way(&self.edges[..self.sorted], way) {
+            return true;
+        }
+        self.ways.contains(&way)
     }
 
     /// Whether there is no block yet.
@@ -189,15 +239,6 @@ impl<'a> Draft<'a> {
             edges: Items::new(edges),
         }
     }
-}
-
-/// An edge as one number.
-fn way(from: u64, to: u64) -> u64
-    requires from_fits { from < 65536 }
-    requires to_fits { to < 65536 }
-    ensures { result ≡ way_of from to }
-{
-    from * 65_536 + to
 }
 
 /// A bound is refused where its least count is above its greatest.

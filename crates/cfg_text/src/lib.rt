@@ -6,9 +6,11 @@
 
 mod draft;
 mod fun;
+mod rising;
 mod said;
 mod taken;
 mod text;
+mod ways;
 
 pub use block_model::{Block, Bound, Edge, Weight};
 pub use fun::Fun;

@@ -28,7 +28,7 @@ pub(crate) fn arcs_by(
     ensures { IfOk result (λ arcs. arcs.items
         ≡ model.arcs_of (model.network_of blocks.now edges.now weights.now edge_weights.now)) }
 {
-    let mut arcs = Vec::new(alloc);
+    let mut arcs = Vec::with_capacity(alloc, 1 + 2 * blocks.len() + edges.len())?;
     arcs.push(calls_arc(weights))?;
     push_blocks(&mut arcs, blocks, weights)?;
     push_edges(&mut arcs, edges, edge_weights)?;

@@ -1,5 +1,5 @@
 pub mod Contexts
 pub mod Paths
-pub mod MapParts
+pub mod Parts
 pub mod Maps
 pub mod Asked

@@ -1,5 +1,5 @@
 pub mod Cost
 pub mod Flow
 pub mod Net
-pub mod KeyRows
+pub mod Rows
 pub mod Table

@@ -1,16 +1,16 @@
 -- Tables that are tails of others.
-use Rattle.std.proofs.Common.{◌≡◌, ◌≢◌, ℕ, zero, suc, ◌+◌, ◌-◌, ◌<◌, ◌≤◌, Bool, true, false, cond, List, [], ◌∷◌, ◌++◌, drop, length, Option, None, Some, Result, Ok, Err, refl, sym, ap, subst, ◌∙◌, inl, inr, arith}
-use Rattle.std.specs.Prelude.{◌==◌, not, position, find}
+use Rattle.std.proofs.Common.{◌≡◌, ◌≢◌, ℕ, zero, suc, ◌+◌, ◌-◌, ◌<◌, ◌≤◌, List, [], ◌∷◌, drop, length, Option, None, Some, Ok, refl, sym, ap, subst, ◌∙◌, inl, inr, arith}
+use Rattle.std.specs.Prelude.{◌==◌, position}
 use Rattle.std.specs.List.{AllByRecursion, position_or_len}
 use Rattle.std.specs.Ordering.{nat_cmp}
 use Rattle.std.specs.BTreeMap.{BTreeMap, get}
-use Rattle.std.proofs.lemmas.Bool.{cases_Bool, cases_eq, eqb-true, eq-eqb, ne_eqb}
+use Rattle.std.proofs.lemmas.Bool.{cases_eq, eq-eqb, ne_eqb}
 use Rattle.std.proofs.lemmas.Bool.Decides.{nat_tests}
 use Rattle.std.proofs.lemmas.List.{length-append, drop-drop, drop_at}
 use Rattle.byte_view.specs.declared.part.Part.{Part}
 use Rattle.byte_view.specs.Cursor.{Cursor}
 use Rattle.byte_view.specs.Part.{bytes_of_part}
-use Rattle.placed_view.specs.Reader.{IsRead, start_of, cursor_behind}
+use Rattle.placed_view.specs.Reader.{IsRead, start_of}
 use Rattle.unit_model.specs.Abbrev.{Abbrev, find_code}
 use Rattle.unit_model.specs.Table.{table, next_abbrev}
 use Rattle.entry_model.specs.Tables.{AreDistinct}

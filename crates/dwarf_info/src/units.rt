@@ -56,7 +56,8 @@ fn read_by_table<'a>(
     requires whole { IsWhole so_far.old.entries }
     requires few { length so_far.old.units.items < 2 ^ 32 }
     ensures { ReadsUnit result so_far.old so_far.new
-        (unit_by_table (extent_of extent) version (list_of table.now) (units_of so_far.old) cur.old) }
+        (unit_by_table (extent_of extent) version (list_of table.now) (units_of so_far.old)
+        cur.old) }
 {
     let first = so_far.entries.rows.len();
     let of = InUnit {

@@ -1,4 +1,4 @@
-use Rattle.std.proofs.Common.{List, Option, Some, None, drop, ap, sym, ◌∙◌, arith}
+use Rattle.std.proofs.Common.{List, Some, drop, ap, sym, ◌∙◌, arith}
 use Rattle.std.specs.Option.{option_map}
 use Rattle.unit_model.specs.Abbrev.{Abbrev, find_code}
 use Rattle.dwarf_info.specs.Telling.{shortened}

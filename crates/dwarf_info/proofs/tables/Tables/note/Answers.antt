@@ -11,6 +11,6 @@ pub invariant_of-self-2 : goal.invariant_of-self-2
 invariant_of-self-2 c = (
   c.self.invariant.0,
   HoldsTails-more (option_map start_of c.self.inside.section) c.self.inside.tails c.insert.new.self c.args.at c.args.within c.self.invariant.1
-  (subst (λ (s : Option Cursor). IsBehind s c.args.within c.args.at) (sym c.self.view_is) c.requires) c.in_ok-insert.ensures.updates.1
-  (λ other apart. let h = c.in_ok-insert.ensures.updates.0 other in grind (arith, common_steps)),
+      (subst (λ (s : Option Cursor). IsBehind s c.args.within c.args.at) (sym c.self.view_is) c.requires) c.in_ok-insert.ensures.updates.1
+      (λ other apart. let h = c.in_ok-insert.ensures.updates.0 other in grind (arith, common_steps)),
 )

@@ -91,7 +91,6 @@ class Farm(Case):
 KNOWN_SLOW = {
     "one origin": "each function reads and hashes the name anew",
     "tails of a name": "each name is a text of its own",
-    "tails of a table": "each table is read and kept whole",
 }
 # How often both sizes are run, the quickest of each being taken; once more so often where that is not enough.
 TURNS = 3

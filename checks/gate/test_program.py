@@ -292,11 +292,13 @@ class Profiles(Program):
         self.expects("samples that memory does not hold", ran, NO_MEMORY, "", "no memory\n")
 
     def test_tables_that_overlap(self):
-        """Units that each refer to another tail of one table of abbreviations: the most that there is room for, and one more. Both
-        take 0.6 GB."""
-        self.file("tails", make.tails_of_a_table(2900))
+        """Units that each refer to another tail of one table of abbreviations, and to another tail of one list of attributes: of the
+        second the most that there is room for, and one more."""
+        self.file("tails", make.tails_of_a_table(6000))
+        self.answers("tables that end in one another", DONE, "outside\n", "", "where", "tails", "401000")
+        self.file("tails", make.tails_of_a_list(2895))
         self.answers("tables that overlap", DONE, "outside\n", "", "where", "tails", "401000")
-        self.file("tails", make.tails_of_a_table(2901))
+        self.file("tails", make.tails_of_a_list(2896))
         self.answers("tables that overlap too much", NO_MEMORY, "", "no memory\n", "where", "tails", "401000")
 
 

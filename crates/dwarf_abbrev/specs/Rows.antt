@@ -55,3 +55,9 @@ ReadsNext (Ok true) old new cur read = IsWhole new × (read ≡ Ok (Some (table_
 ReadsNext (Ok false) old new cur read = (new ≡ old) × (read ≡ Ok (None, cur))
 ReadsNext (Err (Refused place)) old new cur read = read ≡ Err place
 ReadsNext (Err NoMemory) old new cur read = ⊤
+
+-- The first abbreviation of a table is read as a table of its own, where the table does not end.
+abbrev pub ReadsFirst : Result (Option (List Abbrev)) Stop → Cursor → Read (Option (List Abbrev)) → Type 0
+ReadsFirst (Ok first) cur read = read ≡ Ok (first, cur)
+ReadsFirst (Err (Refused place)) cur read = read ≡ Err place
+ReadsFirst (Err NoMemory) cur read = ⊤

@@ -15,4 +15,4 @@ mod table;
 
 pub use abbrev::Abbrev;
 pub use attr::Attr;
-pub use table::{Abbrevs, read_table};
+pub use table::{Abbrevs, read_first, read_table};

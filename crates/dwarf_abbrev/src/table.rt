@@ -1,6 +1,8 @@
+ghost use Rattle.std.specs.Prelude.{◌<◌, [], length, OnOk};
 ghost use Rattle.refusal.specs.Place.{JudgesUnlessNoMemory};
 ghost use Rattle.placed_view.specs.Reader.{IsRead, refused_at, start_of};
-ghost use Rattle.unit_model.specs.Table.{table};
+ghost use Rattle.unit_model.specs.Table.{next_abbrev, table};
+ghost use Rattle.dwarf_abbrev.specs.Rows.{ReadsFirst};
 
 use crate::abbrev::Abbrev;
 use crate::rows::Rows;
@@ -84,4 +86,20 @@ pub fn read_table(alloc: Global, part: Part<'_>) -> Result<Abbrevs, Stop>
     let mut rows = Rows::new(alloc);
     while rows.read_next(&mut cur)? {}
     Ok(Abbrevs { rows })
+}
+
+/// Reads the first abbreviation of the table that stands at a cursor, as a table of its own. Where
+/// there is none, the table ends.
+///
+/// # Errors
+/// Those of `read_table` up to there.
+pub fn read_first(alloc: Global, cur: &mut Cur<'_>) -> Result<Option<Abbrevs>, Stop>
+    ensures read { ReadsFirst result cur.new (next_abbrev [] cur.old) }
+    ensures shorter { OnOk result (length cur.new.left < length cur.old.left) }
+{
+    let mut rows = Rows::new(alloc);
+    if rows.read_next(cur)? {
+        return Ok(Some(Abbrevs { rows }));
+    }
+    Ok(None)
 }

@@ -3,6 +3,7 @@ pub mod EntryLemmas
 pub mod PackedLemmas
 pub mod PartLemmas
 pub mod TableLemmas
+pub mod TailLemmas
 pub mod TellingLemmas
 pub mod UnitLemmas
 pub mod FoundLemmas

@@ -267,11 +267,11 @@ kind-found table kinds code index kind are is here =
     ∙ ap (λ (ks : List Abbrev). slice_get ks index) are ∙ slice_get-map shortened table index
     ∙ ap (option_map shortened) (sym (find_at (λ (a : Abbrev). a.code == code) table ∙ ap (slice_get table) first))
 
-pub kind-none : (table : List Abbrev) (code : ℕ) → position (λ (a : Abbrev). a.code == code) table ≡ None → None ≡ option_map shortened (find_code table code)
+pub unfound : (table : List Abbrev) (code : ℕ) → position (λ (a : Abbrev). a.code == code) table ≡ None → find_code table code ≡ None
 unfolding find_code
-kind-none table code none =
+unfound table code none =
     let past : length table ≤ position_or_len (λ (a : Abbrev). a.code == code) table = grind (arith, nat_tests) in
-    ap (option_map shortened) (sym (find_at (λ (a : Abbrev). a.code == code) table ∙ slice_get_past table _ past))
+    find_at (λ (a : Abbrev). a.code == code) table ∙ slice_get_past table _ past
 
 pub kinds-more : (table kinds : List Abbrev) (index : ℕ) (kind : Abbrev) → kinds ≡ map shortened (take index table) → slice_get table index ≡ Some kind
     → kinds ++ shortened kind ∷ [] ≡ map shortened (take (index + 1) table)

@@ -4,6 +4,7 @@ pub mod Kept
 pub mod Packed
 pub mod Rows
 pub mod Tables
+pub mod Tails
 pub mod Telling
 pub mod Told
 pub mod Units

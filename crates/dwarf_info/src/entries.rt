@@ -3,10 +3,11 @@ ghost use Rattle.std.specs.Prelude.{◌≡◌, ◌<◌, ◌≤◌, ◌+◌, ◌+
 ghost use Rattle.unit_model.specs.Entries.{entry_of, next_entry, entries as entries_told};
 ghost use Rattle.dwarf_info.specs.Entries.{all_of, IsWhole, ReadsSoFar, ReadsEntries};
 ghost use Rattle.dwarf_info.specs.Rows.{row_made};
+ghost use Rattle.dwarf_info.specs.Tails.{list_of};
 
-use crate::kinds::EntryKinds;
 use crate::numbers::{in_16, in_32};
 use crate::rows::{Entries, Row};
+use crate::tables::Table;
 use crate::values::read_values;
 use byte_view::Cur;
 use dwarf_abbrev::Abbrev;
@@ -104,14 +105,14 @@ fn read_entry<'a>(
 #[tactic(auto, unfolding(unit_model::specs::Entries::next_entry, unit_model::specs::Entries::entry_of_code))]
 fn read_next<'a>(
     cur: &mut Cur<'a>,
-    table: &EntryKinds,
+    table: &Table,
     of: InUnit,
     depth: u32,
     entries: &mut Entries<'a>,
 ) -> Result<u32, Stop>
     requires { IsWhole entries.old }
     ensures read { ReadsSoFar result entries.new cur.new
-        (next_entry (record { unit = of.unit; wide = of.shape.wide }) table.now
+        (next_entry (record { unit = of.unit; wide = of.shape.wide }) (list_of table.now)
         (record { depth = depth; entries = all_of entries.old }) cur.old) }
     ensures shorter { OnOk result (length cur.new.left < length cur.old.left) }
 {
@@ -129,13 +130,13 @@ fn read_next<'a>(
 /// Reads the entries of a unit up to its end, behind those of the units before it.
 pub(crate) fn read_entries<'a>(
     cur: &mut Cur<'a>,
-    table: &EntryKinds,
+    table: &Table,
     of: InUnit,
     entries: &mut Entries<'a>,
 ) -> Result<(), Stop>
     requires { IsWhole entries.old }
     ensures { ReadsEntries result entries.new
-        (entries_told (record { unit = of.unit; wide = of.shape.wide }) table.now
+        (entries_told (record { unit = of.unit; wide = of.shape.wide }) (list_of table.now)
         (all_of entries.old) cur.old) }
 {
     let mut depth = 0;

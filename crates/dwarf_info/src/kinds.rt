@@ -184,24 +184,28 @@ impl Model for EntryKinds {
     ghost use Rattle.unit_model.specs.Abbrev.{Abbrev};
     ghost use Rattle.dwarf_info.specs.Tables.{room_of as room_told};
     ghost use Rattle.dwarf_info.specs.Telling.{shortened};
+    ghost use Rattle.entry_model.specs.Tables.{AreDistinct};
 
     ghost Value = { List Abbrev };
 
     ghost view = { λ k. k.table };
 
     ghost invariant = { λ k. (k.kinds.items ≡ map shortened k.table)
-        × (k.room ≡ room_told k.table) };
+        × (k.room ≡ room_told k.table)
+        × AreDistinct k.table };
 }
 
 impl EntryKinds {
-    ghost use Rattle.std.specs.Prelude.{◌≡◌, IfOk};
+    ghost use Rattle.std.specs.Prelude.{◌≡◌, IfOk, drop, length};
     ghost use Rattle.std.specs.Option.{option_map};
     ghost use Rattle.unit_model.specs.Abbrev.{find_code};
+    ghost use Rattle.entry_model.specs.Tables.{AreDistinct};
     ghost use Rattle.dwarf_info.specs.Tables.{room_of as room_told};
     ghost use Rattle.dwarf_info.specs.Telling.{shortened};
 
     /// The kinds of entries of a table.
     fn new(alloc: Global, table: Abbrevs) -> Result<EntryKinds, NoMemory>
+        requires { AreDistinct table }
         ensures { IfOk result (λ kinds. kinds ≡ table) }
     {
         let kinds = kinds_of(alloc, &table)?;
@@ -209,12 +213,23 @@ impl EntryKinds {
         Ok(EntryKinds { table, kinds, room })
     }
 
-    /// The abbreviation of a code, with the attributes that tell something.
-    pub fn find(&self, code: u64) -> Option<Abbrev<'_>>
-        ensures { result ≡ option_map shortened (find_code self.now code) }
+    /// The abbreviation of a code in the table behind its first ones, so many as `skip`, with the
+    /// attributes that tell something.
+    pub fn find_behind(&self, skip: usize, code: u64) -> Option<Abbrev<'_>>
+        ensures { result ≡ option_map shortened (find_code (drop skip self.now) code) }
     {
         let index = self.table.place(code)?;
+        if index < skip {
+            return None;
+        }
         Some(self.kinds[index].lend())
+    }
+
+    /// How many abbreviations the table has.
+    pub fn len(&self) -> usize
+        ensures { result ≡ length self.now }
+    {
+        self.table.len()
     }
 
     /// How much room the table takes.

@@ -1,13 +1,16 @@
 // The tables of abbreviations that units refer to.
 ghost use Rattle.std.specs.Prelude.{◌≡◌, IfSome};
+ghost use Rattle.std.specs.BTreeMap.{get};
 ghost use Rattle.std.specs.Option.{option_map};
+ghost use Rattle.std.specs.Ordering.{nat_cmp};
 ghost use Rattle.refusal.specs.Place.{JudgesUnlessNoMemory};
 ghost use Rattle.placed_view.specs.Reader.{IsRead, refused_at, start_of};
 ghost use Rattle.unit_model.specs.Table.{table};
 ghost use Rattle.dwarf_info.specs.Tables.{IsTableAt, from_offset};
 
 use crate::kinds::{EntryKinds, read_kinds};
-use byte_view::Part;
+use byte_view::{Cur, Part};
+use dwarf_abbrev::{Abbrev, read_first};
 use refusal::{NoMemory, Stop};
 use std::alloc::Global;
 use std::collections::BTreeMap;
@@ -17,16 +20,54 @@ use std::marker::Model;
 /// section has bytes.
 const SPARE: usize = 1 << 22;
 
+/// Where a table is: in that of an offset in the file, behind its first abbreviations.
+#[derive(Clone, Copy, Debug)]
+pub(crate) struct Within {
+    pub home: usize,
+    pub skip: usize,
+}
+
+/// A table of abbreviations, as a tail of one that is kept.
+#[derive(Debug, Drop)]
+pub(crate) struct Table {
+    pub kinds: EntryKinds,
+    pub within: Within,
+}
+
+impl Table {
+    ghost use Rattle.std.specs.Prelude.{◌≡◌};
+    ghost use Rattle.std.specs.Option.{option_map};
+    ghost use Rattle.unit_model.specs.Abbrev.{find_code};
+    ghost use Rattle.dwarf_info.specs.Telling.{shortened};
+    ghost use Rattle.dwarf_info.specs.Tails.{list_of};
+
+    /// The abbreviation of a code, with the attributes that tell something.
+    pub fn find(&self, code: u64) -> Option<Abbrev<'_>>
+        ensures { result ≡ option_map shortened (find_code (list_of self.now) code) }
+    {
+        self.kinds.find_behind(self.within.skip, code)
+    }
+}
+
+/// What is noted of an offset in the file.
+fn noted(tails: &BTreeMap<usize, Within>, at: usize) -> Option<Within>
+    ensures { result ≡ get nat_cmp tails.now at }
+{
+    tails.get(&at).copied()
+}
+
 /// The section of abbreviations, with the tables that were read, by their offsets in the file.
 ///
 /// Many units can refer to one table, which is read once. Tables that do not overlap have at most
-/// as many abbreviations and attributes as the section has bytes. Each unit can refer to another
-/// tail of one long table, though, and what all those take grows as the square of that table: what
-/// passes `SPARE` is `NoMemory`.
+/// as many abbreviations and attributes as the section has bytes. Once those that are kept have
+/// more, some overlap: of each table that is read then it is noted where each of its abbreviations
+/// begins, since units may refer to its tails. Tables that overlap in other ways are read and kept
+/// one by one, and what passes `SPARE` is `NoMemory`.
 #[derive(Debug, Drop)]
 pub(crate) struct Tables<'b> {
     section: Option<Part<'b>>,
     kept: BTreeMap<usize, EntryKinds>,
+    tails: BTreeMap<usize, Within>,
     /// What is left of the room, in the units of `EntryKinds::room`.
     room: usize,
 }
@@ -37,15 +78,19 @@ impl<'b> Model for Tables<'b> {
     ghost use Rattle.byte_view.specs.Cursor.{Cursor};
     ghost use Rattle.placed_view.specs.Reader.{start_of};
     ghost use Rattle.dwarf_info.specs.Tables.{HoldsTables};
+    ghost use Rattle.dwarf_info.specs.Tails.{HoldsTails};
 
     ghost Value = { Option Cursor };
 
     ghost view = { λ t. option_map start_of t.section };
 
-    ghost invariant = { λ t. HoldsTables (option_map start_of t.section) t.kept };
+    ghost invariant = { λ t. HoldsTables (option_map start_of t.section) t.kept
+        × HoldsTails (option_map start_of t.section) t.tails };
 }
 
 impl<'b> Tables<'b> {
+    ghost use Rattle.dwarf_info.specs.Tails.{IsBehind, IsTail, list_of};
+
     /// The tables of a section, of which none is kept.
     pub fn new(alloc: Global, section: Option<Part<'b>>) -> Tables<'b>
         ensures { result ≡ option_map start_of section.entry }
@@ -53,6 +98,7 @@ impl<'b> Tables<'b> {
         Tables {
             section,
             kept: BTreeMap::new(alloc),
+            tails: BTreeMap::new(alloc),
             room: section.map_or(0, |part| part.len).saturating_add(SPARE),
         }
     }
@@ -64,14 +110,70 @@ impl<'b> Tables<'b> {
         self.section
     }
 
-    /// Takes out the table at an offset in the file, where it is kept.
-    fn take(&mut self, at: usize) -> Option<EntryKinds>
-        ensures same { self.new ≡ self.old }
-        ensures table { IfSome result (λ list. IsTableAt self.old at list) }
+    /// Where the table at an offset in the file is.
+    fn within(&self, at: usize) -> Within
+        ensures { IsBehind self.now result at }
     {
-        let table = self.kept.remove(&at)?;
-        self.room = self.room.saturating_add(table.room());
-        Some(table)
+        match noted(&self.tails, at) {
+            Some(within) => within,
+            None => Within { home: at, skip: 0 },
+        }
+    }
+
+    /// Takes out the table at an offset in the file, where it is kept.
+    fn take(&mut self, at: usize) -> Option<Table>
+        ensures same { self.new ≡ self.old }
+        ensures table { IfSome result (IsTail self.old at) }
+    {
+        let within = self.within(at);
+        let kinds = self.kept.remove(&within.home)?;
+        self.room = self.room.saturating_add(kinds.room());
+        Some(Table { kinds, within })
+    }
+
+    /// Notes that the table at an offset in the file is a tail of another one.
+    fn note(&mut self, at: usize, within: Within) -> Result<(), NoMemory>
+        requires { IsBehind self.old within at }
+        ensures { self.new ≡ self.old }
+    {
+        self.tails.insert(at, within)?;
+        Ok(())
+    }
+
+    /// Notes the tails of the table that stands at the start of a piece, behind one and more of its
+    /// first abbreviations, up to `count`.
+    fn note_tails(&mut self, alloc: Global, piece: Part<'_>, count: usize) -> Result<(), NoMemory>
+        requires { start_of piece ≡ from_offset self.old piece.at }
+        ensures { self.new ≡ self.old }
+    {
+        let home = piece.at;
+        let mut cur = Cur::new(piece);
+        for before in 0..count {
+            let Ok(Some(_)) = read_first(alloc, &mut cur) else {
+                return Ok(());
+            };
+            let skip = before + 1;
+            self.note(cur.at(), Within { home, skip })?;
+        }
+        Ok(())
+    }
+
+    /// Reads the table that stands at the start of a piece of the section.
+    fn read(&mut self, alloc: Global, piece: Part<'_>) -> Result<Table, Stop>
+        requires { start_of piece ≡ from_offset self.old piece.at }
+        ensures same { self.new ≡ self.old }
+        ensures read { JudgesUnlessNoMemory (refused_at (table (start_of piece.entry))) result
+            (IsTail self.old piece.entry.at) }
+    {
+        let kinds = read_kinds(alloc, piece)?;
+        if self.room < SPARE {
+            self.note_tails(alloc, piece, kinds.len())?;
+        }
+        let within = Within {
+            home: piece.at,
+            skip: 0,
+        };
+        Ok(Table { kinds, within })
     }
 
     /// Takes out the table that stands at the start of a piece of the section, or reads it where it
@@ -79,31 +181,31 @@ impl<'b> Tables<'b> {
     ///
     /// # Errors
     /// Those of `read_kinds`.
-    pub fn take_or_read(&mut self, alloc: Global, piece: Part<'_>) -> Result<EntryKinds, Stop>
+    pub fn take_or_read(&mut self, alloc: Global, piece: Part<'_>) -> Result<Table, Stop>
         requires { start_of piece ≡ from_offset self.old piece.at }
         ensures same { self.new ≡ self.old }
         ensures read { JudgesUnlessNoMemory (refused_at (table (start_of piece.entry))) result
-            (IsRead (table (start_of piece.entry))) }
+            (IsTail self.old piece.entry.at) }
     {
         match self.take(piece.at) {
             Some(table) => Ok(table),
-            None => read_kinds(alloc, piece),
+            None => self.read(alloc, piece),
         }
     }
 
-    /// Keeps the table at an offset in the file.
+    /// Keeps a table, or that of which it is a tail.
     ///
     /// # Errors
     /// `NoMemory` also where there is no room for the table.
-    pub fn keep(&mut self, at: usize, table: EntryKinds) -> Result<(), NoMemory>
-        requires { IsTableAt self.old at table }
+    pub fn keep(&mut self, table: Table) -> Result<(), NoMemory>
+        requires { IsTableAt self.old table.within.home table.kinds }
         ensures { self.new ≡ self.old }
     {
-        let room = table.room();
+        let room = table.kinds.room();
         if room > self.room {
             return Err(NoMemory);
         }
-        self.kept.insert(at, table)?;
+        self.kept.insert(table.within.home, table.kinds)?;
         self.room -= room;
         Ok(())
     }

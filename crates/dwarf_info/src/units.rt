@@ -8,13 +8,13 @@ ghost use Rattle.dwarf_info.specs.Told.{units_told};
 ghost use Rattle.unit_model.specs.Header.{Header as HeaderTold};
 ghost use Rattle.dwarf_info.specs.Entries.{IsWhole};
 ghost use Rattle.dwarf_info.specs.Tables.{StandsIn};
+ghost use Rattle.dwarf_info.specs.Tails.{list_of};
 ghost use Rattle.dwarf_info.specs.Units.{ReadsNext, ReadsUnit, SkipsUnit, extent_of, unit_by_table, units_of};
 
 use crate::entries::{InUnit, read_entries};
 use crate::header::{Header, read_header, read_length};
-use crate::kinds::EntryKinds;
 use crate::rows::{SoFar, Unit, Units};
-use crate::tables::Tables;
+use crate::tables::{Table, Tables};
 use byte_view::{Cur, Part};
 use dwarf_forms::UnitShape;
 use placed_view::place_of;
@@ -50,13 +50,14 @@ fn read_by_table<'a>(
     cur: &mut Cur<'a>,
     extent: Extent,
     version: u16,
-    table: &EntryKinds,
+    table: &Table,
     so_far: &mut SoFar<'a>,
 ) -> Result<(), Stop>
     requires whole { IsWhole so_far.old.entries }
     requires few { length so_far.old.units.items < 2 ^ 32 }
     ensures { ReadsUnit result so_far.old so_far.new
-        (unit_by_table (extent_of extent) version table.now (units_of so_far.old) cur.old) }
+        (unit_by_table (extent_of extent) version (list_of table.now) (units_of so_far.old)
+        cur.old) }
 {
     let first = so_far.entries.rows.len();
     let of = InUnit {
@@ -96,7 +97,7 @@ fn read_unit<'a>(
 {
     let table = tables.take_or_read(alloc, head.abbrevs)?;
     read_by_table(cur, extent, head.version, &table, so_far)?;
-    tables.keep(head.abbrevs.at, table)?;
+    tables.keep(table)?;
     Ok(())
 }
 

@@ -1,11 +1,11 @@
 -- Tables as they are read and as they are spelled.
-use Rattle.std.proofs.Common.{◌≡◌, ◌≢◌, ℕ, zero, suc, ◌+◌, ◌-◌, ◌<◌, ◌≤◌, ℤ, pos, Bool, true, false, cond, nat_le, nat_lt, List, [], ◌∷◌, ◌++◌, length, Option, None, Some, Ok, Err, refl, sym, ap, subst, ◌∙◌, inl, inr, arith}
+use Rattle.std.proofs.Common.{◌≡◌, ◌≢◌, ℕ, zero, suc, ◌+◌, ◌-◌, ◌<◌, ◌≤◌, ℤ, pos, Bool, true, false, cond, nat_le, nat_lt, List, [], ◌∷◌, ◌++◌, drop, length, Option, None, Some, Ok, Err, refl, sym, ap, subst, ◌∙◌, inl, inr, arith}
 use Rattle.std.specs.Prelude.{◌==◌, ◌&&◌, is_some}
 use Rattle.std.specs.List.{AllByRecursion, find}
 use Rattle.std.proofs.lemmas.Bool.{cases_Bool, eqb-true, eq-eqb, ne_eqb}
 use Rattle.std.proofs.lemmas.Bool.Decides.{nat_tests}
 use Rattle.std.proofs.lemmas.List.{append-nil, append_assoc, length-append}
-use Rattle.byte_view.specs.Cursor.{Cursor, Reads}
+use Rattle.byte_view.specs.Cursor.{Cursor, Passes, Reads}
 use Rattle.byte_view.specs.Reading.{SpellsField, SpellsUleb, SpellsSleb}
 use Rattle.placed_view.specs.Reader.{Read, Reader, behind, gives, refuse_if, uleb, sleb, field}
 use Rattle.placed_view.specs.Steps.{goes_on, steps, to_the_end}
@@ -403,3 +403,66 @@ pub tables-again : (old new : Cursor) (kinds : List Abbrev) → SpellsTable old 
 unfolding table
 tables-again old new kinds spelled is =
     kinds_again old new kinds spelled (suc (length old.left)) [] (omega arith) (all_new kinds) is.distinct (omega (arith, is.few))
+
+-- what is read behind the first abbreviation of a table
+pub table-rest : (old mid new : Cursor) (kinds first : List Abbrev) → table old ≡ Ok (kinds, new) → next_abbrev [] old ≡ Ok (Some first, mid) → table mid ≡ Ok (drop 1 kinds, new)
+unfolding table
+table-rest old mid new kinds first whole one =
+    go mid (Some first) (kind_read [] old mid (Some first) one) refl
+    (sym (ap (λ (r : Read (Option (List Abbrev))). behind r (goes_on [] (λ later c. steps next_abbrev (length old.left) later c))) one) ∙ whole)
+  where
+    go : (cur : Cursor) (next : Option (List Abbrev)) → KindRead [] old cur next → next ≡ Some first
+        → goes_on [] (λ later c. steps next_abbrev (length old.left) later c) next cur ≡ Ok (kinds, new) → table cur ≡ Ok (drop 1 kinds, new)
+    go _ _ (no_more old_ cur r) some e = absurd cc
+    go _ _ (one_more old_ cur kind k fresh few) some e =
+        let less = abbrev-shorter old cur kind k in
+        let r = kinds_read (length old.left) (kind ∷ []) kinds cur new (omega (arith, less)) (omega arith) e in
+        let again = tables-again cur new r.own r.spelled (record { distinct = r.distinct; few = omega (arith, r.few, ap length r.joined) }) in
+        again ∙ ap (λ (xs : List Abbrev). Ok (xs, new)) (sym (ap (drop 1) r.joined))
+
+-- ---- which bytes an abbreviation passes
+
+-- Bytes were passed.
+pub record Moves (old new : Cursor) : Type 0 where
+  pub bytes : List ℕ
+  pub passed : Passes old new bytes
+
+moves_on : (a b c : Cursor) → Moves a b → Moves b c → Moves a c
+moves_on a b c m n = record {
+  bytes = m.bytes ++ n.bytes;
+  passed = record {
+    left = m.passed.left ∙ ap (λ (xs : List ℕ). m.bytes ++ xs) n.passed.left ∙ sym (append_assoc m.bytes n.bytes c.left);
+    at = omega (arith, m.passed.at, n.passed.at, length-append m.bytes n.bytes);
+  };
+}
+
+moves : {X : Type 0} (Spells : List ℕ → X → Type 0) (old new : Cursor) (x : X) → Reads Spells old new x → Moves old new
+moves Spells old new x r = record { bytes = r.bytes; passed = r.passed }
+
+implicit-moves : (form : ℕ) (old new : Cursor) (z : ℤ) → SpellsImplicit form old new z → Moves old new
+implicit-moves _ _ _ _ (DW_FORM_implicit_const old new z r) = moves SpellsSleb old new z r
+implicit-moves _ _ _ _ (other_form form cur other) = record { bytes = []; passed = record { left = refl; at = omega arith } }
+
+attr-moves : (old new : Cursor) (attr : Attr) → SpellsAttr old new attr → Moves old new
+attr-moves old new attr a =
+    moves_on old a.behind_name new (moves SpellsUleb old a.behind_name attr.name a.name)
+    (moves_on a.behind_name a.behind_form new (moves SpellsUleb a.behind_name a.behind_form attr.form a.form) (implicit-moves attr.form a.behind_form new attr.implicit a.implicit))
+
+attrs-moves : (old new : Cursor) (attrs : List Attr) → SpellsAttrs old new attrs → Moves old new
+attrs-moves _ _ _ (no_attr old behind_it new name form) = moves_on old behind_it new (moves SpellsUleb old behind_it 0 name) (moves SpellsUleb behind_it new 0 form)
+attrs-moves _ _ _ (attr_first old behind_it new attr attrs a some rest) = moves_on old behind_it new (attr-moves old behind_it attr a) (attrs-moves behind_it new attrs rest)
+
+abbrev-moves : (old new : Cursor) (kind : Abbrev) → SpellsAbbrev old new kind → Moves old new
+abbrev-moves old new kind k =
+    moves_on old k.behind_code new (moves SpellsUleb old k.behind_code kind.code k.code)
+    (moves_on k.behind_code k.behind_tag new (moves SpellsUleb k.behind_code k.behind_tag kind.tag k.tag)
+    (moves_on k.behind_tag k.behind_children new (moves (SpellsField 1) k.behind_tag k.behind_children (children_code kind.children) k.children)
+    (attrs-moves k.behind_children new kind.attrs k.attrs)))
+
+-- the first abbreviation of a table passes bytes
+pub first-moves : (old mid : Cursor) (first : List Abbrev) → next_abbrev [] old ≡ Ok (Some first, mid) → Moves old mid
+first-moves old mid first one = go mid (Some first) (kind_read [] old mid (Some first) one) refl
+  where
+    go : (cur : Cursor) (next : Option (List Abbrev)) → KindRead [] old cur next → next ≡ Some first → Moves old cur
+    go _ _ (no_more old_ cur r) some = absurd cc
+    go _ _ (one_more old_ cur kind k fresh few) some = abbrev-moves old cur kind k

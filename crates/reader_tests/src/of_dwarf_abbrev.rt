@@ -1,5 +1,5 @@
-use byte_view::Part;
-use dwarf_abbrev::read_table;
+use byte_view::{Cur, Part};
+use dwarf_abbrev::{read_first, read_table};
 
 /// Codes that are not 1, 2, 3 and so on, and a constant that stands in the table.
 const TABLE: &[u8] =
@@ -25,4 +25,19 @@ fn finds_codes_in_any_order(rt: HostRuntime) {
     };
     let implicit = first.attrs.first().map(|attr| attr.implicit);
     assert_eq!(rt; implicit, Some(-1));
+}
+
+#[test]
+fn reads_the_first_abbreviation(rt: HostRuntime) {
+    let mut cur = Cur::new(Part {
+        file: TABLE,
+        at: 0,
+        len: 20,
+    });
+    let Ok(Some(first)) = read_first(rt.alloc(), &mut cur) else {
+        panic!(rt; "not read");
+    };
+    assert_eq!(rt; first.find(9).map(|abbrev| abbrev.tag), Some(0x2e));
+    assert_eq!(rt; first.len(), 1);
+    assert_eq!(rt; cur.at(), 8);
 }

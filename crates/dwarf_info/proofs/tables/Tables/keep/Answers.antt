@@ -8,7 +8,9 @@ use Rattle.dwarf_info.proofs.TableLemmas.{HoldsTables-more}
 use Rattle.dwarf_info.proofs.tables.Tables.keep.Goals as goal
 
 pub invariant_of-self-2 : goal.invariant_of-self-2
-invariant_of-self-2 c =
-    HoldsTables-more (option_map start_of c.self.inside.section) c.self.inside.kept c.insert.new.self c.args.at c.args.table c.self.invariant
-    (subst (λ (s : Option Cursor). IsTableAt s c.args.at c.args.table) (sym c.self.view_is) c.requires) c.in_ok-insert.ensures.updates.1
-    (λ other apart. let h = c.in_ok-insert.ensures.updates.0 other in grind (arith, common_steps))
+invariant_of-self-2 c = (
+  HoldsTables-more (option_map start_of c.self.inside.section) c.self.inside.kept c.insert.new.self c.args.table.within.home c.args.table.kinds c.self.invariant.0
+      (subst (λ (s : Option Cursor). IsTableAt s c.args.table.within.home c.args.table.kinds) (sym c.self.view_is) c.requires) c.in_ok-insert.ensures.updates.1
+      (λ other apart. let h = c.in_ok-insert.ensures.updates.0 other in grind (arith, common_steps)),
+  c.self.invariant.1,
+)

@@ -3,11 +3,11 @@ ghost use Rattle.std.specs.Prelude.{◌≡◌, ℕ, List, IfOk, IfSome, IsTrue, 
 ghost use Rattle.std.specs.Option.{option_copied};
 ghost use Rattle.dwarf_forms.specs.Meaning.{meaning_of};
 ghost use Rattle.dwarf_ranges.specs.Meaning.{range_sections_of};
-ghost use Rattle.entry_facts.specs.Kept.{AddsKnown};
 ghost use Rattle.entry_facts.specs.Lists.{AddsList, IsKeyOf, IsLive, RemembersLists, list_at, live_listed, no_lists, read_by};
 ghost use Rattle.entry_facts.specs.Told.{GivesUnlessNoMemory, in_unit};
 
 use crate::in_unit::InUnit;
+use crate::kept::keep_at;
 use crate::pieces_of::keep_live;
 use crate::spelled::listed;
 use dwarf_forms::Value;
@@ -216,16 +216,6 @@ fn key_of(value: Value<'_>) -> Option<ListKey>
         Value::Const(at) => Some(ListKey::ByOffset(at)),
         Value::RangeIndex(index) => Some(ListKey::ByIndex(index)),
         _ => None,
-    }
-}
-
-/// Keeps a list for a number.
-fn keep_at(lists: &mut IndexMap<u64, LongList>, at: u64, list: LongList) -> Result<(), NoMemory>
-    ensures { AddsKnown lists.old.entries lists.new.entries at list }
-{
-    match lists.insert(at, list) {
-        Ok(_) => Ok(()),
-        Err(_) => Err(NoMemory),
     }
 }
 

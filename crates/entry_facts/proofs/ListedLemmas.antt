@@ -1,9 +1,8 @@
 -- Attributes on a way whose entries were found by the offsets at which they begin.
-use Rattle.std.proofs.Common.{◌≡◌, ℕ, Bool, true, false, List, [], ◌∷◌, Option, None, Some, Result, Ok, Err, cond, IfSome, refl, sym, ap, subst, ◌∙◌}
+use Rattle.std.proofs.Common.{◌≡◌, ℕ, Bool, true, false, List, [], ◌∷◌, Option, None, Some, Ok, cond, IfSome, refl, sym, ap, subst, ◌∙◌}
 use Rattle.std.specs.Prelude.{◌==◌, find}
 use Rattle.std.specs.Option.{option_map, option_or, option_to_list}
 use Rattle.std.proofs.lemmas.Bool.{eqb-true}
-use Rattle.refusal.specs.declared.place.Place.{Place}
 use Rattle.unit_model.specs.Entries.{Entry}
 use Rattle.unit_model.specs.Units.{Units}
 use Rattle.unit_model.specs.Values.{Found}

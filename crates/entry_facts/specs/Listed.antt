@@ -1,5 +1,5 @@
 -- Attributes on a way whose entries were found by the offsets at which they begin.
-use Rattle.std.specs.Prelude.{◌≡◌, ℕ, IfSome, Some}
+use Rattle.std.specs.Prelude.{◌≡◌, IfSome, Some}
 use Rattle.std.specs.Option.{option_to_list}
 use Rattle.unit_model.specs.Units.{Units}
 use Rattle.tree_model.specs.Way.{entry_beginning_at}

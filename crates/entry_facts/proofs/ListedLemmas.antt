@@ -86,9 +86,3 @@ AreListed-before units own rest found o r linkage mips name = record {
   mips_linkage = or_listed units own.mips_linkage rest.mips_linkage found.mips_linkage o.mips_linkage r.mips_linkage mips;
   name = or_listed units own.name rest.name found.name o.name r.name name;
 }
-
-pub naming_listed : (units : Units) (findings : Findings) → AreListed units findings
-    → IfSome (option_or (option_or findings.linkage findings.mips_linkage) findings.name) (IsListed units)
-naming_listed units findings are =
-    IfSome-or (IsListed units) (option_or findings.linkage findings.mips_linkage) findings.name
-    (IfSome-or (IsListed units) findings.linkage findings.mips_linkage are.linkage are.mips_linkage) are.name

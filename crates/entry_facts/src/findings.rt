@@ -83,10 +83,8 @@ pub(crate) fn findings_from<'a>(
     if steps == 0 {
         return Err(Place::in_binary(began as usize, Kind::OriginTooLong));
     }
-    match findings_from(info, began, steps - 1, &next, true) {
-        Ok(rest) => Ok(before(&found_in(entry, listed), &rest)),
-        Err(place) => Err(place),
-    }
+    let rest = findings_from(info, began, steps - 1, &next, true)?;
+    Ok(before(&found_in(entry, listed), &rest))
 }
 
 /// What a way says that begins with an entry of these attributes, where the rest of it says the

@@ -95,16 +95,12 @@ impl Origins {
         ensures known { Remembers (sections_of info.now.texts.now) (info_of info.now) names.new
             self.new }
     {
-        match findings_from(info, began, steps, entry, listed) {
-            Ok(findings) => match self.texts.number_said(info, findings.naming(), names) {
-                Ok(name) => Ok(Origin {
-                    name,
-                    line: findings.line(),
-                }),
-                Err(stop) => Err(stop),
-            },
-            Err(place) => Err(Stop::Refused(place)),
-        }
+        let findings = findings_from(info, began, steps, entry, listed)?;
+        let name = self.texts.number_said(info, findings.naming(), names)?;
+        Ok(Origin {
+            name,
+            line: findings.line(),
+        })
     }
 
     /// The origin that the way from an entry on says, which is kept for others that lead there.
@@ -126,13 +122,9 @@ impl Origins {
         ensures known { Remembers (sections_of info.now.texts.now) (info_of info.now) names.new
             self.new }
     {
-        match self.said(info, began, MAX_STEPS - 1, next, true, names) {
-            Ok(origin) => match self.keep(at, origin) {
-                Ok(()) => Ok(origin),
-                Err(NoMemory) => Err(Stop::NoMemory),
-            },
-            Err(stop) => Err(stop),
-        }
+        let origin = self.said(info, began, MAX_STEPS - 1, next, true, names)?;
+        self.keep(at, origin)?;
+        Ok(origin)
     }
 
     /// The name and the start line of an entry, by the first attributes on its way: the entry, the

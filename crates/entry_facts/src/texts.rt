@@ -121,13 +121,9 @@ impl TextNumbers {
         if let Some(number) = self.at(place) {
             return Ok(number);
         }
-        match numbered_name(info, held, names) {
-            Ok(number) => match self.keep(place, number) {
-                Ok(()) => Ok(number),
-                Err(NoMemory) => Err(Stop::NoMemory),
-            },
-            Err(stop) => Err(stop),
-        }
+        let number = numbered_name(info, held, names)?;
+        self.keep(place, number)?;
+        Ok(number)
     }
 
     /// The number of the name that an attribute says.

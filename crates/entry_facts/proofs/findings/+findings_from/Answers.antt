@@ -17,14 +17,14 @@ findings_from-requires t c = (
   λ _. next_begins (info_of c.args.info.now) c.args.entry.now c.in-Ok-Some.next (sym c.in-Ok-Some.ensures ∙ ap Ok c.in-Ok-Some.field-0-is),
 )
 
-pub returns-in-Ok-clause-found : goal.returns-in-Ok-clause-found
-returns-in-Ok-clause-found t c =
+pub returns-clause-found : goal.returns-clause-found
+returns-clause-found t c =
     let some : 0 < c.args.steps = omega arith in (
       _,
-      way_from-more (info_of c.args.info.now) c.args.began c.args.steps c.args.entry.now c.in-Ok-Some.next c.in-Ok.ensures.found.0 some (sym c.in-Ok-Some.ensures ∙ ap Ok c.in-Ok-Some.field-0-is) c.in-Ok.ensures.found.1,
-      c.before-in-Ok.ensures.found c.args.entry.now c.in-Ok.ensures.found.0 c.found_in-in-Ok.ensures.found c.in-Ok.ensures.found.2,
+      way_from-more (info_of c.args.info.now) c.args.began c.args.steps c.args.entry.now c.in-Ok-Some.next c.in_ok-rest.ensures.found.0 some (sym c.in-Ok-Some.ensures ∙ ap Ok c.in-Ok-Some.field-0-is) c.in_ok-rest.ensures.found.1,
+      c.before-2.ensures.found c.args.entry.now c.in_ok-rest.ensures.found.0 c.found_in-2.ensures.found c.in_ok-rest.ensures.found.2,
     )
 
-pub returns-in-Ok-clause-listed : goal.returns-in-Ok-clause-listed
-returns-in-Ok-clause-listed t c =
-    c.before-in-Ok.ensures.listed c.args.info.now.units.now (c.found_in-in-Ok.ensures.listed c.args.info.now.units.now c.requires) c.in-Ok.ensures.listed
+pub returns-clause-listed : goal.returns-clause-listed
+returns-clause-listed t c =
+    c.before-2.ensures.listed c.args.info.now.units.now (c.found_in-2.ensures.listed c.args.info.now.units.now c.requires) c.in_ok-rest.ensures.listed

@@ -21,7 +21,7 @@ from typing import Callable, NamedTuple
 from common import COLD, CONTRIB, HERE, PGO, TOP
 
 import make
-from make import CODE, DECL_LINE, HIGH, LOADED, LOW, NAME, ORIGIN, RANGES, STRING, abbreviation, elf, function_text, load_line
+from make import ADDR, CODE, DECL_LINE, HIGH, LOADED, LOW, NAME, ORIGIN, RANGES, REF4, STRING, abbreviation, elf, function_text, load_line
 
 # What no run of the gate may pass: seconds of a processor, and how many times as long as half the input takes.
 MOST_SECONDS, MOST_GROWTH = 5, 3
@@ -60,8 +60,8 @@ def timed(words, folder, seconds, megabytes) -> Ended:
 
 # Binaries.
 
-ADDRX1, DATA1, LINE_STRP, REF1, RNGLISTX, STRX1, SECTION = 0x29, 0x0B, 0x1F, 0x11, 0x23, 0x25, 0x17
-STR_OFFSETS_BASE, ADDR_BASE, RNGLISTS_BASE = 0x72, 0x73, 0x74
+ADDRX1, DATA1, LINE_STRP, REF1, REF_ADDR, RNGLISTX, STRX1, SECTION = 0x29, 0x0B, 0x1F, 0x11, 0x10, 0x23, 0x25, 0x17
+STR_OFFSETS_BASE, ADDR_BASE, RNGLISTS_BASE, LINKAGE_NAME = 0x72, 0x73, 0x74, 0x6E
 
 
 def versioned(behind, body):
@@ -69,11 +69,12 @@ def versioned(behind, body):
     return struct.pack("<IH", len(behind) + len(body) + 2, 5) + behind + body
 
 
-def short_forms(function, entries, more=b"", **others):
-    """A binary of one unit whose functions have these attributes, in short forms that mean the first text and the first address."""
+def short_forms(function, entries, more=b"", passed=b"", **others):
+    """A binary of one unit whose functions have these attributes, in short forms that mean the first text and the first address. Behind it
+    stand units that are passed over."""
     bases = ((STR_OFFSETS_BASE, SECTION), (ADDR_BASE, SECTION), (RNGLISTS_BASE, SECTION))
     abbrevs = abbreviation(1, 0x11, 1, *bases) + abbreviation(2, 0x2E, 0, *function) + more + b"\0"
-    unit = versioned(bytes([1, 8]) + bytes(4), b"\x01" + struct.pack("<III", 8, 8, 12) + entries + b"\0")
+    unit = versioned(bytes([1, 8]) + bytes(4), b"\x01" + struct.pack("<III", 8, 8, 12) + entries + b"\0") + passed
     tables = {"str_offsets": versioned(bytes(2), bytes(4)), "addr": versioned(bytes([8, 0]), struct.pack("<Q", CODE)), **others}
     sections = [(b".debug_abbrev", abbrevs), (b".debug_info", unit)]
     return elf(sections + [(b".debug_" + name.encode(), data) for name, data in tables.items()], 16)
@@ -104,6 +105,45 @@ def one_origin(size):
     function = ((ORIGIN, REF1), (DECL_LINE, DATA1), (LOW, ADDRX1), (HIGH, DATA1))
     entries = b"\x03" + b"n" * (size // 2) + b"\0" + b"\x02\x19\0\0\x10" * (size // 10)
     return short_forms(function, entries, more=abbreviation(3, 0x2E, 0, (NAME, STRING)))
+
+
+def one_origin_of_named(size):
+    """Functions of 6 bytes with a short name each, that all have the linkage name of another one, which is half of the file."""
+    function = ((NAME, STRX1), (DECL_LINE, DATA1), (ORIGIN, REF1), (LOW, ADDRX1), (HIGH, DATA1))
+    entries = b"\x03" + b"n" * (size // 2) + b"\0" + b"\x02\0\0\x19\0\x10" * (size // 12)
+    return short_forms(function, entries, more=abbreviation(3, 0x2E, 0, (LINKAGE_NAME, STRING)), str=b"f\0")
+
+
+def origins_in_turn(size):
+    """The same with two others, of half as long a name, to which they lead in turn."""
+    function, name = ((ORIGIN, REF4), (DECL_LINE, DATA1), (LOW, ADDRX1), (HIGH, DATA1)), b"\x03" + b"n" * (size // 4) + b"\0"
+    each = [b"\x02" + struct.pack("<I", 0x19 + k * len(name)) + b"\0\0\x10" for k in range(2)]
+    return short_forms(function, name * 2 + b"".join(each) * (size // 32), more=abbreviation(3, 0x2E, 0, (NAME, STRING)))
+
+
+def origins_passed_over(size):
+    """Functions of 7 bytes that lead into the last of many units of version 2, of 6 bytes each, which are passed over: half of the file."""
+    function, count, passed = ((ORIGIN, REF_ADDR), (LOW, ADDRX1), (HIGH, DATA1)), size // 14, size // 12
+    begins = 26 + 7 * count
+    return short_forms(function, (b"\x02" + struct.pack("<I", begins + 6 * (passed - 1)) + b"\0\x10") * count, passed=b"\x02\0\0\0\x02\0" * passed)
+
+
+def tails_of_a_range_list(size):
+    """Functions of 5 bytes, each with another tail of one list of ranges in no code: 65,536, or as many as half of the file has room for."""
+    count = min(size // 8, 65536)
+    lists = versioned(bytes([8, 0]) + struct.pack("<I", 0), b"\x04\x01\x02" * count + b"\0")
+    entries = b"".join(b"\x02" + struct.pack("<I", 12 + 3 * k) for k in range(count))
+    return short_forms(((RANGES, SECTION),), entries, rnglists=lists)
+
+
+def range_list_of_bases(size):
+    """Units of 36 bytes, each with a base address of its own and a function that has one list of ranges in no code."""
+    ranges = b"\x04\x01\x02" * min(size // 6, 65536) + b"\0"
+    lists = versioned(bytes([8, 0]) + struct.pack("<I", 1), struct.pack("<I", 4) + ranges)
+    abbrevs = abbreviation(1, 0x11, 1, (RNGLISTS_BASE, SECTION), (LOW, ADDR)) + abbreviation(2, 0x2E, 0, (RANGES, RNGLISTX)) + b"\0"
+    unit = lambda k: versioned(bytes([1, 8]) + bytes(4), b"\x01" + struct.pack("<IQ", 12, k) + b"\x02\0\0")
+    units = b"".join(unit(k) for k in range((size - len(ranges)) // len(unit(0))))
+    return elf([(b".debug_abbrev", abbrevs), (b".debug_info", units), (b".debug_rnglists", lists)], 16)
 
 
 def range_list_of_units(size):
@@ -275,9 +315,14 @@ FAMILIES = [
     Family("one long name", binary(one_long_name), WHERE, b"noline", MB),
     Family("one long name of lines", binary(one_name_of_lines), WHERE, b"noline", MB),
     Family("one origin", binary(one_origin), WHERE, b"noline", MB),
+    Family("one origin of named", binary(one_origin_of_named), WHERE, b"noline", MB),
+    Family("origins in turn", binary(origins_in_turn), WHERE, b"noline", MB),
+    Family("origins passed over", binary(origins_passed_over), WHERE, b"nameless", MB),
     Family("tails of a name", binary(tails_of_a_name), WHERE, b"noline", MB),
     Family("one range list", binary(one_range_list), WHERE, b"outside", MB),
     Family("one range list of units", binary(range_list_of_units), WHERE, b"outside", MB),
+    Family("tails of a range list", binary(tails_of_a_range_list), WHERE, b"outside", MB),
+    Family("one range list of bases", binary(range_list_of_bases), WHERE, b"outside", MB),
     Family("tails of a table", binary(tails_of_a_table), WHERE, b"outside", 56000 * 2),
     Family("blocks over all", blocks_over_all, BUILT, b"f:[0-9]+:[0-9]+", MB),
     Family("branches of an edge", branches_of_an_edge, WITH_EDGES, b"# function f flow", 8 * MB),

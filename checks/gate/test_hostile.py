@@ -89,8 +89,9 @@ class Farm(Case):
 # The families of growing.py that are known to be slow, with what is known; docs/LIMITS.md has their figures. These are tried in small
 # alone. A row goes with what it tells of.
 KNOWN_SLOW = {
-    "one origin": "each function reads and hashes the name anew",
     "tails of a name": "each name is a text of its own",
+    "tails of a range list": "each tail is read and kept whole",
+    "one range list of bases": "the list is read anew for each base address",
 }
 # How often both sizes are run, the quickest of each being taken; once more so often where that is not enough.
 TURNS = 3

@@ -4,3 +4,4 @@ pub mod StepLemmas
 pub mod TextLemmas
 pub mod MemoLemmas
 pub mod ListLemmas
+pub mod ListedLemmas

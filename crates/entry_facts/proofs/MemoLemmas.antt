@@ -11,7 +11,7 @@ use Rattle.entry_facts.specs.Memo.{IsKnown, Kept, Remembers, nothing_kept}
 use Rattle.entry_facts.specs.Texts.{Numbers, RemembersNames, no_numbers, number_at}
 use Rattle.entry_facts.specs.declared.origin.Origin.{Origin}
 use Rattle.entry_facts.specs.declared.texts.TextPlace.{TextPlace}
-use Rattle.entry_facts.specs.declared.texts.TextPlace.TheVariants.{Str, LineStr}
+use Rattle.entry_facts.specs.declared.texts.TextPlace.TheVariants.{Str, LineStr, InEntry}
 use Rattle.entry_facts.proofs.StepLemmas.{said_any}
 use Rattle.entry_facts.proofs.TextLemmas.{IsNumberOf-more, names_more}
 
@@ -27,12 +27,12 @@ pub Remembers-more : (sections : Sections) (info : Info) (old new : List (List �
     → Remembers sections info new kept
 Remembers-more sections info old new kept more known = record {
   origins = λ at origin here. IsKnown-more sections info old new at origin more (known.origins at origin here);
-  texts = names_more sections old new kept.texts more known.texts;
+  texts = names_more sections info.units old new kept.texts more known.texts;
 }
 
 -- more names, and texts that are known
 pub Remembers-texts : (sections : Sections) (info : Info) (old new : List (List ℕ)) (kept after : Kept) → Extends old new → Remembers sections info old kept
-    → after.origins ≡ kept.origins → RemembersNames sections new after.texts → Remembers sections info new after
+    → after.origins ≡ kept.origins → RemembersNames sections info.units new after.texts → Remembers sections info new after
 Remembers-texts sections info old new kept after more known same texts = record {
   origins = λ at origin here. IsKnown-more sections info old new at origin more
       (known.origins at origin (subst (λ (k : List (ℕ × Origin)). kept_at k at ≡ Some origin) same here));
@@ -56,12 +56,13 @@ Remembers-added sections info names old new at origin known adds same here = rec
         | inl before ↦ known.origins place other before
         | inr same ↦ subst (λ (p : ℕ × Origin). IsKnown sections info names p.0 p.1) (let e : ◌≡◌ {A = ℕ × Origin} (at, origin) (place, other) = (let a : place ≡ at = same.0 in let o : other ≡ origin = same.1 in cc) in e) here
       ];
-  texts = subst (λ (k : Numbers). RemembersNames sections names k) (sym same) known.texts;
+  texts = subst (λ (k : Numbers). RemembersNames sections info.units names k) (sym same) known.texts;
 }
 
 nothing_at : (place : TextPlace) (number : Option NameId) → number_at no_numbers place ≡ Some number → ⊥
 nothing_at (Str at) number here = cc
 nothing_at (LineStr at) number here = cc
+nothing_at (InEntry at name) number here = cc
 
 pub Remembers-none : (sections : Sections) (info : Info) (names : List (List ℕ)) (kept : Kept) → kept ≡ nothing_kept → Remembers sections info names kept
 Remembers-none sections info names kept none = subst (λ (k : Kept). Remembers sections info names k) (sym none) (record {

@@ -1,4 +1,5 @@
 pub mod Kept
+pub mod Listed
 pub mod Lists
 pub mod Meaning
 pub mod Memo

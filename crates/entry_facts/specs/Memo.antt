@@ -45,4 +45,4 @@ nothing_kept = record { origins = []; texts = no_numbers }
 pub record Remembers (sections : Sections) (info : Info) (names : List (List ℕ)) (kept : Kept) : Type 0 where
   pub origins : (at : ℕ) (origin : Origin) → kept_at kept.origins at ≡ Some origin
       → IsKnown sections info names at origin
-  pub texts : RemembersNames sections names kept.texts
+  pub texts : RemembersNames sections info.units names kept.texts

@@ -1,9 +1,11 @@
 // The attributes on a way that count.
-ghost use Rattle.std.specs.Prelude.{◌≡◌, ◌∷◌, [], List};
+ghost use Rattle.std.specs.Prelude.{◌≡◌, ◌∷◌, [], List, IfOk, IfSome, IsTrue, Some};
 ghost use Rattle.unit_model.specs.Entries.{Entry as entry_told};
-ghost use Rattle.tree_model.specs.Way.{way_from};
+ghost use Rattle.unit_model.specs.Units.{Units as units_told};
+ghost use Rattle.tree_model.specs.Way.{entry_beginning_at as beginning_told, way_from};
 ghost use Rattle.std.specs.Option.{option_map};
 ghost use Rattle.tree_model.specs.Origin.{first_on, line_on, naming};
+ghost use Rattle.entry_facts.specs.Listed.{AreListed, IsListed};
 ghost use Rattle.entry_facts.specs.Meaning.{AreFound, FindsOn, held_of, info_of};
 
 use crate::attributes::{attribute, number_of};
@@ -14,10 +16,11 @@ use dwarf_info::{DW_AT_DECL_LINE, DW_AT_LINKAGE_NAME, DW_AT_MIPS_LINKAGE_NAME, D
 use refusal::{Kind, Place};
 
 /// An attribute on a way: the unit of the entry that has it, its name, where its value stands, and
-/// the value.
+/// the value. Where the entry was found by the offset at which it begins, that offset.
 #[derive(Clone, Copy)]
 pub(crate) struct Held<'a> {
     pub unit: u32,
+    pub stands_in: Option<u64>,
     pub name: u64,
     pub at: u64,
     pub value: Value<'a>,
@@ -35,8 +38,10 @@ pub(crate) struct Findings<'a> {
 impl<'a> Findings<'a> {
     /// The attribute that names the entry, where one does.
     pub fn naming(&self) -> Option<Held<'a>>
-        ensures { (way : List entry_told) → AreFound way self.now
+        ensures naming { (way : List entry_told) → AreFound way self.now
             → option_map held_of result ≡ naming way }
+        ensures listed { (units : units_told) → AreListed units self.now
+            → IfSome result (IsListed units) }
     {
         self.linkage.or(self.mips_linkage).or(self.name)
     }
@@ -53,7 +58,7 @@ impl<'a> Findings<'a> {
 }
 
 /// The first attributes on the way from an entry on, with so many steps at most, of a way that
-/// began at an offset in the file.
+/// began at an offset in the file. `listed` says that the entry was found by its own offset.
 ///
 /// # Errors
 /// What `next_on_way` answers on the way, and `OriginTooLong` where the way began, for one step
@@ -63,29 +68,34 @@ pub(crate) fn findings_from<'a>(
     began: u64,
     steps: u32,
     entry: &Entry<'a, '_>,
+    listed: bool,
 ) -> Result<Findings<'a>, Place>
-    ensures { FindsOn result (way_from (info_of info.now) began steps entry.now) }
+    requires { IsTrue listed
+        → beginning_told info.now.units.now.entries entry.now.at ≡ Some entry.now }
+    ensures found { FindsOn result (way_from (info_of info.now) began steps entry.now) }
+    ensures listed { IfOk result (AreListed info.now.units.now) }
 {
     let next = match next_on_way(info, entry) {
         Ok(Some(next)) => next,
-        Ok(None) => return Ok(found_in(entry)),
+        Ok(None) => return Ok(found_in(entry, listed)),
         Err(place) => return Err(place),
     };
     if steps == 0 {
         return Err(Place::in_binary(began as usize, Kind::OriginTooLong));
     }
-    match findings_from(info, began, steps - 1, &next) {
-        Ok(rest) => Ok(before(entry, &rest)),
-        Err(place) => Err(place),
-    }
+    let rest = findings_from(info, began, steps - 1, &next, true)?;
+    Ok(before(&found_in(entry, listed), &rest))
 }
 
-/// What a way says that begins with an entry, where the rest of it says the other.
+/// What a way says that begins with an entry of these attributes, where the rest of it says the
+/// other.
 #[tactic(auto, using(crate::proofs::FoundLemmas::before_lemmas))]
-fn before<'a>(entry: &Entry<'a, '_>, rest: &Findings<'a>) -> Findings<'a>
-    ensures { (way : List entry_told) → AreFound way rest.now → AreFound (entry.now ∷ way) result }
+fn before<'a>(own: &Findings<'a>, rest: &Findings<'a>) -> Findings<'a>
+    ensures found { (entry : entry_told) (way : List entry_told) → AreFound (entry ∷ []) own.now
+        → AreFound way rest.now → AreFound (entry ∷ way) result }
+    ensures listed { (units : units_told) → AreListed units own.now → AreListed units rest.now
+        → AreListed units result }
 {
-    let own = found_in(entry);
     Findings {
         linkage: own.linkage.or(rest.linkage),
         mips_linkage: own.mips_linkage.or(rest.mips_linkage),
@@ -95,29 +105,44 @@ fn before<'a>(entry: &Entry<'a, '_>, rest: &Findings<'a>) -> Findings<'a>
 }
 
 /// What a way of one entry says.
-fn found_in<'a>(entry: &Entry<'a, '_>) -> Findings<'a>
-    ensures { AreFound (entry.now ∷ []) result }
+fn found_in<'a>(entry: &Entry<'a, '_>, listed: bool) -> Findings<'a>
+    ensures found { AreFound (entry.now ∷ []) result }
+    ensures listed { (units : units_told) → (IsTrue listed
+        → beginning_told units.entries entry.now.at ≡ Some entry.now) → AreListed units result }
 {
     Findings {
-        linkage: held_in(entry, DW_AT_LINKAGE_NAME),
-        mips_linkage: held_in(entry, DW_AT_MIPS_LINKAGE_NAME),
-        name: held_in(entry, DW_AT_NAME),
-        line: held_in(entry, DW_AT_DECL_LINE),
+        linkage: held_in(entry, DW_AT_LINKAGE_NAME, listed),
+        mips_linkage: held_in(entry, DW_AT_MIPS_LINKAGE_NAME, listed),
+        name: held_in(entry, DW_AT_NAME, listed),
+        line: held_in(entry, DW_AT_DECL_LINE, listed),
     }
 }
 
 /// The attribute of a name that an entry has.
 #[tactic(auto, using(crate::proofs::FoundLemmas::held_lemmas))]
-fn held_in<'a>(entry: &Entry<'a, '_>, name: u64) -> Option<Held<'a>>
-    ensures { option_map held_of result ≡ first_on name (entry.now ∷ []) }
+fn held_in<'a>(entry: &Entry<'a, '_>, name: u64, listed: bool) -> Option<Held<'a>>
+    ensures found { option_map held_of result ≡ first_on name (entry.now ∷ []) }
+    ensures listed { (units : units_told) → (IsTrue listed
+        → beginning_told units.entries entry.now.at ≡ Some entry.now)
+        → IfSome result (IsListed units) }
 {
     match attribute(&entry.found, name) {
         Some(found) => Some(Held {
             unit: entry.unit,
+            stands_in: begins_at(entry, listed),
             name: found.name,
             at: found.at,
             value: found.value,
         }),
         None => None,
     }
+}
+
+/// Where an entry begins that was found by that offset.
+fn begins_at(entry: &Entry<'_, '_>, listed: bool) -> Option<u64>
+    ensures { (units : units_told) → (IsTrue listed
+        → beginning_told units.entries entry.now.at ≡ Some entry.now)
+        → IfSome result (λ at. beginning_told units.entries at ≡ Some entry.now) }
+{
+    if listed { Some(entry.at) } else { None }
 }

@@ -16,6 +16,7 @@ mod bases;
 mod findings;
 mod in_unit;
 mod info;
+mod kept;
 mod lists;
 mod name;
 mod origin;

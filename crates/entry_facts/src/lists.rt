@@ -3,11 +3,11 @@ ghost use Rattle.std.specs.Prelude.{◌≡◌, ℕ, List, IfOk, IfSome, IsTrue, 
 ghost use Rattle.std.specs.Option.{option_copied};
 ghost use Rattle.dwarf_forms.specs.Meaning.{meaning_of};
 ghost use Rattle.dwarf_ranges.specs.Meaning.{range_sections_of};
-ghost use Rattle.entry_facts.specs.Kept.{AddsKnown};
 ghost use Rattle.entry_facts.specs.Lists.{AddsList, IsKeyOf, IsLive, RemembersLists, list_at, live_listed, no_lists, read_by};
 ghost use Rattle.entry_facts.specs.Told.{GivesUnlessNoMemory, in_unit};
 
 use crate::in_unit::InUnit;
+use crate::kept::keep_at;
 use crate::pieces_of::keep_live;
 use crate::spelled::listed;
 use dwarf_forms::Value;
@@ -153,13 +153,9 @@ impl Lists {
             (live_listed elf.now (in_unit of.now) found.now) }
         ensures known { RemembersLists elf.now (range_sections_of of.now.parts) self.new }
     {
-        match read_live(alloc, elf, of, found) {
-            Ok(read) => match self.keep_long(alloc, of, key, &read) {
-                Ok(()) => Ok(read.ranges),
-                Err(NoMemory) => Err(Stop::NoMemory),
-            },
-            Err(stop) => Err(stop),
-        }
+        let read = read_live(alloc, elf, of, found)?;
+        self.keep_long(alloc, of, key, &read)?;
+        Ok(read.ranges)
     }
 
     /// The live ranges of the list of a key.
@@ -177,10 +173,9 @@ impl Lists {
             (live_listed elf.now (in_unit of.now) found.now) }
         ensures known { RemembersLists elf.now (range_sections_of of.now.parts) self.new }
     {
-        match self.live_at(alloc, of, key) {
-            Ok(Some(live)) => Ok(live),
-            Ok(None) => self.read(alloc, elf, of, found, key),
-            Err(NoMemory) => Err(Stop::NoMemory),
+        match self.live_at(alloc, of, key)? {
+            Some(live) => Ok(live),
+            None => self.read(alloc, elf, of, found, key),
         }
     }
 
@@ -199,10 +194,7 @@ impl Lists {
     {
         match key_of(found.value) {
             Some(key) => self.live_by(alloc, elf, of, found, key),
-            None => match read_live(alloc, elf, of, found) {
-                Ok(read) => Ok(read.ranges),
-                Err(stop) => Err(stop),
-            },
+            None => Ok(read_live(alloc, elf, of, found)?.ranges),
         }
     }
 }
@@ -219,16 +211,6 @@ fn key_of(value: Value<'_>) -> Option<ListKey>
     }
 }
 
-/// Keeps a list for a number.
-fn keep_at(lists: &mut IndexMap<u64, LongList>, at: u64, list: LongList) -> Result<(), NoMemory>
-    ensures { AddsKnown lists.old.entries lists.new.entries at list }
-{
-    match lists.insert(at, list) {
-        Ok(_) => Ok(()),
-        Err(_) => Err(NoMemory),
-    }
-}
-
 /// Reads the list that `DW_AT_ranges` leads to, and keeps of its ranges those that are code.
 fn read_live(
     alloc: Global,
@@ -239,13 +221,9 @@ fn read_live(
     ensures { GivesUnlessNoMemory (λ read. read.ranges.items) result
         (live_listed elf.now (in_unit of.now) found.now) }
 {
-    match listed(alloc, of, found) {
-        Ok(mut read) => {
-            keep_live(&mut read.ranges, elf);
-            Ok(read)
-        }
-        Err(stop) => Err(stop),
-    }
+    let mut read = listed(alloc, of, found)?;
+    keep_live(&mut read.ranges, elf);
+    Ok(read)
 }
 
 /// The same ranges once more.

@@ -55,11 +55,6 @@ pub(crate) fn numbered_name<'a>(
         info.now.units.now (Some (held_of held.entry))) }
     ensures names { Extends names.old names.new }
 {
-    match name_said(info, held) {
-        Ok(name) => match number_of(names, name) {
-            Ok(number) => Ok(number),
-            Err(NoMemory) => Err(Stop::NoMemory),
-        },
-        Err(place) => Err(Stop::Refused(place)),
-    }
+    let name = name_said(info, held)?;
+    Ok(number_of(names, name)?)
 }

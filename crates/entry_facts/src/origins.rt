@@ -10,6 +10,7 @@ ghost use Rattle.entry_facts.specs.Memo.{LeadsOn, Remembers, SaysNothing, nothin
 use crate::attributes::attribute;
 use crate::findings::findings_from;
 use crate::info::Info;
+use crate::kept::keep_at;
 use crate::origin::Origin;
 use crate::texts::TextNumbers;
 use crate::way::{entry_beginning_at, reference_of, target_of};
@@ -68,23 +69,24 @@ impl Origins {
         ensures added { AddsKnown self.old.origins self.new.origins at origin }
         ensures texts { self.new.texts ≡ self.old.texts }
     {
-        match self.known.insert(at, origin) {
-            Ok(_) => Ok(()),
-            Err(_) => Err(NoMemory),
-        }
+        keep_at(&mut self.known, at, origin)
     }
 
     /// The name and the line that the way from an entry on says, with so many steps at most, of a
-    /// way that began at an offset in the file.
+    /// way that began at an offset in the file. `listed` says that the entry was found by its own
+    /// offset.
     fn said<'a>(
         &mut self,
         info: &Info<'a, '_>,
         began: u64,
         steps: u32,
         entry: &Entry<'a, '_>,
+        listed: bool,
         names: &mut Names<'a>,
     ) -> Result<Origin, Stop>
         requires room { length names.old < 2 ^ 32 - 1 }
+        requires begins { IsTrue listed
+            → beginning_told info.now.units.now.entries entry.now.at ≡ Some entry.now }
         requires known { Remembers (sections_of info.now.texts.now) (info_of info.now) names.old
             self.old }
         ensures told { GivesOrigin names.new result (said_on (sections_of info.now.texts.now)
@@ -93,16 +95,12 @@ impl Origins {
         ensures known { Remembers (sections_of info.now.texts.now) (info_of info.now) names.new
             self.new }
     {
-        match findings_from(info, began, steps, entry) {
-            Ok(findings) => match self.texts.number_said(info, findings.naming(), names) {
-                Ok(name) => Ok(Origin {
-                    name,
-                    line: findings.line(),
-                }),
-                Err(stop) => Err(stop),
-            },
-            Err(place) => Err(Stop::Refused(place)),
-        }
+        let findings = findings_from(info, began, steps, entry, listed)?;
+        let name = self.texts.number_said(info, findings.naming(), names)?;
+        Ok(Origin {
+            name,
+            line: findings.line(),
+        })
     }
 
     /// The origin that the way from an entry on says, which is kept for others that lead there.
@@ -124,13 +122,9 @@ impl Origins {
         ensures known { Remembers (sections_of info.now.texts.now) (info_of info.now) names.new
             self.new }
     {
-        match self.said(info, began, MAX_STEPS - 1, next, names) {
-            Ok(origin) => match self.keep(at, origin) {
-                Ok(()) => Ok(origin),
-                Err(NoMemory) => Err(Stop::NoMemory),
-            },
-            Err(stop) => Err(stop),
-        }
+        let origin = self.said(info, began, MAX_STEPS - 1, next, true, names)?;
+        self.keep(at, origin)?;
+        Ok(origin)
     }
 
     /// The name and the start line of an entry, by the first attributes on its way: the entry, the
@@ -164,14 +158,14 @@ impl Origins {
             self.new }
     {
         let Some(at) = leads_on(info, entry) else {
-            return self.said(info, entry.at, MAX_STEPS, entry, names);
+            return self.said(info, entry.at, MAX_STEPS, entry, false, names);
         };
         if let Some(origin) = self.known_at(at) {
             return Ok(origin);
         }
         match entry_beginning_at(info.units, u128::from(at)) {
             Some(next) => self.worked_out(info, entry.at, at, &next, names),
-            None => self.said(info, entry.at, MAX_STEPS, entry, names),
+            None => self.said(info, entry.at, MAX_STEPS, entry, false, names),
         }
     }
 }

@@ -1,5 +1,5 @@
 // The way of an entry, step by step.
-ghost use Rattle.std.specs.Prelude.{◌≡◌};
+ghost use Rattle.std.specs.Prelude.{◌≡◌, IsTrue, true};
 ghost use Rattle.dwarf_forms.specs.Meaning.{meaning_of};
 ghost use Rattle.tree_model.specs.Way.{entry_beginning_at as entry_told, is_passed_over as passed_over_told, led_to as led_to_told, next_on_way as next_told, reference_of as reference_told, start_of_unit as start_told, target_of as target_told};
 ghost use Rattle.entry_facts.specs.Meaning.{info_of};
@@ -101,10 +101,34 @@ pub(crate) fn entry_beginning_at<'a, 'u>(units: &'u Units<'a>, at: u128) -> Opti
 }
 
 /// Whether an offset in the file lies in a unit that was passed over.
+///
+/// Such units stand in the order of the file, so that it lies in the first one that ends behind it.
+/// That they do is proved nowhere: where it lies there in none, each one is looked at, once, as a
+/// file with such a reference is refused.
 fn is_passed_over(units: &Units<'_>, at: u128) -> bool
     ensures { result ≡ passed_over_told units.now.skipped at }
 {
-    for (start, end) in units.skipped() {
+    let skipped = units.skipped();
+    lies_in_first_behind(skipped, at) || lies_in_any(skipped, at)
+}
+
+/// Whether an offset lies in the first of some extents that ends behind it, which is searched for
+/// as if they stood in order.
+fn lies_in_first_behind(extents: &[(u64, u64)], at: u128) -> bool
+    ensures { IsTrue result → passed_over_told extents.now at ≡ true }
+{
+    let number = extents.partition_point(|extent| u128::from(extent.1) <= at);
+    match extents.get(number) {
+        Some((start, end)) => u128::from(*start) <= at && at < u128::from(*end),
+        None => false,
+    }
+}
+
+/// Whether an offset lies in one of some extents.
+fn lies_in_any(extents: &[(u64, u64)], at: u128) -> bool
+    ensures { result ≡ passed_over_told extents.now at }
+{
+    for (start, end) in extents {
         if u128::from(*start) <= at && at < u128::from(*end) {
             return true;
         }

@@ -9,22 +9,22 @@ returns-in-Some-clause-told c =
     number_told (sections_of c.args.info.now.texts.now) c.args.info.now.units.now c.args.names.now (held_of c.args.held) c.args.place c.in-Some.number
     c.requires.stands (c.requires.known c.args.place c.in-Some.number (sym c.in-Some.ensures))
 
-pub returns-in-Ok-keep-clause-known : goal.returns-in-Ok-keep-clause-known
-returns-in-Ok-keep-clause-known c =
-    let sections = sections_of c.args.info.now.texts.now in
-    names_added sections c.numbered_name.new.names c.args.self.now c.keep.new.self c.args.place c.in-Ok.number
-    (names_more sections c.args.names.now c.numbered_name.new.names c.args.self.now c.numbered_name.ensures.names c.requires.known)
-    c.keep.ensures
-    (numbered sections c.args.info.now.units.now c.numbered_name.new.names (held_of c.args.held) c.args.place c.in-Ok.number c.requires.stands c.in-Ok.ensures.told)
+pub returns-in_err-number-clause-known : goal.returns-in_err-number-clause-known
+returns-in_err-number-clause-known c =
+    names_more (sections_of c.args.info.now.texts.now) c.args.info.now.units.now c.args.names.now c.numbered_name.new.names c.args.self.now c.numbered_name.ensures.names c.requires.known
 
-pub returns-in-Err-keep-clause-known : goal.returns-in-Err-keep-clause-known
-returns-in-Err-keep-clause-known c =
+pub returns-in_err-keep-clause-known : goal.returns-in_err-keep-clause-known
+returns-in_err-keep-clause-known c =
     let sections = sections_of c.args.info.now.texts.now in
-    names_added sections c.numbered_name.new.names c.args.self.now c.keep.new.self c.args.place c.in-Ok.number
-    (names_more sections c.args.names.now c.numbered_name.new.names c.args.self.now c.numbered_name.ensures.names c.requires.known)
+    names_added sections c.args.info.now.units.now c.numbered_name.new.names c.args.self.now c.keep.new.self c.args.place c.in_ok-number.number
+    (names_more sections c.args.info.now.units.now c.args.names.now c.numbered_name.new.names c.args.self.now c.numbered_name.ensures.names c.requires.known)
     c.keep.ensures
-    (numbered sections c.args.info.now.units.now c.numbered_name.new.names (held_of c.args.held) c.args.place c.in-Ok.number c.requires.stands c.in-Ok.ensures.told)
+    (numbered sections c.args.info.now.units.now c.numbered_name.new.names (held_of c.args.held) c.args.place c.in_ok-number.number c.requires.stands c.in_ok-number.ensures.told)
 
-pub returns-in-Err-clause-known : goal.returns-in-Err-clause-known
-returns-in-Err-clause-known c =
-    names_more (sections_of c.args.info.now.texts.now) c.args.names.now c.numbered_name.new.names c.args.self.now c.numbered_name.ensures.names c.requires.known
+pub returns-clause-known : goal.returns-clause-known
+returns-clause-known c =
+    let sections = sections_of c.args.info.now.texts.now in
+    names_added sections c.args.info.now.units.now c.numbered_name.new.names c.args.self.now c.keep.new.self c.args.place c.in_ok-number.number
+    (names_more sections c.args.info.now.units.now c.args.names.now c.numbered_name.new.names c.args.self.now c.numbered_name.ensures.names c.requires.known)
+    c.keep.ensures
+    (numbered sections c.args.info.now.units.now c.numbered_name.new.names (held_of c.args.held) c.args.place c.in_ok-number.number c.requires.stands c.in_ok-number.ensures.told)

@@ -3,6 +3,7 @@
 
 An edge of blocks was gone along by a branch from the one to the start of the other, or by a stretch between two branches.
 """
+import bisect
 import collections
 import importlib.machinery
 import importlib.util
@@ -38,7 +39,7 @@ def counts_of(path, places):
     for (first, last), times in ranges.items():
         row, end = places.at(first), places.at(last)
         if row and end:
-            through = places.rows[places.rows.index(row) : places.rows.index(end) + 1]
+            through = places.rows[bisect.bisect_left(places.lows, row.low) : bisect.bisect_right(places.lows, end.low)]
             for tail, head in zip(through, through[1:]):
                 step(tail, head, times)
     return counts

@@ -469,6 +469,10 @@ all_passed net old_counts old_prices old_excess old_left counts prices excess le
   balanced = none_lacks excess so_far.given.state.even (λ other within. so_far.passed all other (omega (arith, within, past)));
 }
 
+pub all_even : (net : Network) (counts : List ℕ) (prices excess : List ℤ) → IsState net counts prices excess
+    → ((side : ℕ) → side < length excess → price_at excess side ≤ℤ pos 0) → IsDone net counts prices excess
+all_even net counts prices excess state most = record { state = state; balanced = none_lacks excess state.even most }
+
 -- ---- one search
 
 -- what augmentations so far have given, the source has some excess, and the search has come to a side, or closed

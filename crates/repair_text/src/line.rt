@@ -72,7 +72,11 @@ fn push_price(text: &mut Vec<u8>, prices: &[i64], number: usize) -> Result<(), N
     ensures fits { OnOk result
         (model.fits_price (slice_index_or prices.now number (pos 0)) ≡ true) }
 {
-    push_signed(text, prices[number])
+    let price = prices[number];
+    if price < 0 {
+        return push_signed(text, price);
+    }
+    push_small(text, price as u64)
 }
 
 /// Appends `# block N weight W in S out T`.

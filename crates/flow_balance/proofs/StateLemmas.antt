@@ -1,6 +1,6 @@
 -- What an augmentation leaves true.
 use Rattle.std.proofs.Common.{◌≡◌, ℕ, ◌+◌, ◌^◌, ◌<◌, ◌≤◌, Bool, List, length, replicate, Option, None, Some, ◌⊎◌, inl, inr, refl, arith, ap, sym, ◌∙◌, subst}
-use Rattle.std.specs.Prelude.{ℤ, pos, ◌+ℤ◌, ◌-ℤ◌, ◌≤ℤ◌, ◌<ℤ◌, slice_index_or}
+use Rattle.std.specs.Prelude.{ℤ, pos, ◌-ℤ◌, ◌≤ℤ◌, ◌<ℤ◌, slice_index_or}
 use Rattle.std.specs.List.{All}
 use Rattle.std.proofs.lemmas.Bool.{cases_lt}
 use Rattle.std.proofs.lemmas.Int.{ints}
@@ -32,7 +32,7 @@ use Rattle.path_search.proofs.TraceLemmas.{marked}
 use Rattle.flow_balance.specs.Excess.{surplus, transferred}
 use Rattle.flow_balance.specs.declared.balancing.Sides.{Sides}
 use Rattle.flow_balance.specs.declared.balancing.Sides.TheVariants.{All as Every}
-use Rattle.flow_balance.specs.State.{AreLater, AreSpent, HasMoved, IsAugmented, IsClosedFrom, IsDone, IsGiven, IsLowPrice, IsNearLack, IsStart, IsState, two_ways}
+use Rattle.flow_balance.specs.State.{AreLater, AreSpent, HasMoved, IsAugmented, IsClosedFrom, IsDone, IsGiven, IsLowPrice, IsNearLack, IsStart, IsState}
 use Rattle.flow_balance.proofs.ExcessLemmas.{IsFair, transferred_at, transferred-length, fair_sums, fair_kept, fair_lacks, none_lacks}
 use Rattle.flow_balance.proofs.StartLemmas.{starting_small}
 

@@ -6,3 +6,4 @@ pub mod TreeLemmas
 pub mod PassingLemmas
 pub mod SumLemmas
 pub mod TakenLemmas
+pub mod NearLemmas

@@ -28,7 +28,7 @@ pub fn weights(
         All (λ count. count < 2 ^ bound_bits) counted.now.counts
         → AreWeights (length fun.now.blocks) made.items) }
 {
-    let mut made = Vec::new(alloc);
+    let mut made = Vec::with_capacity(alloc, fun.blocks.as_slice().len())?;
     let mut near = 0;
     for block in fun.blocks.as_slice() {
         let (weight, last) = counted.weight_of(block, near);

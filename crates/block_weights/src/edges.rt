@@ -1,4 +1,4 @@
-ghost use Rattle.std.specs.Prelude.{◌≡◌, ◌<◌, ◌^◌, length, map, IfOk};
+ghost use Rattle.std.specs.Prelude.{◌≡◌, ◌<◌, ◌≤◌, ◌^◌, length, map, IfOk};
 ghost use Rattle.flow_model.specs.Network.{weight_of as number_of};
 ghost use Rattle.flow_model.specs.Sound.{AreWeights};
 ghost use Rattle.profile_model.specs.Steps.{hits_by};
@@ -29,24 +29,38 @@ pub fn edge_weights(
         fun.now.edges) }
     ensures small { IfOk result (λ made. AreWeights (length fun.now.edges) made.items) }
 {
-    let mut made = Vec::new(alloc);
+    let mut made = Vec::with_capacity(alloc, fun.edges.as_slice().len())?;
+    let mut near = 0;
     for edge in fun.edges.as_slice() {
-        made.push(weight_of(edge, fun.blocks.as_slice(), samples, weights))?;
+        let (weight, place) = weight_of(edge, fun.blocks.as_slice(), samples, weights, near);
+        made.push(weight)?;
+        near = place;
     }
     Ok(made)
 }
 
-/// The weight of an edge.
-fn weight_of(edge: &Edge, blocks: &[Block], samples: &EdgeSamples, weights: &[Weight]) -> Weight
-    ensures told { result ≡ weight_by (taken samples.now.branches) (hits_by samples.now.passing)
+/// The weight of an edge, and the place of its branches, which is looked for around `near` first.
+fn weight_of(
+    edge: &Edge,
+    blocks: &[Block],
+    samples: &EdgeSamples,
+    weights: &[Weight],
+    near: usize,
+) -> (Weight, usize)
+    requires { near ≤ length samples.now.branches }
+    ensures told { result.0 ≡ weight_by (taken samples.now.branches) (hits_by samples.now.passing)
         blocks.now weights.now edge.now }
-    ensures small { number_of result < 2 ^ 44 }
+    ensures small { number_of result.0 < 2 ^ 44 }
+    ensures near { result.1 ≤ length samples.now.branches }
 {
     let from = known_block(blocks, weights, edge.from);
     let to = known_block(blocks, weights, edge.to);
     match (from, to) {
-        (Some(from), Some(to)) => Weight::Known(samples.went_over(&from, &to)),
-        _ => Weight::Unknown,
+        (Some(from), Some(to)) => {
+            let (times, place) = samples.went_over(&from, &to, near);
+            (Weight::Known(times), place)
+        }
+        _ => (Weight::Unknown, near),
     }
 }
 

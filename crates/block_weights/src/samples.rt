@@ -1,4 +1,4 @@
-ghost use Rattle.std.specs.Prelude.{◌≡◌, ◌<◌, ◌^◌, IfOk};
+ghost use Rattle.std.specs.Prelude.{◌≡◌, ◌<◌, ◌≤◌, ◌^◌, length, IfOk};
 ghost use Rattle.profile_model.specs.Hits.{times_of};
 ghost use Rattle.profile_model.specs.Steps.{hits_by};
 ghost use Rattle.weight_model.specs.Edges.{taken as times_taken, went_over};
@@ -57,17 +57,20 @@ impl EdgeSamples {
         })
     }
 
-    /// How often the program went over from one block to another.
-    pub(crate) fn went_over(&self, from: &Block, to: &Block) -> u64
-        ensures told { result ≡ went_over (times_taken self.now.branches) (hits_by self.now.passing)
-            from.now to.now }
-        ensures small { result < 2 ^ 33 }
+    /// How often the program went over from one block to another, and the place of the branches
+    /// that lead so. It is looked for around the place `near` first.
+    pub(crate) fn went_over(&self, from: &Block, to: &Block, near: usize) -> (u64, usize)
+        requires { near ≤ length self.now.branches }
+        ensures told { result.0 ≡ went_over (times_taken self.now.branches)
+            (hits_by self.now.passing) from.now to.now }
+        ensures small { result.0 < 2 ^ 33 }
+        ensures near { result.1 ≤ length self.now.branches }
     {
-        let taken = taken(&self.branches, &self.sums, from, to.lo);
+        let (taken, near) = taken(&self.branches, &self.sums, near, from, to.lo);
         if from.hi == to.lo {
-            taken + self.passing.at(to.lo)
+            (taken + self.passing.at(to.lo), near)
         } else {
-            taken
+            (taken, near)
         }
     }
 }

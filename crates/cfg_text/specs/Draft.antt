@@ -20,15 +20,16 @@ way_of from to = from * 65536 + to
 abbrev pub way_by : Edge → ℕ
 way_by edge = way_of edge.from edge.to
 
--- The first blocks stand behind one another, and the spans are those of the others; the first edges stand by their ways,
--- and the ways are those of the others. Edges end at blocks.
+-- The first blocks stand behind one another, and the spans are those of the others. The first edges stand by their
+-- ways, and the ways are those of the others. Edges end at blocks.
 pub record IsDraft
     (blocks : List Block) (edges : List Edge) (rising : ℕ) (spans : List (ℕ × ℕ)) (sorted : ℕ) (ways : BTreeSet ℕ)
     : Type 0 where
   pub few : length blocks ≤ max_blocks
   pub within : rising ≤ length blocks
   pub rise : AreApart 0 (map span_of (take rising blocks))
-  pub taken : (lo hi : ℕ) → list_any (meets lo hi) spans ≡ list_any (λ block. meets lo hi (span_of block)) (drop rising blocks)
+  pub taken : (lo hi : ℕ)
+      → list_any (meets lo hi) spans ≡ list_any (λ block. meets lo hi (span_of block)) (drop rising blocks)
   pub ends : AllByRecursion (λ edge. edge.to < 65536) edges
   pub inside : sorted ≤ length edges
   pub ascend : IsNonDecreasingBy way_by (take sorted edges)

@@ -58,11 +58,9 @@ impl<T: Drop> From<AllocFailed<T>> for DraftStop {
     }
 }
 
-/// A function so far. Beside its blocks and edges it keeps, in order, the addresses that blocks hold
-/// and the ways that edges go, so that a line is judged without looking through them.
-///
-/// Most texts list both in order. So of what stands in order from the front on, no more than its
-/// number is kept.
+/// A function so far. Beside its blocks and edges it keeps, in order, the addresses that blocks
+/// hold and the ways that edges go, so that a line is judged without looking through them. Most
+/// texts list both in order: of what stands so from the front on, only the number is kept.
 #[derive(Debug, Drop)]
 pub(crate) struct Draft<'a> {
     name: &'a [u8],

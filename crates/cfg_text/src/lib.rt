@@ -6,6 +6,7 @@
 
 mod draft;
 mod fun;
+mod number;
 mod rising;
 mod said;
 mod taken;

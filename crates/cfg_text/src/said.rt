@@ -6,8 +6,9 @@ ghost use Rattle.text_model.specs.LineTests.{is_comment as comment};
 ghost use Rattle.block_model.specs.Line as model;
 ghost use Rattle.cfg_text.specs.Said.{meaning_of};
 
+use crate::number::number;
 use block_model::{Block, Bound};
-use text_scan::{Fields, decimal, prefixed};
+use text_scan::{Fields, prefixed};
 
 /// A bound on a count is below this.
 const BOUND_LIMIT: u64 = 1 << 44;
@@ -229,7 +230,7 @@ fn behind<'a>(front: &[u8], word: &'a [u8]) -> Option<&'a [u8]>
 pub fn count_of(digits: &[u8]) -> Option<u64>
     ensures { result ≡ model.count_of digits.now }
 {
-    match decimal(digits) {
+    match number(digits) {
         Ok(count) if count < BOUND_LIMIT => Some(count),
         Ok(_) => None,
         Err(_) => None,
@@ -240,7 +241,7 @@ pub fn count_of(digits: &[u8]) -> Option<u64>
 pub fn place_of(field: &[u8]) -> Option<u64>
     ensures { result ≡ model.place_of field.now }
 {
-    decimal(field).ok()
+    number(field).ok()
 }
 
 /// An address: hexadecimal behind `0x`.

@@ -1,6 +1,6 @@
 -- What an augmentation leaves true.
 use Rattle.std.proofs.Common.{◌≡◌, ℕ, ◌+◌, ◌^◌, ◌<◌, ◌≤◌, Bool, List, length, replicate, Option, None, Some, ◌⊎◌, inl, inr, refl, arith, ap, sym, ◌∙◌, subst}
-use Rattle.std.specs.Prelude.{ℤ, pos, ◌+ℤ◌, ◌-ℤ◌, ◌≤ℤ◌, ◌<ℤ◌, slice_index_or}
+use Rattle.std.specs.Prelude.{ℤ, pos, ◌-ℤ◌, ◌≤ℤ◌, ◌<ℤ◌, slice_index_or}
 use Rattle.std.specs.List.{All}
 use Rattle.std.proofs.lemmas.Bool.{cases_lt}
 use Rattle.std.proofs.lemmas.Int.{ints}
@@ -32,7 +32,7 @@ use Rattle.path_search.proofs.TraceLemmas.{marked}
 use Rattle.flow_balance.specs.Excess.{surplus, transferred}
 use Rattle.flow_balance.specs.declared.balancing.ExcessSides.{ExcessSides}
 use Rattle.flow_balance.specs.declared.balancing.ExcessSides.TheVariants.{All as Every}
-use Rattle.flow_balance.specs.State.{AreLater, AreSpent, HasMoved, IsAugmented, IsClosedFrom, IsDone, IsGiven, IsLowPrice, IsNearLack, IsStart, IsState, two_ways}
+use Rattle.flow_balance.specs.State.{AreLater, AreSpent, HasMoved, IsAugmented, IsClosedFrom, IsDone, IsGiven, IsLowPrice, IsNearLack, IsStart, IsState}
 use Rattle.flow_balance.proofs.ExcessLemmas.{IsFair, transferred_at, transferred-length, fair_sums, fair_kept, fair_lacks, none_lacks}
 use Rattle.flow_balance.proofs.StartLemmas.{starting_small}
 
@@ -468,6 +468,10 @@ all_passed net old_counts old_prices old_excess old_left counts prices excess le
   state = so_far.given.state;
   balanced = none_lacks excess so_far.given.state.even (λ other within. so_far.passed all other (omega (arith, within, past)));
 }
+
+pub all_even : (net : Network) (counts : List ℕ) (prices excess : List ℤ) → IsState net counts prices excess
+    → ((side : ℕ) → side < length excess → price_at excess side ≤ℤ pos 0) → IsDone net counts prices excess
+all_even net counts prices excess state most = record { state = state; balanced = none_lacks excess state.even most }
 
 -- ---- one search
 

@@ -1,5 +1,5 @@
 -- A network's arcs in coarser units.
-use Rattle.std.proofs.Common.{◌≡◌, ℕ, ◌+◌, ◌*◌, ◌<◌, List, [], ◌∷◌, ◌++◌, map, length, refl, arith, ap, sym, subst, ◌∙◌}
+use Rattle.std.proofs.Common.{◌≡◌, ℕ, ◌+◌, ◌*◌, List, [], ◌∷◌, ◌++◌, map, length, refl, arith, ap, sym, subst, ◌∙◌}
 use Rattle.std.specs.Prelude.{drop}
 use Rattle.std.proofs.lemmas.List.{drop-drop, length-map}
 use Rattle.flow_model.specs.declared.arc.Arc.{Arc}
@@ -8,7 +8,7 @@ use Rattle.flow_model.specs.Sound.{IsNet}
 use Rattle.scaling_model.specs.Coarse.{coarse, coarse_arc}
 use Rattle.scaling_model.proofs.HalvedLemmas.{coarse_nets_are_nets}
 use Rattle.flow_network.specs.Net.{KeepsNet, heads_of, network_by, tails_of}
-use Rattle.flow_network.specs.Table.{AreRows, IsRow, row_of}
+use Rattle.flow_network.specs.Table.{AreRows}
 use Rattle.flow_network.specs.declared.rows.KeyRows.{KeyRows}
 use Rattle.flow_network.proofs.NetLemmas.{network_by-arcs}
 

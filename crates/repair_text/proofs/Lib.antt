@@ -1,3 +1,4 @@
 pub mod LoopLemmas
 pub mod ReadingLemmas
 pub mod UnknownLemmas
+pub mod DigitLemmas

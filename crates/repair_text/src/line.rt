@@ -55,7 +55,7 @@ pub(crate) fn push_count(
 {
     push_block(text, number, weight)?;
     text.extend_from_slice(b" count ")?;
-    push_number(text, u128::from(count))?;
+    push_small(text, count)?;
     text.extend_from_slice(b" in ")?;
     push_price(text, ins, number)?;
     text.extend_from_slice(b" out ")?;
@@ -72,7 +72,11 @@ fn push_price(text: &mut Vec<u8>, prices: &[i64], number: usize) -> Result<(), N
     ensures fits { OnOk result
         (model.fits_price (slice_index_or prices.now number (pos 0)) ≡ true) }
 {
-    push_signed(text, prices[number])
+    let price = prices[number];
+    if price < 0 {
+        return push_signed(text, price);
+    }
+    push_small(text, price as u64)
 }
 
 /// Appends `# block N weight W in S out T`.
@@ -111,15 +115,15 @@ pub(crate) fn push_edge(
         → FitsBits (model.tells_edge from to weight count)) }
 {
     text.extend_from_slice(b"# edge ")?;
-    push_number(text, u128::from(from))?;
+    push_small(text, u64::from(from))?;
     text.push(b' ')?;
-    push_number(text, u128::from(to))?;
+    push_small(text, u64::from(to))?;
     if let Some(weight) = weight {
         text.extend_from_slice(b" weight ")?;
         push_weight(text, weight)?;
     }
     text.extend_from_slice(b" count ")?;
-    push_number(text, u128::from(count))?;
+    push_small(text, count)?;
     text.push(b'\n')?;
     Ok(())
 }
@@ -157,7 +161,7 @@ fn push_block(text: &mut Vec<u8>, number: usize, weight: Weight) -> Result<(), N
         ++ model.weight_text weight) }
 {
     text.extend_from_slice(b"# block ")?;
-    push_number(text, number as u128)?;
+    push_small(text, number as u64)?;
     text.extend_from_slice(b" weight ")?;
     push_weight(text, weight)
 }
@@ -171,8 +175,19 @@ fn push_weight(text: &mut Vec<u8>, weight: Weight) -> Result<(), NoMemory>
             text.push(b'?')?;
             Ok(())
         }
-        Weight::Known(weight) => push_number(text, u128::from(weight)),
+        Weight::Known(weight) => push_small(text, weight),
     }
+}
+
+/// Appends a number, which is one digit as a rule.
+fn push_small(text: &mut Vec<u8>, number: u64) -> Result<(), NoMemory>
+    ensures { OnOk result (text.new.items ≡ text.old.items ++ decimal_text number) }
+{
+    if number >= 10 {
+        return push_number(text, u128::from(number));
+    }
+    text.push(b'0' + number as u8)?;
+    Ok(())
 }
 
 /// Appends 1 for a side in a cut, and 0 for another.

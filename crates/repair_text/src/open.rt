@@ -209,6 +209,26 @@ impl Told {
         }
     }
 
+    /// The same with room for all that is told of the first of these functions, if there is one.
+    pub(crate) fn with_room(self, left: &[Fun<'_>]) -> Result<Told, NoMemory>
+        ensures { IfOk result (λ told. told_of told ≡ told_of self) }
+    {
+        let Some(fun) = left.first() else {
+            return Ok(self);
+        };
+        let blocks = fun.blocks.as_slice().len();
+        match self {
+            Told::Counts(mut counts) => {
+                counts.reserve(blocks, fun.edges.as_slice().len())?;
+                Ok(Told::Counts(counts))
+            }
+            Told::Sides(mut sides) => {
+                sides.reserve(blocks)?;
+                Ok(Told::Sides(sides))
+            }
+        }
+    }
+
     /// The repair whose first line has this number and whose last line has these sums.
     pub(crate) fn close(self, line: u64, first: u128, second: u128) -> Repair
         ensures told { repair_of result ≡ with_sums (told_of self) first second }
@@ -252,6 +272,19 @@ impl Told {
 }
 
 impl Counts {
+    /// Takes room for so many blocks and edges.
+    fn reserve(&mut self, blocks: usize, edges: usize) -> Result<(), NoMemory>
+        ensures { counts_told self.new ≡ counts_told self.old }
+    {
+        self.weights.reserve(blocks)?;
+        self.blocks.reserve(blocks)?;
+        self.ins.reserve(blocks)?;
+        self.outs.reserve(blocks)?;
+        self.edge_weights.reserve(edges)?;
+        self.edges.reserve(edges)?;
+        Ok(())
+    }
+
     /// Adds what a line tells of a block or an edge.
     fn add(&mut self, said: &Said<'_>) -> Result<(), NoMemory>
         requires { is_end (meaning_of said.now) ≡ false }
@@ -276,6 +309,16 @@ impl Counts {
 }
 
 impl Sides {
+    /// Takes room for so many blocks.
+    fn reserve(&mut self, blocks: usize) -> Result<(), NoMemory>
+        ensures { sides_told self.new ≡ sides_told self.old }
+    {
+        self.weights.reserve(blocks)?;
+        self.ins.reserve(blocks)?;
+        self.outs.reserve(blocks)?;
+        Ok(())
+    }
+
     /// Adds what a line tells of a block.
     fn add(&mut self, said: &Said<'_>) -> Result<(), NoMemory>
         requires { is_end (meaning_of said.now) ≡ false }

@@ -117,6 +117,7 @@ impl<'f, 'a> Reading<'f, 'a> {
         let Some((name, told)) = first_line(self.alloc, line.bytes) else {
             return Err(Stop::Refused(place(file, line.number, Kind::BadLine)));
         };
+        let told = told.with_room(self.left)?;
         self.begin(name, told, line.number, file)
     }
 

@@ -12,7 +12,7 @@ pub fn unknown_weights(alloc: Global, fun: &Fun<'_>) -> Result<Vec<Weight>, NoMe
     ensures told { IfOk result (λ made. made.items ≡ map (λ edge. Unknown) fun.now.edges) }
     ensures small { IfOk result (λ made. AreWeights (length fun.now.edges) made.items) }
 {
-    let mut made = Vec::new(alloc);
+    let mut made = Vec::with_capacity(alloc, fun.edges.as_slice().len())?;
     for _edge in fun.edges.as_slice() {
         made.push(Weight::Unknown)?;
     }

@@ -24,6 +24,12 @@ use cfg_text::{Edge, Fun, Weight};
 use flow_network::{Flow, Net, Nodes, Prices, Solved, cost, cut_sums};
 use refusal::NoMemory;
 
+/// How many bytes the line of a block takes as a rule.
+const BLOCK_ROOM: usize = 64;
+
+/// How many bytes the line of an edge takes as a rule.
+const EDGE_ROOM: usize = 32;
+
 /// Appends the lines of the repair of a function: `fun` is the function of `net`, and what was
 /// solved is of `net`. With `edges` each edge of a flow is told with its weight.
 ///
@@ -59,7 +65,7 @@ pub fn write(
         (repair_by net.now weights.now (weights_of edges.entry) solved.now))) }
     ensures unchanged { OnErr result (out.new.items ≡ out.old.items) }
 {
-    let mut text = Vec::new(*out.allocator());
+    let mut text = Vec::with_capacity(*out.allocator(), room_for(net))?;
     match solved {
         Solved::Flow(flow, prices) => {
             push_flow(&mut text, fun, net, weights, edges, flow, prices)?;
@@ -68,6 +74,11 @@ pub fn write(
     }
     out.extend_from_slice(&text)?;
     Ok(())
+}
+
+/// How many bytes the lines of most repairs take: with as many taken at once, few lists grow.
+fn room_for(net: &Net) -> usize {
+    BLOCK_ROOM * (net.block_count() + 1) + EDGE_ROOM * net.edge_count()
 }
 
 /// Appends the lines of a repair by counts.

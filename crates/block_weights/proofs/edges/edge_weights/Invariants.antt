@@ -1,4 +1,4 @@
-use Rattle.std.proofs.Common.{◌≡◌, ◌<◌, ◌^◌, map, take}
+use Rattle.std.proofs.Common.{◌≡◌, ◌<◌, ◌≤◌, ◌^◌, length, map, take}
 use Rattle.std.specs.List.{AllByRecursion}
 use Rattle.flow_model.specs.Network.{weight_of}
 use Rattle.profile_model.specs.Steps.{hits_by}
@@ -10,3 +10,4 @@ invariant-loop-edge l =
     (l.made.items
     ≡ map (weight_by (taken l.samples.branches) (hits_by l.samples.passing) l.fun.blocks l.weights) (take l.edge-index l.edge-items))
     × AllByRecursion (λ weight. weight_of weight < 2 ^ 44) l.made.items
+    × (l.near ≤ length l.samples.branches)

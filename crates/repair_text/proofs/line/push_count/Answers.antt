@@ -10,8 +10,7 @@ returns-clause-written c =
       c.in_ok-extend_from_slice-3.ensures.items,
       c.in_ok-push_price.ensures.written,
       c.in_ok-extend_from_slice-2.ensures.items,
-      c.in_ok-push_number.ensures.appended,
-      c.from.ensures,
+      c.in_ok-push_small.ensures,
       c.in_ok-extend_from_slice.ensures.items,
       c.in_ok-push_block.ensures,
     )

@@ -1,9 +1,8 @@
-use Rattle.std.proofs.Common.{◌≡◌, ◌∙◌, List, ap, arith, length, sym}
+use Rattle.std.proofs.Common.{◌∙◌, ap, arith, length, sym}
 use Rattle.std.proofs.lemmas.List.{get_or_read}
 use Rattle.flow_model.specs.Circulation.{root}
-use Rattle.flow_model.specs.Network.{Network, arcs_of, free_arc}
-use Rattle.flow_network.specs.Net.{network_by}
-use Rattle.flow_network.proofs.CoarseLemmas.{ArePutTogether, IsCoarsened, keeps_coarsened, put_together, view_coarsened}
+use Rattle.flow_model.specs.Network.{Network, free_arc}
+use Rattle.flow_network.proofs.CoarseLemmas.{ArePutTogether, IsCoarsened, keeps_coarsened, put_together}
 use Rattle.flow_network.proofs.net.Net.coarse.Goals as goal
 
 pub invariant_of-result : goal.invariant_of-result

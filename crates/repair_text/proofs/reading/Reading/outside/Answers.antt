@@ -1,4 +1,5 @@
-use Rattle.std.proofs.Common.{ap, sym, ◌∙◌, Some}
+use Rattle.std.proofs.Common.{ap, subst, sym, ◌∙◌, Some}
+use Rattle.repair_text.specs.Reading.{HasFirst}
 use Rattle.repair_text.proofs.ReadingLemmas.{passes, bad_first, begins_here}
 use Rattle.repair_text.proofs.reading.Reading.outside.Goals as goal
 
@@ -10,5 +11,7 @@ returns-in_default c =
     bad_first c.args.file c.args.line c.args.self c.requires (sym c.starts_with.ensures.value ∙ c.if-not-starts_with.false) c.in_default.ensures ∙ ap Some (sym c.place.ensures)
 
 pub returns : goal.returns
-returns c = begins_here c.args.file c.args.line c.args.self _ c.in-Some.told c.begin.result c.requires
-    (sym c.starts_with.ensures.value ∙ c.if-not-starts_with.false) c.in-Some.ensures c.begin.ensures
+returns c =
+    let first = subst (HasFirst c.args.line.bytes.now c.in-Some.name.now) (sym c.in_ok-told.ensures) c.in-Some.ensures in
+    begins_here c.args.file c.args.line c.args.self _ c.in_ok-told.told c.begin.result c.requires
+    (sym c.starts_with.ensures.value ∙ c.if-not-starts_with.false) first c.begin.ensures

@@ -13,7 +13,7 @@ use crate::row::Row;
 use crate::stated::heads_of;
 use key_types::{Keys, Names};
 use profile_text::{Item, Profile, What};
-use profile_tree::{Tree, from_all_counts};
+use profile_tree::{Numbers, Tree, tree_of};
 use refusal::NoMemory;
 use std::alloc::Global;
 use std::marker::Model;
@@ -122,7 +122,13 @@ impl Sums {
         let counts = self.counts.padded(alloc, keys.len())?;
         let heads = heads_of(alloc, &self.heads)?;
         let calls = self.called.calls(alloc)?;
-        from_all_counts(alloc, counts, &calls, &heads, keys, names)
+        tree_of(
+            alloc,
+            Numbers::each_once(counts, calls, heads),
+            &[],
+            keys,
+            names,
+        )
     }
 
     /// The line of the first of these numbers that is too large.

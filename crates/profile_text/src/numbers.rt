@@ -50,10 +50,7 @@ fn count_of(item: &Item) -> Option<KeyCount>
 }
 
 /// The calls from keys.
-///
-/// # Errors
-/// `NoMemory`.
-pub fn calls_of(alloc: Global, items: &[Item]) -> Result<Vec<Call>, NoMemory>
+fn calls_of(alloc: Global, items: &[Item]) -> Result<Vec<Call>, NoMemory>
     ensures { IfOk result (λ calls. calls.items ≡ filter_map call_in items.now) }
 {
     let calls = items.iter().filter_map(|item| call_of(item));
@@ -72,10 +69,7 @@ fn call_of(item: &Item) -> Option<Call>
 }
 
 /// The entries of functions.
-///
-/// # Errors
-/// `NoMemory`.
-pub fn heads_of(alloc: Global, items: &[Item]) -> Result<Vec<Head>, NoMemory>
+fn heads_of(alloc: Global, items: &[Item]) -> Result<Vec<Head>, NoMemory>
     ensures { IfOk result (λ heads. heads.items ≡ filter_map head_in items.now) }
 {
     let heads = items.iter().filter_map(|item| head_of(item));

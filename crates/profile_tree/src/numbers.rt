@@ -1,5 +1,5 @@
 // The numbers of a profile.
-ghost use Rattle.std.specs.Prelude.{◌≡◌, ◌<◌, ◌^◌, ℕ, All, IfOk, length};
+ghost use Rattle.std.specs.Prelude.{◌≡◌, ◌<◌, ◌^◌, ℕ, All, IfOk, length, slice_set};
 ghost use Rattle.key_types.specs.Segments.{AreSegments};
 ghost use Rattle.profile_laws.specs.Once.{StandOnce};
 ghost use Rattle.profile_lists.specs.Segments.{AllFit};
@@ -12,7 +12,7 @@ use crate::fit::{calls_fit, heads_fit};
 use crate::head::Head;
 use crate::key_count::KeyCount;
 use crate::sums::stated_of;
-use key_types::Seg;
+use key_types::{KeyId, Seg};
 use profile_lists::{Call, counts_of};
 use range_counts::Hits;
 use refusal::NoMemory;
@@ -152,6 +152,16 @@ impl Numbers {
         ensures fit { (name : ℕ) → entries_of result.now name < 2 ^ 64 }
     {
         &self.heads
+    }
+
+    /// Gives a key this count.
+    pub fn set_count(&mut self, key: KeyId, count: u64)
+        requires { key.0 < length self.old.counts }
+        ensures counts { self.new.counts ≡ slice_set self.old.counts key.0 count }
+        ensures calls { self.new.calls ≡ self.old.calls }
+        ensures heads { self.new.heads ≡ self.old.heads }
+    {
+        self.counts[key.0 as usize] = count;
     }
 
     /// The counts alone.

@@ -9,7 +9,7 @@ ghost use Rattle.profile_tree.specs.Told.{IsOf, told};
 ghost use Rattle.profile_merge.specs.declared.sums.MergeStop.TheVariants.{NoMemory as no_memory};
 
 use crate::called::Called;
-use crate::row::Row;
+use crate::row::SumRow;
 use crate::stated::heads_of;
 use key_types::{Keys, Names};
 use profile_text::{Item, Profile, What};
@@ -40,8 +40,8 @@ impl From<NoMemory> for MergeStop {
 /// each target of a key, and 0 for those of which nothing was told.
 #[derive(Drop)]
 pub struct Sums {
-    heads: Row,
-    counts: Row,
+    heads: SumRow,
+    counts: SumRow,
     called: Called,
 }
 
@@ -64,8 +64,8 @@ impl Sums {
             (sums.heads ≡ []) × (sums.counts ≡ []) × (sums.called ≡ [])) }
     {
         Ok(Sums {
-            heads: Row::new(alloc)?,
-            counts: Row::new(alloc)?,
+            heads: SumRow::new(alloc)?,
+            counts: SumRow::new(alloc)?,
             called: Called::new(alloc)?,
         })
     }

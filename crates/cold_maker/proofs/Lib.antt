@@ -1,3 +1,2 @@
 pub mod BesidesLemmas
 pub mod ColdLemmas
-pub mod TreeLemmas

@@ -10,7 +10,6 @@
 mod besides;
 mod maker;
 mod sampled;
-mod standing;
 mod told;
 mod tree;
 

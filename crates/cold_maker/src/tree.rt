@@ -6,10 +6,9 @@ ghost use Rattle.profile_text.specs.Numbers.{AreNumbersOf, counted};
 ghost use Rattle.profile_tree.specs.Told.{IsOf, told};
 
 use crate::besides::besides_of;
-use crate::standing::standing;
 use key_types::{Keys, Names};
-use profile_text::{Profile, calls_of, counts_of, heads_of};
-use profile_tree::{Tree, from_counts_with};
+use profile_text::{Profile, numbers_of};
+use profile_tree::Tree;
 use refusal::NoMemory;
 use std::alloc::Global;
 
@@ -36,12 +35,8 @@ pub fn tree_of(
         (counted names.now keys.now part.now.items)) }
     ensures names { IfOk result (λ tree. All (IsOf names.now) tree.lines) }
 {
-    names.each_once();
     let items = part.items.as_slice();
-    let marks = standing(alloc, items, keys, names.len())?;
-    let besides = besides_of(alloc, items, keys, known, &marks)?;
-    let counts = counts_of(alloc, items)?;
-    let calls = calls_of(alloc, items)?;
-    let heads = heads_of(alloc, items)?;
-    from_counts_with(alloc, &counts, &calls, &besides, &heads, keys, names)
+    let numbers = numbers_of(alloc, items, keys)?;
+    let besides = besides_of(alloc, items, &numbers, known, keys, names)?;
+    profile_tree::tree_of(alloc, numbers, &besides, keys, names)
 }

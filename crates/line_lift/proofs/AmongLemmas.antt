@@ -1,6 +1,6 @@
 -- What stands in parts of lists.
-use Rattle.std.proofs.Common.{◌≡◌, List, [], ◌∷◌, ◌++◌, Option, None, Some, refl, sym, ap, subst, ◌∙◌, inl, inr}
-use Rattle.std.specs.List.{cons_option, filter_map, flat_map}
+use Rattle.std.proofs.Common.{◌≡◌, List, [], ◌∷◌, ◌++◌, refl, sym, ap, subst, ◌∙◌, inl, inr}
+use Rattle.std.specs.List.{flat_map}
 use Rattle.std.proofs.lemmas.List.Concat.{flat_map-append}
 use Rattle.profile_text.specs.Draft.{IsOneOf}
 pub use Rattle.profile_tree.proofs.ListLemmas.{Among, all_append, all_among, among_all, among_either, among_filter, among_filter_back, among_left, among_map, among_map_back, among_permuted, among_range, among_right, kept_among, kept_from, range_among}

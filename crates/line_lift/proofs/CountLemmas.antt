@@ -1,36 +1,31 @@
--- The profile that is stated counts the same as the lifted one.
-use Rattle.std.proofs.Common.{◌≡◌, ℕ, suc, zero, ◌+◌, ◌<◌, ◌==◌, ◌||◌, ◌&&◌, Bool, true, false, cond, not, List, [], ◌∷◌, ◌++◌, map, filter, length, get_or, is_some, sum_by, Option, None, Some, refl, sym, ap, subst, ◌∙◌, arith, add-zero, zero-add, inl, inr}
-use Rattle.std.specs.List.{AllByRecursion, filter_map, flat_map, range_with_len}
+-- Numbers in which the keys that are held have their counts say what the lifted profile says.
+use Rattle.std.proofs.Common.{◌≡◌, ℕ, ◌+◌, ◌<◌, ◌==◌, nat_lt, Bool, true, false, cond, not, List, [], ◌++◌, map, filter, take, length, get_or, set, sum_by, Option, None, Some, refl, sym, ap, subst, ◌∙◌, arith, add-zero, zero-add}
+use Rattle.std.specs.List.{range_with_len}
 use Rattle.std.specs.Option.{unwrap_or}
 use Rattle.std.specs.declared.cmp.Ordering.{Ordering}
 use Rattle.std.proofs.lemmas.Bool.{true≢false}
-use Rattle.std.proofs.lemmas.List.{map-append}
+use Rattle.std.proofs.lemmas.Bool.Decides.{nat_tests}
+use Rattle.std.proofs.lemmas.List.{get_or-set_other, get_or-set_same, get_or-take, get_or_default, get_or_past, length-set, length-take-le}
 use Rattle.std.proofs.lemmas.List.Elements.{filter-append}
-use Rattle.std.proofs.lemmas.List.Sums.{sum_by-append, sum_by-cons}
+use Rattle.std.proofs.lemmas.List.Sums.{sum_by-append}
 use Rattle.key_types.specs.declared.key.Key.{Key}
 use Rattle.output_model.specs.Lift.{held_count, held_ways, is_held, lifted}
 use Rattle.profile_laws.specs.Counts.{CountTheSame}
-use Rattle.profile_model.specs.Laws.{TellsApart, has}
+use Rattle.profile_model.specs.Laws.{TellsApart}
 use Rattle.profile_model.specs.Orders.{way_cmp}
-use Rattle.profile_model.specs.Spelled.{Number, profile_by}
-use Rattle.profile_model.specs.Ways.{Way, same_name, same_way}
+use Rattle.profile_model.specs.Profile.{Profile, count_of, head_of, target_of}
+use Rattle.profile_model.specs.Ways.{Way, same_way}
 use Rattle.profile_model.proofs.OrderLemmas.{ways_tell_apart}
 use Rattle.profile_model.proofs.OrderedLemmas.{ordered_is_in_order}
-use Rattle.profile_text.proofs.NumberLemmas.{stated_is_told}
-use Rattle.profile_text.specs.Draft.{IsGivenItem, number_told, what_told}
-use Rattle.profile_text.specs.Numbers.{call_in, head_in}
-use Rattle.profile_text.specs.declared.item.Item.{Item}
-use Rattle.profile_text.specs.declared.item.What.{What}
-use Rattle.profile_text.specs.declared.item.What.TheVariants as what
-use Rattle.profile_tree.proofs.ListLemmas.{among_has, bool_cases, has_among, one_of_range, sum_filter, sum_map, sum_none, sum_same}
-use Rattle.profile_tree.proofs.SumLemmas.{Given, no_way_among, one_way_among, part_of_way, ways_apart}
-use Rattle.profile_tree.proofs.WayLemmas.{same_ways, way_itself}
-use Rattle.profile_tree.specs.Said.{stated, way_at}
-use Rattle.profile_tree.specs.declared.key_count.KeyCount.{KeyCount}
+use Rattle.profile_tree.proofs.ListLemmas.{among_has, bool_cases, has_among, nat_same, sum_filter, sum_map, sum_none, sum_same}
+use Rattle.profile_tree.proofs.SumLemmas.{Given, count_is, no_way_among, one_way_among, part_of_way}
+use Rattle.profile_tree.proofs.WayLemmas.{same_ways}
+use Rattle.profile_tree.specs.Numbers.{Numbers, numbers_said}
+use Rattle.profile_tree.specs.Said.{way_at}
 use Rattle.line_lift.specs.Largest.{IsLargest}
-use Rattle.line_lift.specs.Stated.{held_first, held_in, kept_by, kept_in, lifted_counts}
+use Rattle.line_lift.specs.Stated.{AreWithHeld}
 use Rattle.line_lift.proofs.AmongLemmas.{Among, all_among, among_map, among_map_back, among_range}
-use Rattle.line_lift.proofs.HeldLemmas.{AreHeld, IsHeldAs, held_as}
+use Rattle.line_lift.proofs.HeldLemmas.{AreHeld, held_as, held_with, with_held}
 
 -- ---- sums over counts
 
@@ -40,66 +35,38 @@ counted_for w counts = sum_by (λ c. c.1) (filter (λ c. same_way w c.0) counts)
 counted_append : (w : Way) (xs ys : List (Way × ℕ)) → counted_for w (xs ++ ys) ≡ counted_for w xs + counted_for w ys
 counted_append w xs ys = ap (sum_by (λ c. c.1)) (filter-append (λ c. same_way w c.0) xs ys) ∙ sum_by-append (λ c. c.1) (filter (λ c. same_way w c.0) xs) (filter (λ c. same_way w c.0) ys)
 
-module _ (names : List (List ℕ)) (keys : List Key) (numbered : Given names keys [] []) (pairs : List (Way × ℕ)) (held : List (Option ℕ)) (are : AreHeld names keys pairs held) where
-  is_at : (id : ℕ) → id < length keys → IsHeldAs pairs (way_at names keys id) (get_or held id None)
-  is_at id low = held_as pairs (way_at names keys id) (get_or held id None) (are.each id low)
+-- the counts of one way, of those that pass a test
+counted_passing : (w : Way) (test : Way → Bool) (xs : List (Way × ℕ)) → counted_for w (filter (λ c. test c.0) xs) ≡ sum_by (λ c. cond (test c.0) (cond (same_way w c.0) c.1 0) 0) xs
+counted_passing w test xs =
+    sum_filter (λ c. c.1) (λ c. same_way w c.0) (filter (λ c. test c.0) xs)
+    ∙ sum_filter (λ c. cond (same_way w c.0) c.1 0) (λ c. test c.0) xs
 
-  abbrev told_count : KeyCount → Way × ℕ
-  told_count count = (way_at names keys count.key.0, count.times)
+none_passing : (w : Way) (test : Way → Bool) (xs : List (Way × ℕ)) → test w ≡ false → counted_for w (filter (λ c. test c.0) xs) ≡ 0
+none_passing w test xs fails =
+    counted_passing w test xs
+    ∙ sum_none (λ c. cond (test c.0) (cond (same_way w c.0) c.1 0) 0) xs (all_among (λ c. cond (test c.0) (cond (same_way w c.0) c.1 0) 0 ≡ 0) xs (λ c h. by c (same_way w c.0) (test c.0) (λ e. sym (ap test (same_ways w c.0 e)) ∙ fails)))
+  where
+    by : (c : Way × ℕ) (s t : Bool) → (s ≡ true → t ≡ false) → cond t (cond s c.1 0) 0 ≡ 0
+    by c true true lacks = absurd (true≢false (lacks refl))
+    by c true false lacks = refl
+    by c false true lacks = refl
+    by c false false lacks = refl
 
-  -- ---- keys that are not held
+all_passing : (w : Way) (test : Way → Bool) (xs : List (Way × ℕ)) → test w ≡ true → counted_for w (filter (λ c. test c.0) xs) ≡ counted_for w xs
+all_passing w test xs passes =
+    counted_passing w test xs
+    ∙ sum_same (λ c. cond (test c.0) (cond (same_way w c.0) c.1 0) 0) (λ c. cond (same_way w c.0) c.1 0) xs
+    (all_among (λ c. cond (test c.0) (cond (same_way w c.0) c.1 0) 0 ≡ cond (same_way w c.0) c.1 0) xs (λ c h. by c (same_way w c.0) (test c.0) (λ e. sym (ap test (same_ways w c.0 e)) ∙ passes)))
+    ∙ sym (sum_filter (λ c. c.1) (λ c. same_way w c.0) xs)
+  where
+    by : (c : Way × ℕ) (s t : Bool) → (s ≡ true → t ≡ true) → cond t (cond s c.1 0) 0 ≡ cond s c.1 0
+    by c true true holds = refl
+    by c true false holds = absurd (true≢false (sym (holds refl)))
+    by c false true holds = refl
+    by c false false holds = refl
 
-  kept_by_what : (w : What) (times : ℕ) (rest : List Number) (line : ℕ) → IsGivenItem (length names) (length keys) (record { line = line; what = w; times = times })
-      → map told_count (kept_by held w times) ++ filter (λ it. not (is_held pairs it.0)) (profile_by rest).counts
-      ≡ filter (λ it. not (is_held pairs it.0)) (profile_by (record { line = line; what = what_told names keys w; times = times } ∷ rest)).counts
-  unfolding profile_by
-  kept_by_what (what.Head name) times rest line given = refl
-  kept_by_what (what.Count key) times rest line given = by (is_some (get_or held key.0 None)) (is_held pairs (way_at names keys key.0)) (is_at key.0 given).is
-    where
-      by : (b t : Bool) → t ≡ b
-          → map told_count (cond b [] (record { key = key; times = times } ∷ [])) ++ filter (λ it. not (is_held pairs it.0)) (profile_by rest).counts
-          ≡ cond (not t) ((way_at names keys key.0, times) ∷ filter (λ it. not (is_held pairs it.0)) (profile_by rest).counts) (filter (λ it. not (is_held pairs it.0)) (profile_by rest).counts)
-      by true true e = refl
-      by true false e = absurd (true≢false (sym e))
-      by false true e = absurd (true≢false e)
-      by false false e = refl
-  kept_by_what (what.Target key name) times rest line given = refl
-
-  kept_alike : (items : List Item) → AllByRecursion (IsGivenItem (length names) (length keys)) items
-      → map told_count (flat_map (kept_in held) items) ≡ filter (λ it. not (is_held pairs it.0)) (profile_by (map (number_told names keys) items)).counts
-  unfolding profile_by
-  kept_alike [] all = refl
-  kept_alike (item ∷ items) all =
-      map-append told_count (kept_in held item) (flat_map (kept_in held) items)
-      ∙ ap (λ ys. map told_count (kept_in held item) ++ ys) (kept_alike items all.1)
-      ∙ kept_by_what item.what item.times (map (number_told names keys) items) item.line all.0
-
-  -- ---- keys that are held
-
-  abbrev count_at : ℕ → ℕ
-  count_at id = unwrap_or (get_or held id None) 0
-
-  one_held : (w : Way) (id : ℕ) (o : Option ℕ) → counted_for w (map told_count (held_in (record { 0 = id }) o)) ≡ cond (same_way w (way_at names keys id)) (unwrap_or o 0) 0
-  one_held w id None = by (same_way w (way_at names keys id))
-    where
-      by : (b : Bool) → zero ≡ cond b zero zero
-      by true = refl
-      by false = refl
-  one_held w id (Some n) = by (same_way w (way_at names keys id))
-    where
-      by : (b : Bool) → sum_by (λ (c : Way × ℕ). c.1) (cond b ((way_at names keys id, n) ∷ []) []) ≡ cond b n 0
-      by true = zero-add n
-      by false = refl
-
-  held_sum : (w : Way) (a n : ℕ) → counted_for w (map told_count (flat_map (λ id. held_in (record { 0 = id }) (get_or held id None)) (range_with_len a n)))
-      ≡ sum_by (λ id. cond (same_way w (way_at names keys id)) (count_at id) 0) (range_with_len a n)
-  held_sum w a zero = refl
-  held_sum w a (suc n) =
-      ap (counted_for w) (map-append told_count (held_in (record { 0 = a }) (get_or held a None)) (flat_map (λ id. held_in (record { 0 = id }) (get_or held id None)) (range_with_len (a + 1) n)))
-      ∙ counted_append w (map told_count (held_in (record { 0 = a }) (get_or held a None))) (map told_count (flat_map (λ id. held_in (record { 0 = id }) (get_or held id None)) (range_with_len (a + 1) n)))
-      ∙ (λ i. one_held w a (get_or held a None) i + held_sum w (a + 1) n i)
-      ∙ sym (sum_by-cons (λ id. cond (same_way w (way_at names keys id)) (count_at id) 0) a (range_with_len (a + 1) n))
-
+module _ (names : List (List ℕ)) (keys : List Key) (numbered : Given names keys [] []) (pairs : List (Way × ℕ)) (held : List (Option ℕ)) (are : AreHeld names keys pairs held)
+    (old new : Numbers) (with_counts : AreWithHeld held old new) where
   abbrev cmp : Way → Way → Ordering
   cmp = way_cmp (λ name. 0)
 
@@ -109,59 +76,117 @@ module _ (names : List (List ℕ)) (keys : List Key) (numbered : Given names key
   apart : TellsApart cmp
   apart = ways_tell_apart (λ name. 0)
 
+  -- a way is among those that are held where it is held
+  among_held : (w : Way) → is_held pairs w ≡ true → Among w (held_ways pairs)
+  among_held w e =
+      let found = held_with pairs w e in
+      has_among cmp apart w (held_ways pairs)
+      ((ordered_is_in_order cmp apart ways).same w ∙ among_has cmp apart w ways (among_map (λ (it : Way × ℕ). it.0) (w, found.0) pairs found.1))
+
+  held_among : (w : Way) → Among w (held_ways pairs) → is_held pairs w ≡ true
+  held_among w h =
+      let pair = among_map_back (λ (it : Way × ℕ). it.0) w pairs (has_among cmp apart w ways (sym ((ordered_is_in_order cmp apart ways).same w) ∙ among_has cmp apart w (held_ways pairs) h)) in
+      with_held pairs w pair.0.1 (subst (λ v. Among (v, pair.0.1) pairs) (sym pair.2) pair.1)
+
   told_sum : (w : Way) → counted_for w (map (λ way. (way, held_count pairs way)) (held_ways pairs)) ≡ sum_by (part_of_way (held_count pairs) w) (held_ways pairs)
   told_sum w =
       sum_filter (λ c. c.1) (λ c. same_way w c.0) (map (λ way. (way, held_count pairs way)) (held_ways pairs))
       ∙ sum_map (λ c. cond (same_way w c.0) c.1 0) (λ way. (way, held_count pairs way)) (held_ways pairs)
 
-  -- the sum of the counts of one key
-  one_key : (id : ℕ) → id < length keys → sum_by (λ j. cond (same_way (way_at names keys id) (way_at names keys j)) (count_at j) 0) (range_with_len 0 (length held)) ≡ count_at id
-  one_key id low =
-      sum_same (λ j. cond (same_way (way_at names keys id) (way_at names keys j)) (count_at j) 0) (λ j. cond (j == id) (count_at j) 0) (range_with_len 0 (length held))
-      (all_among (λ j. cond (same_way (way_at names keys id) (way_at names keys j)) (count_at j) 0 ≡ cond (j == id) (count_at j) 0) (range_with_len 0 (length held))
-      (λ j h. let bound = among_range 0 (length held) j h in ap (λ b. cond b (count_at j) 0) (ways_apart names keys [] [] [] numbered id j low (omega (arith, bound.1, are.len)))))
-      ∙ one_of_range count_at id 0 (length held) (omega arith) (omega (arith, low, are.len))
+  -- ---- a way that is held
 
-  held_here : (w : Way) → has cmp w (held_ways pairs) ≡ true → sum_by (λ id. cond (same_way w (way_at names keys id)) (count_at id) 0) (range_with_len 0 (length held)) ≡ sum_by (part_of_way (held_count pairs) w) (held_ways pairs)
+  held_here : (w : Way) → is_held pairs w ≡ true → count_of (numbers_said names keys new) w ≡ held_count pairs w
   held_here w e =
-      let in_order = ordered_is_in_order cmp apart ways in
-      let among : Among w ways = has_among cmp apart w ways (sym (in_order.same w) ∙ e) in
-      let pair = among_map_back (λ (it : Way × ℕ). it.0) w pairs among in
-      let key = are.known w pair.0.1 (subst (λ v. Among (v, pair.0.1) pairs) (sym pair.2) pair.1) in
-      subst (λ v. sum_by (λ id. cond (same_way v (way_at names keys id)) (count_at id) 0) (range_with_len 0 (length held)) ≡ held_count pairs v) key.2
-      (one_key key.0 key.1 ∙ sym (is_at key.0 key.1).most)
-      ∙ sym (one_way_among cmp apart (held_count pairs) w (held_ways pairs) in_order.ascending (has_among cmp apart w (held_ways pairs) e))
-
-  not_held_here : (w : Way) → has cmp w (held_ways pairs) ≡ false → sum_by (λ id. cond (same_way w (way_at names keys id)) (count_at id) 0) (range_with_len 0 (length held)) ≡ sum_by (part_of_way (held_count pairs) w) (held_ways pairs)
-  not_held_here w lacks =
-      sum_none (λ id. cond (same_way w (way_at names keys id)) (count_at id) 0) (range_with_len 0 (length held))
-      (all_among (λ id. cond (same_way w (way_at names keys id)) (count_at id) 0 ≡ 0) (range_with_len 0 (length held))
-      (λ id h. let bound = among_range 0 (length held) id h in bool_cases (same_way w (way_at names keys id))
-      (λ e. ap (λ b. cond b (count_at id) 0) e ∙ none id (omega (arith, bound.1, are.len)) (same_ways w (way_at names keys id) e))
-      (λ e. ap (λ b. cond b (count_at id) 0) e)))
-      ∙ sym (no_way_among (held_count pairs) w (held_ways pairs) (λ h. true≢false (sym (among_has cmp apart w (held_ways pairs) h) ∙ lacks)))
+      let found = held_with pairs w e in
+      let key = are.known w found.0 found.1 in
+      subst (λ v. count_of (numbers_said names keys new) v ≡ held_count pairs v) key.2
+      (count_is names keys new.counts [] [] numbered key.0 key.1 ∙ with_counts.each key.0
+      ∙ by key.0 (get_or held key.0 None) (are.each key.0 key.1) found.0 (subst (λ v. Among (v, found.0) pairs) (sym key.2) found.1))
     where
-      none : (id : ℕ) → id < length keys → w ≡ way_at names keys id → count_at id ≡ 0
-      none id low same = by (get_or held id None) (are.each id low)
-        where
-          by : (o : Option ℕ) → IsLargest (λ n. Among (way_at names keys id, n) pairs) o → unwrap_or o 0 ≡ 0
-          by None is = refl
-          by (Some n) is =
-              let among : Among w ways = subst (λ v. Among v ways) (sym same) (among_map (λ (it : Way × ℕ). it.0) (way_at names keys id, n) pairs is.attained) in
-              absurd (true≢false (sym (among_has cmp apart w ways among) ∙ sym ((ordered_is_in_order cmp apart ways).same w) ∙ lacks))
+      by : (id : ℕ) (o : Option ℕ) → IsLargest (λ n. Among (way_at names keys id, n) pairs) o → (n : ℕ) → Among (way_at names keys id, n) pairs → unwrap_or o (get_or old.counts id 0) ≡ held_count pairs (way_at names keys id)
+      by id None is n h = absurd (is n h)
+      by id (Some m) is n h = sym (held_as pairs (way_at names keys id) (Some m) is).most
 
-  held_alike : (w : Way) → counted_for w (map told_count (held_first held (length held))) ≡ counted_for w (map (λ way. (way, held_count pairs way)) (held_ways pairs))
-  held_alike w = held_sum w 0 (length held) ∙ bool_cases (has cmp w (held_ways pairs)) (held_here w) (not_held_here w) ∙ sym (told_sum w)
+  held_told : (w : Way) (xs : List (Way × ℕ)) → is_held pairs w ≡ true → counted_for w (map (λ way. (way, held_count pairs way)) (held_ways pairs) ++ filter (λ it. not (is_held pairs it.0)) xs) ≡ held_count pairs w
+  held_told w xs e =
+      counted_append w (map (λ way. (way, held_count pairs way)) (held_ways pairs)) (filter (λ it. not (is_held pairs it.0)) xs)
+      ∙ (λ i. (told_sum w ∙ one_way_among cmp apart (held_count pairs) w (held_ways pairs) (ordered_is_in_order cmp apart ways).ascending (among_held w e)) i
+      + none_passing w (λ v. not (is_held pairs v)) xs (ap not e) i)
+      ∙ add-zero (held_count pairs w)
 
-  -- The profile that is stated counts as the lifted one.
-  pub stated_alike : (items : List Item) → AllByRecursion (IsGivenItem (length names) (length keys)) items
-      → CountTheSame (stated names keys (lifted_counts held items) (filter_map call_in items) (filter_map head_in items)) (lifted pairs (profile_by (map (number_told names keys) items)))
-  stated_alike items given = record {
-    keys = λ w.
-        ap (counted_for w) (map-append told_count (held_first held (length held)) (flat_map (kept_in held) items))
-        ∙ counted_append w (map told_count (held_first held (length held))) (map told_count (flat_map (kept_in held) items))
-        ∙ (λ i. held_alike w i + counted_for w (kept_alike items given i))
-        ∙ sym (counted_append w (map (λ way. (way, held_count pairs way)) (held_ways pairs)) (filter (λ it. not (is_held pairs it.0)) (profile_by (map (number_told names keys) items)).counts));
-    targets = λ w name i. sum_by (λ c. c.2) (filter (λ c. same_way w c.0 && same_name name c.1) (stated_is_told names keys items i).calls);
-    heads = λ name i. sum_by (λ h. h.1) (filter (λ h. same_name name h.0) (stated_is_told names keys items i).heads);
+  -- ---- one that is not
+
+  other_here : (w : Way) → is_held pairs w ≡ false → count_of (numbers_said names keys new) w ≡ count_of (numbers_said names keys old) w
+  other_here w e =
+      summed new.counts
+      ∙ sum_same (λ id. cond (same_way w (way_at names keys id)) (get_or new.counts id 0) 0) (λ id. cond (same_way w (way_at names keys id)) (get_or old.counts id 0) 0) (range_with_len 0 (length keys))
+      (all_among (λ id. cond (same_way w (way_at names keys id)) (get_or new.counts id 0) 0 ≡ cond (same_way w (way_at names keys id)) (get_or old.counts id 0) 0) (range_with_len 0 (length keys))
+      (λ id h. let bound = among_range 0 (length keys) id h in bool_cases (same_way w (way_at names keys id))
+      (λ same. ap (λ n. cond (same_way w (way_at names keys id)) n 0)
+      (with_counts.each id ∙ by id (get_or held id None) (are.each id (omega (arith, bound.1))) (ap (is_held pairs) (sym (same_ways w (way_at names keys id) same)) ∙ e)))
+      (λ other. ap (λ b. cond b (get_or new.counts id 0) 0) other ∙ sym (ap (λ b. cond b (get_or old.counts id 0) 0) other))))
+      ∙ sym (summed old.counts)
+    where
+      summed : (counts : List ℕ) → count_of (numbers_said names keys (record { counts = counts; calls = []; heads = [] })) w ≡ sum_by (λ id. cond (same_way w (way_at names keys id)) (get_or counts id 0) 0) (range_with_len 0 (length keys))
+      summed counts =
+          sum_filter (λ c. c.1) (λ c. same_way w c.0) (map (λ id. (way_at names keys id, get_or counts id 0)) (range_with_len 0 (length keys)))
+          ∙ sum_map (λ c. cond (same_way w c.0) c.1 0) (λ id. (way_at names keys id, get_or counts id 0)) (range_with_len 0 (length keys))
+
+      by : (id : ℕ) (o : Option ℕ) → IsLargest (λ n. Among (way_at names keys id, n) pairs) o → is_held pairs (way_at names keys id) ≡ false → unwrap_or o (get_or old.counts id 0) ≡ get_or old.counts id 0
+      by id None is lacks = refl
+      by id (Some m) is lacks = absurd (true≢false (sym (with_held pairs (way_at names keys id) m is.attained) ∙ lacks))
+
+  other_told : (w : Way) (xs : List (Way × ℕ)) → is_held pairs w ≡ false → counted_for w (map (λ way. (way, held_count pairs way)) (held_ways pairs) ++ filter (λ it. not (is_held pairs it.0)) xs) ≡ counted_for w xs
+  other_told w xs e =
+      counted_append w (map (λ way. (way, held_count pairs way)) (held_ways pairs)) (filter (λ it. not (is_held pairs it.0)) xs)
+      ∙ (λ i. (told_sum w ∙ no_way_among (held_count pairs) w (held_ways pairs) (λ h. true≢false (sym (held_among w h) ∙ e))) i
+      + all_passing w (λ v. not (is_held pairs v)) xs (ap not e) i)
+      ∙ zero-add (counted_for w xs)
+
+  -- So they count what is lifted of a profile that counts what they did before.
+  pub held_alike : (p : Profile) → CountTheSame (numbers_said names keys old) p → CountTheSame (numbers_said names keys new) (lifted pairs p)
+  held_alike p same = record {
+    keys = λ w. bool_cases (is_held pairs w)
+        (λ e. held_here w e ∙ sym (held_told w p.counts e))
+        (λ e. other_here w e ∙ same.keys w ∙ sym (other_told w p.counts e));
+    targets = λ w name. (λ i. target_of (numbers_said names keys (record { counts = []; calls = with_counts.calls i; heads = [] })) w name) ∙ same.targets w name;
+    heads = λ name. (λ i. head_of (numbers_said names keys (record { counts = []; calls = []; heads = with_counts.heads i })) name) ∙ same.heads name;
   }
+
+-- ---- loops
+
+-- one key more
+pub held_one : (held : List (Option ℕ)) (n count : ℕ) (d : Option ℕ) (start old new : Numbers) → n < length held → length held ≡ length start.counts
+    → count ≡ unwrap_or (get_or held n d) (get_or old.counts n 0) → new.counts ≡ set old.counts n count → new.calls ≡ old.calls → new.heads ≡ old.heads
+    → AreWithHeld (take n held) start old → AreWithHeld (take (n + 1) held) start new
+held_one held n count d start old new low len is counts calls heads far = record {
+  calls = calls ∙ far.calls;
+  heads = heads ∙ far.heads;
+  len = ap length counts ∙ length-set old.counts n count ∙ far.len;
+  each = λ id. ap (λ xs. get_or xs id 0) counts ∙ bool_cases (id == n) (here id) (other id);
+}
+  where
+    taken : length (take n held) ≡ n
+    taken = length-take-le n held (omega (arith, low))
+
+    one_taken : length (take (n + 1) held) ≡ n + 1
+    one_taken = length-take-le (n + 1) held (omega (arith, low))
+
+    at_n : get_or (set old.counts n count) n 0 ≡ unwrap_or (get_or (take (n + 1) held) n None) (get_or start.counts n 0)
+    at_n =
+        get_or-set_same old.counts n count 0 (omega (arith, low, len, far.len)) ∙ is
+        ∙ (λ i. unwrap_or ((get_or_default held n d None low ∙ sym (get_or-take (n + 1) held n None (omega arith))) i)
+        ((far.each n ∙ ap (λ o. unwrap_or o (get_or start.counts n 0)) (get_or_past (take n held) n None (omega (arith, taken)))) i))
+
+    here : (id : ℕ) → (id == n) ≡ true → get_or (set old.counts n count) id 0 ≡ unwrap_or (get_or (take (n + 1) held) id None) (get_or start.counts id 0)
+    here id e = subst (λ k. get_or (set old.counts n count) k 0 ≡ unwrap_or (get_or (take (n + 1) held) k None) (get_or start.counts k 0)) (sym (nat_same id n e)) at_n
+
+    as_before : (id : ℕ) → (id == n) ≡ false → get_or (take n held) id None ≡ get_or (take (n + 1) held) id None
+    as_before id e = bool_cases (nat_lt id n)
+        (λ below. let less : id < n = grind (arith, nat_tests) in get_or-take n held id None less ∙ sym (get_or-take (n + 1) held id None (omega (arith, less))))
+        (λ above. let more : n < id = grind (arith, nat_tests) in get_or_past (take n held) id None (omega (arith, taken, more)) ∙ sym (get_or_past (take (n + 1) held) id None (omega (arith, one_taken, more))))
+
+    other : (id : ℕ) → (id == n) ≡ false → get_or (set old.counts n count) id 0 ≡ unwrap_or (get_or (take (n + 1) held) id None) (get_or start.counts id 0)
+    other id e =
+        get_or-set_other old.counts n id count 0 (grind (arith, nat_tests)) ∙ far.each id
+        ∙ ap (λ o. unwrap_or o (get_or start.counts id 0)) (as_before id e)

@@ -7,8 +7,6 @@ pub mod KeyLemmas
 pub mod LargestLemmas
 pub mod LawLemmas
 pub mod LiftLemmas
-pub mod OnceLemmas
 pub mod OwnerLemmas
 pub mod PartLemmas
 pub mod SpansLemmas
-pub mod StatedLemmas

@@ -9,11 +9,11 @@ ghost use Rattle.line_lift.specs.Lift.{lifted_by, repaired};
 
 use crate::held::held_counts;
 use crate::spans::{largest_first, spans_of};
-use crate::stated::lifted_counts;
+use crate::stated::hold;
 use cfg_text::Fun;
 use key_types::{Keys, Names, Seg};
-use profile_text::{Profile, calls_of, heads_of};
-use profile_tree::{Tree, from_counts};
+use profile_text::{Profile, numbers_of};
+use profile_tree::{Tree, tree_of};
 use refusal::NoMemory;
 use repair_text::Repair;
 use std::alloc::Global;
@@ -51,8 +51,7 @@ pub fn lift(
     let items = part.items.as_slice();
     let spans = largest_first(alloc, spans_of(alloc, funs, repairs)?)?;
     let held = held_counts(alloc, &spans, segments, keys.len())?;
-    let counts = lifted_counts(alloc, &held, items)?;
-    let calls = calls_of(alloc, items)?;
-    let heads = heads_of(alloc, items)?;
-    from_counts(alloc, &counts, &calls, &heads, keys, names)
+    let mut numbers = numbers_of(alloc, items, keys)?;
+    hold(&mut numbers, &held);
+    tree_of(alloc, numbers, &[], keys, names)
 }

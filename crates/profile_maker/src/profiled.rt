@@ -42,7 +42,7 @@ pub struct Profiled<'a> {
 
 /// What was counted of a branch text, in rows.
 #[derive(Drop)]
-struct Rows {
+struct CountedRows {
     branches: Vec<Pair>,
     ranges: Vec<Pair>,
     /// How many branches were sampled, all in all.
@@ -73,7 +73,7 @@ pub fn profile_of<'a>(
     ensures few { IfOk result (λ made. total_in made.branches.items ≤ max_branches) }
 {
     let units = units_of(&binary);
-    let Rows {
+    let CountedRows {
         branches,
         ranges,
         total,
@@ -101,7 +101,7 @@ pub fn profile_with_cold<'a>(
     ensures names { IfOk result (λ made. All (IsOf made.placed.names) made.profile.lines) }
 {
     let units = units_of(&binary);
-    let Rows {
+    let CountedRows {
         branches,
         ranges,
         total,
@@ -133,7 +133,7 @@ fn units_of(binary: &Binary<'_>) -> Units
 }
 
 /// The rows of branches, by source and then by target, and of sampled ranges.
-fn rows_of(alloc: Global, counts: Counts) -> Result<Rows, NoMemory>
+fn rows_of(alloc: Global, counts: Counts) -> Result<CountedRows, NoMemory>
     ensures told { IfOk result (λ rows. (loading : Option LoadMap) (lines : List (List ℕ))
         → counts.with_ranges ≡ true → Tells loading lines counts
         → Tallies (branches_by loading lines) rows.branches.items
@@ -146,7 +146,7 @@ fn rows_of(alloc: Global, counts: Counts) -> Result<Rows, NoMemory>
     let total = counts.total();
     let ranges = Vec::from_slice(alloc, counts.ranges())?;
     let branches = counts.into_sorted_branches()?;
-    Ok(Rows {
+    Ok(CountedRows {
         branches,
         ranges,
         total,

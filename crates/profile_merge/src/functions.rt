@@ -4,7 +4,7 @@ ghost use Rattle.profile_text.specs.Numbers.{HasKey};
 ghost use Rattle.profile_merge.specs.Functions.{CountsRoot, HaveKeys, different, roots};
 ghost use Rattle.profile_merge.specs.Row.{IsWithSum};
 
-use crate::row::Row;
+use crate::row::SumRow;
 use key_types::{Keys, NameId};
 use profile_text::{Item, root_of};
 use refusal::NoMemory;
@@ -16,7 +16,7 @@ pub(crate) fn functions_of(alloc: Global, items: &[Item], keys: &Keys) -> Result
     requires { HaveKeys (length keys.now) items.now }
     ensures { IfOk result (λ functions. functions ≡ different (roots keys.now items.now)) }
 {
-    let mut seen = Row::new(alloc)?;
+    let mut seen = SumRow::new(alloc)?;
     let mut functions = 0;
     for item in items {
         functions += count_root(&mut seen, item, keys)?;
@@ -25,7 +25,7 @@ pub(crate) fn functions_of(alloc: Global, items: &[Item], keys: &Keys) -> Result
 }
 
 /// 1 for the first number above 0 of a function, which is marked then, and else 0.
-fn count_root(seen: &mut Row, item: &Item, keys: &Keys) -> Result<usize, NoMemory>
+fn count_root(seen: &mut SumRow, item: &Item, keys: &Keys) -> Result<usize, NoMemory>
     requires { HasKey (length keys.now) item.now.what }
     ensures { IfOk result (λ more. CountsRoot keys.now item.now more seen.old seen.new) }
 {
@@ -37,7 +37,7 @@ fn count_root(seen: &mut Row, item: &Item, keys: &Keys) -> Result<usize, NoMemor
 }
 
 /// Marks a function, and answers whether it had no mark.
-fn is_first(seen: &mut Row, function: NameId) -> Result<bool, NoMemory>
+fn is_first(seen: &mut SumRow, function: NameId) -> Result<bool, NoMemory>
     ensures first { IfOk result (λ first. first ≡ (slice_index seen.old function.0 == 0)) }
     ensures marked { OnOk result (IsWithSum seen.old function.0 1 seen.new) }
 {

@@ -9,12 +9,12 @@ use std::marker::Model;
 
 /// A sum for each number, and 0 for those that have none yet.
 #[derive(Debug, Drop)]
-pub(crate) struct Row {
+pub(crate) struct SumRow {
     sums: Vec<u64>,
 }
 
 // Clauses see the list of the sums, behind which all are 0.
-impl Model for Row {
+impl Model for SumRow {
     ghost use Rattle.std.specs.Prelude.{ℕ, List};
 
     ghost Value = { List ℕ };
@@ -22,12 +22,12 @@ impl Model for Row {
     ghost view = { λ a. a.sums.items };
 }
 
-impl Row {
+impl SumRow {
     /// All sums are 0, and there is room for one.
-    pub(crate) fn new(alloc: Global) -> Result<Row, AllocError>
+    pub(crate) fn new(alloc: Global) -> Result<SumRow, AllocError>
         ensures { IfOk result (λ row. row ≡ []) }
     {
-        Ok(Row {
+        Ok(SumRow {
             sums: Vec::with_capacity(alloc, 1)?,
         })
     }

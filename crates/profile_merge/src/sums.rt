@@ -9,11 +9,11 @@ ghost use Rattle.profile_tree.specs.Told.{IsOf, told};
 ghost use Rattle.profile_merge.specs.declared.sums.MergeStop.TheVariants.{NoMemory as no_memory};
 
 use crate::called::Called;
-use crate::row::Row;
+use crate::row::SumRow;
 use crate::stated::heads_of;
 use key_types::{Keys, Names};
 use profile_text::{Item, Profile, What};
-use profile_tree::{Tree, from_all_counts};
+use profile_tree::{Numbers, Tree, tree_of};
 use refusal::NoMemory;
 use std::alloc::Global;
 use std::marker::Model;
@@ -40,8 +40,8 @@ impl From<NoMemory> for MergeStop {
 /// each target of a key, and 0 for those of which nothing was told.
 #[derive(Drop)]
 pub struct Sums {
-    heads: Row,
-    counts: Row,
+    heads: SumRow,
+    counts: SumRow,
     called: Called,
 }
 
@@ -64,8 +64,8 @@ impl Sums {
             (sums.heads ≡ []) × (sums.counts ≡ []) × (sums.called ≡ [])) }
     {
         Ok(Sums {
-            heads: Row::new(alloc)?,
-            counts: Row::new(alloc)?,
+            heads: SumRow::new(alloc)?,
+            counts: SumRow::new(alloc)?,
             called: Called::new(alloc)?,
         })
     }
@@ -122,7 +122,13 @@ impl Sums {
         let counts = self.counts.padded(alloc, keys.len())?;
         let heads = heads_of(alloc, &self.heads)?;
         let calls = self.called.calls(alloc)?;
-        from_all_counts(alloc, counts, &calls, &heads, keys, names)
+        tree_of(
+            alloc,
+            Numbers::each_once(counts, calls, heads),
+            &[],
+            keys,
+            names,
+        )
     }
 
     /// The line of the first of these numbers that is too large.

@@ -24,9 +24,9 @@ use Rattle.profile_text.proofs.NamedLemmas.{names_more, keys_named, opening_name
 use Rattle.profile_text.specs.Draft.{Kept, AreGiven, AreGrown, AreSeen, IsPath, IsRead, TellNumbers, AreOld, AreTargetsPut, PutsTargets, JudgesLine, names_of, room_of, target_number}
 use Rattle.profile_text.specs.Path.{IsKeyAt}
 use Rattle.profile_text.specs.Stamps.{IsStamped}
-use Rattle.profile_text.specs.declared.draft.Draft.{Draft}
-use Rattle.profile_text.specs.declared.draft.DraftStop.{DraftStop}
-use Rattle.profile_text.specs.declared.draft.DraftStop.TheVariants.{Refused, NoMemory}
+use Rattle.profile_text.specs.declared.draft.ProfileDraft.{ProfileDraft}
+use Rattle.profile_text.specs.declared.draft.ProfileDraftStop.{ProfileDraftStop}
+use Rattle.profile_text.specs.declared.draft.ProfileDraftStop.TheVariants.{Refused, NoMemory}
 use Rattle.profile_text.specs.declared.item.Item.{Item}
 use Rattle.profile_text.specs.declared.item.What.TheVariants.{Count}
 use Rattle.profile_text.specs.declared.said.Location.{Location}
@@ -52,7 +52,7 @@ body_way names last path before depth location key n targets is below at kept =
     ∙ map-append (named last) (take depth path) (at_line location.offset location.disc ∷ [])
     ∙ ap (λ way. way ++ to_body location.offset location.disc ∷ []) (sym (is.above last kept depth below))
 
-pub body_again : (names : List (List ℕ)) (keys more_keys : List Key) (draft : Draft) (before : List Line) (numbers : List Number)
+pub body_again : (names : List (List ℕ)) (keys more_keys : List Key) (draft : ProfileDraft) (before : List Line) (numbers : List Number)
     (depth : ℕ) (location : Location) (key : Key) (id : KeyId) (n : ℕ) (targets : List (List ℕ × ℕ))
     → IsRead names keys draft before numbers → Stands (length draft.path) depth → IsKeyAt (take depth draft.path) location key
     → Kept keys more_keys → IsNumbered more_keys → slice_get more_keys id.0 ≡ Some key → true ≡ (slice_index draft.places id.0 == 1)
@@ -64,21 +64,21 @@ body_again names keys more_keys draft before numbers depth location key id n tar
     (seen_again names names is.ways before (steps_of key) (way_of before (body_line depth location.offset location.disc n targets)) is.are_ways (λ n x known. known)
     (body_way names names draft.path before depth location key n targets is.path free.below at (λ n x known. known)) one)
 
-pub body_twice : (names : List (List ℕ)) (keys : List Key) (draft : Draft) (before : List Line) (numbers : List Number)
+pub body_twice : (names : List (List ℕ)) (keys : List Key) (draft : ProfileDraft) (before : List Line) (numbers : List Number)
     (depth : ℕ) (location : Location) (n : ℕ) (targets : List (List ℕ × ℕ))
     → IsRead names keys draft before numbers → Stands (length draft.path) depth → has_twice (names_of targets) ≡ true
     → cause_of before (body_line depth location.offset location.disc n targets) ≡ Some KeyTwice
 body_twice names keys draft before numbers depth location n targets is free twice =
     cause_target before (body_line depth location.offset location.disc n targets) (length draft.path) (is.path.stands depth) free twice
 
-pub old_stamps : (names : List (List ℕ)) (keys : List Key) (draft : Draft) (before : List Line) (numbers : List Number) (mid : List Item) (item : Item)
+pub old_stamps : (names : List (List ℕ)) (keys : List Key) (draft : ProfileDraft) (before : List Line) (numbers : List Number) (mid : List Item) (item : Item)
     → IsRead names keys draft before numbers → mid ≡ draft.items.items ++ item ∷ [] → AreOld draft.called (length mid) (length names)
 old_stamps names keys draft before numbers mid item is mid_is = record {
   below = λ n. omega (arith, is.stamps n, ap length mid_is, length_push draft.items.items item);
   few = is.called;
 }
 
-pub body_read : (names more : List (List ℕ)) (keys more_keys : List Key) (draft after : Draft) (before : List Line) (numbers : List Number)
+pub body_read : (names more : List (List ℕ)) (keys more_keys : List Key) (draft after : ProfileDraft) (before : List Line) (numbers : List Number)
     (depth : ℕ) (location : Location) (key : Key) (id : KeyId) (at n : ℕ) (targets : List (List ℕ × ℕ)) (mid : List Item)
     → IsRead names keys draft before numbers → Stands (length draft.path) depth → IsKeyAt (take depth draft.path) location key → IsNumbered names
     → Adds keys more_keys key → length more_keys ≤ length keys + 1 → IsNumbered more_keys → slice_get more_keys id.0 ≡ Some key → false ≡ (slice_index draft.places id.0 == 1)
@@ -149,7 +149,7 @@ body_read names more keys more_keys draft after before numbers depth location ke
         is.told (λ n x known. known) (omega arith) kept (kept_grows keys more_keys kept) (slice_get_within more_keys id.0 key there)
         (λ last last_keys behind keys_behind. ap (λ way. record { line = at; what = count way; times = n }) (key_way last last_keys behind keys_behind)))
 
-pub judged_by_targets : (cause : Option Kind) (names : List (List ℕ)) (items : List Item) (at : ℕ) (key : KeyId) (targets : List (List ℕ × ℕ)) (result : Result (Unit {0}) DraftStop)
+pub judged_by_targets : (cause : Option Kind) (names : List (List ℕ)) (items : List Item) (at : ℕ) (key : KeyId) (targets : List (List ℕ × ℕ)) (result : Result (Unit {0}) ProfileDraftStop)
     (more : List (List ℕ)) (stamps : List ℕ) (after : List Item) (P : Type 0)
     → PutsTargets names items at key targets result more stamps after
     → (has_twice (names_of targets) ≡ false → AreTargetsPut names items at key targets more stamps after → (cause ≡ None) × P)

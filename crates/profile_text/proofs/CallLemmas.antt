@@ -20,7 +20,7 @@ use Rattle.profile_text.proofs.SeenLemmas.{ways_more, seen_again, seen_first, se
 use Rattle.profile_text.proofs.ToldLemmas.{told_grow}
 use Rattle.profile_text.proofs.NamedLemmas.{names_more}
 use Rattle.profile_text.specs.Draft.{Kept, AreGiven, AreGrown, IsPath, IsRead, IsOpened, room_of}
-use Rattle.profile_text.specs.declared.draft.Draft.{Draft}
+use Rattle.profile_text.specs.declared.draft.ProfileDraft.{ProfileDraft}
 use Rattle.profile_text.specs.declared.said.Location.{Location}
 
 call_way : (names more last : List (List ℕ)) (path : List NumberedStep) (before : List Line) (depth : ℕ) (location : Location) (id : NameId) (name : List ℕ) (n : ℕ)
@@ -31,7 +31,7 @@ call_way names more last path before depth location id name n is below kept ther
     ∙ ap (λ called. map (named last) (take depth path) ++ to_call location.offset location.disc called ∷ []) (name_kept more last id.0 name behind there)
     ∙ ap (λ way. way ++ to_call location.offset location.disc name ∷ []) (sym (is.above last (kept_on names more last kept behind) depth below))
 
-pub call_again : (names more : List (List ℕ)) (keys : List Key) (draft : Draft) (before : List Line) (numbers : List Number)
+pub call_again : (names more : List (List ℕ)) (keys : List Key) (draft : ProfileDraft) (before : List Line) (numbers : List Number)
     (depth : ℕ) (location : Location) (id : NameId) (name : List ℕ) (n : ℕ) (opened : List Key)
     → IsRead names keys draft before numbers → Stands (length draft.path) depth → Kept names more → slice_get more id.0 ≡ Some name
     → IsOpened (take depth draft.path ++ at_call location.offset location.disc id.0 ∷ []) draft.opened false opened
@@ -42,7 +42,7 @@ call_again names more keys draft before numbers depth location id name n opened 
     (call_way names more more draft.path before depth location id name n is.path free.below kept there (λ n x known. known))
     (one_of_before keys is.ways draft.opened opened draft.places (take depth draft.path ++ at_call location.offset location.disc id.0 ∷ []) is.seen old))
 
-pub call_read : (names more : List (List ℕ)) (keys : List Key) (draft after : Draft) (before : List Line) (numbers : List Number)
+pub call_read : (names more : List (List ℕ)) (keys : List Key) (draft after : ProfileDraft) (before : List Line) (numbers : List Number)
     (depth : ℕ) (location : Location) (id : NameId) (name : List ℕ) (at n : ℕ)
     → IsRead names keys draft before numbers → Stands (length draft.path) depth → Kept names more → length more ≤ length names + 1 → IsNumbered more → slice_get more id.0 ≡ Some name
     → IsOpened (take depth draft.path ++ at_call location.offset location.disc id.0 ∷ []) draft.opened true after.opened

@@ -20,7 +20,7 @@ use Rattle.profile_text.proofs.ToldLemmas.{told_more}
 use Rattle.profile_text.proofs.NamedLemmas.{names_more}
 use Rattle.profile_text.specs.Draft.{Kept, IsOneOf, AreSeen, AreGrown, IsRead, IsOpened, room_of}
 use Rattle.profile_text.specs.Path.{opening}
-use Rattle.profile_text.specs.declared.draft.Draft.{Draft}
+use Rattle.profile_text.specs.declared.draft.ProfileDraft.{ProfileDraft}
 use Rattle.profile_text.specs.declared.item.What.TheVariants.{Head}
 
 -- the path of a line that was opened before
@@ -38,25 +38,25 @@ none_before keys ways opened more places path seen is one =
     opened_fresh path opened more is ((seen.are_opened is.key is.offset is.disc).1 at)
 
 -- nothing stands above a function
-above_none : (names more : List (List ℕ)) (keys : List Key) (draft : Draft) (before : List Line) (numbers : List Number) → IsRead names keys draft before numbers
+above_none : (names more : List (List ℕ)) (keys : List Key) (draft : ProfileDraft) (before : List Line) (numbers : List Number) → IsRead names keys draft before numbers
     → Kept names more → way_above before 0 ≡ []
 above_none names more keys draft before numbers is kept = is.path.above more kept 0 (omega arith)
 
-function_way : (names more last : List (List ℕ)) (keys : List Key) (draft : Draft) (before : List Line) (numbers : List Number) (id : ℕ) (name : List ℕ) (total n : ℕ)
+function_way : (names more last : List (List ℕ)) (keys : List Key) (draft : ProfileDraft) (before : List Line) (numbers : List Number) (id : ℕ) (name : List ℕ) (total n : ℕ)
     → IsRead names keys draft before numbers → Kept names more → slice_get more id ≡ Some name → Kept more last
     → map (named last) (at_function id ∷ []) ≡ way_of before (function_line name total n)
 function_way names more last keys draft before numbers id name total n is kept at behind =
     ap (λ m. to_function m ∷ []) (name_kept more last id name behind at)
     ∙ sym (ap (λ way. way ++ to_function name ∷ []) (above_none names more keys draft before numbers is kept))
 
-can_begin : (names : List (List ℕ)) (keys : List Key) (draft : Draft) (before : List Line) (numbers : List Number) → IsRead names keys draft before numbers
+can_begin : (names : List (List ℕ)) (keys : List Key) (draft : ProfileDraft) (before : List Line) (numbers : List Number) → IsRead names keys draft before numbers
     → can_stand before 0 ≡ nat_le 0 (length draft.path)
 can_begin names keys draft before numbers is = is.path.stands 0
 
 free : (lines : ℕ) → Stands lines 0
 free lines = record { shallow = omega arith; below = omega arith }
 
-pub function_again : (names more : List (List ℕ)) (keys : List Key) (draft : Draft) (before : List Line) (numbers : List Number) (id : NameId) (name : List ℕ) (total n : ℕ)
+pub function_again : (names more : List (List ℕ)) (keys : List Key) (draft : ProfileDraft) (before : List Line) (numbers : List Number) (id : NameId) (name : List ℕ) (total n : ℕ)
     (opened : List Key) → IsRead names keys draft before numbers → Kept names more → slice_get more id.0 ≡ Some name
     → IsOpened (at_function id.0 ∷ []) draft.opened false opened → cause_of before (function_line name total n) ≡ Some KeyTwice
 function_again names more keys draft before numbers id name total n opened is kept at old =
@@ -65,7 +65,7 @@ function_again names more keys draft before numbers id name total n opened is ke
     (function_way names more more keys draft before numbers id.0 name total n is kept at (λ n x there. there))
     (one_of_before keys is.ways draft.opened opened draft.places (at_function id.0 ∷ []) is.seen old))
 
-pub function_read : (names more : List (List ℕ)) (keys : List Key) (draft after : Draft) (before : List Line) (numbers : List Number) (id : NameId) (name : List ℕ) (at total n : ℕ)
+pub function_read : (names more : List (List ℕ)) (keys : List Key) (draft after : ProfileDraft) (before : List Line) (numbers : List Number) (id : NameId) (name : List ℕ) (at total n : ℕ)
     → IsRead names keys draft before numbers → Kept names more → length names ≤ length more → length more ≤ length names + 1 → IsNumbered more → slice_get more id.0 ≡ Some name
     → IsOpened (at_function id.0 ∷ []) draft.opened true after.opened
     → after.path ≡ at_function id.0 ∷ [] → after.places ≡ draft.places → after.called ≡ draft.called

@@ -9,11 +9,11 @@ use Rattle.profile_model.specs.Profile.{Line}
 use Rattle.profile_model.specs.Reading.{line_of}
 use Rattle.profile_model.specs.Spelled.{numbers_of_line}
 use Rattle.profile_text.specs.Draft.{AreGrown, IsRead, JudgesLine, TakesIn, TakesLine, room_of}
-use Rattle.profile_text.specs.declared.draft.Draft.{Draft}
-use Rattle.profile_text.specs.declared.draft.DraftStop.{DraftStop}
-use Rattle.profile_text.specs.declared.draft.DraftStop.TheVariants.{Refused, NoMemory}
+use Rattle.profile_text.specs.declared.draft.ProfileDraft.{ProfileDraft}
+use Rattle.profile_text.specs.declared.draft.ProfileDraftStop.{ProfileDraftStop}
+use Rattle.profile_text.specs.declared.draft.ProfileDraftStop.TheVariants.{Refused, NoMemory}
 
-wider : (cause : Option Kind) (result : Result (Unit {0}) DraftStop) (P : Type 0) (room size : ℕ) (names more : List (List ℕ)) (keys more_keys opened more_opened : List Key)
+wider : (cause : Option Kind) (result : Result (Unit {0}) ProfileDraftStop) (P : Type 0) (room size : ℕ) (names more : List (List ℕ)) (keys more_keys opened more_opened : List Key)
     → room ≤ size → JudgesLine cause result (P × AreGrown room names keys opened more more_keys more_opened)
     → JudgesLine cause result (P × AreGrown size names keys opened more more_keys more_opened)
 wider cause (Ok done) P room size names more keys more_keys opened more_opened le is = (
@@ -32,7 +32,7 @@ wider cause (Ok done) P room size names more keys more_keys opened more_opened l
 wider cause (Err (Refused kind)) P room size names more keys more_keys opened more_opened le is = is
 wider cause (Err NoMemory) P room size names more keys more_keys opened more_opened le is = tt
 
-pub taken : (names more : List (List ℕ)) (keys more_keys : List Key) (draft after : Draft) (line : TextLine) (result : Result (Unit {0}) DraftStop) (said : Line)
+pub taken : (names more : List (List ℕ)) (keys more_keys : List Key) (draft after : ProfileDraft) (line : TextLine) (result : Result (Unit {0}) ProfileDraftStop) (said : Line)
     → line_of line.bytes.now ≡ Some said → room_of said ≤ length line.bytes.now
     → TakesIn names keys draft line.number said result more more_keys after
     → TakesLine names keys draft line result more more_keys after

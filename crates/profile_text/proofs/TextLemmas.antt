@@ -23,7 +23,7 @@ use Rattle.profile_text.proofs.OpenLemmas.{kept_on, path_none}
 use Rattle.profile_text.proofs.SeenLemmas.{nothing_seen}
 use Rattle.profile_text.specs.Draft.{AreGrown, IsNew, IsRead, TellNumbers}
 use Rattle.profile_text.specs.Text.{Whole, whole_of, bytes_of, IsLeft, GoesOn, TellText}
-use Rattle.profile_text.specs.declared.draft.Draft.{Draft}
+use Rattle.profile_text.specs.declared.draft.ProfileDraft.{ProfileDraft}
 use Rattle.profile_text.specs.declared.item.Item.{Item}
 use Rattle.profile_text.specs.declared.item.Profile.{Profile}
 
@@ -37,7 +37,7 @@ kept_first : (number : ℕ) (bytes : List ℕ) (rest : List (ℕ × List ℕ)) �
 unfolding kept_lines
 kept_first number bytes rest kept = rw kept
 
-pub left_passed : (file : ℕ) (whole : Whole) (names : List (List ℕ)) (keys : List Key) (draft : Draft) (line : TextLine) (rest : List (ℕ × List ℕ))
+pub left_passed : (file : ℕ) (whole : Whole) (names : List (List ℕ)) (keys : List Key) (draft : ProfileDraft) (line : TextLine) (rest : List (ℕ × List ℕ))
     → IsLeft file whole names keys draft ((line.number, line.bytes.now) ∷ rest) → is_passed line.bytes.now ≡ true → IsLeft file whole names keys draft rest
 left_passed file whole names keys draft line rest left passed = record {
   before = left.before;
@@ -62,7 +62,7 @@ spelled_first : (before : List Line) (number : ℕ) (bytes : List ℕ) (lines : 
 unfolding numbers_from
 spelled_first before number bytes lines = refl
 
-judged_line : (file : ℕ) (whole : Whole) (names : List (List ℕ)) (keys : List Key) (draft : Draft) (line : TextLine) (rest : List (ℕ × List ℕ))
+judged_line : (file : ℕ) (whole : Whole) (names : List (List ℕ)) (keys : List Key) (draft : ProfileDraft) (line : TextLine) (rest : List (ℕ × List ℕ))
     → (left : IsLeft file whole names keys draft ((line.number, line.bytes.now) ∷ rest)) → is_passed line.bytes.now ≡ false
     → whole.bad ≡ first_bad (item file line.number (cause_of_line left.before (line_of line.bytes.now)) ∷ items_from file (with_line left.before (line_of line.bytes.now)) (kept_lines rest))
 judged_line file whole names keys draft line rest left kept =
@@ -70,8 +70,8 @@ judged_line file whole names keys draft line rest left kept =
     ∙ ap (λ lines. first_bad (items_from file left.before lines)) (kept_first line.number line.bytes.now rest kept)
     ∙ ap first_bad (judged_first file left.before line.number line.bytes.now (kept_lines rest))
 
-pub left_refused : (file : ℕ) (whole : Whole) (names : List (List ℕ)) (keys : List Key) (draft : Draft) (line : TextLine) (rest : List (ℕ × List ℕ)) (kind : Kind)
-    (more : List (List ℕ)) (more_keys : List Key) (after : Draft)
+pub left_refused : (file : ℕ) (whole : Whole) (names : List (List ℕ)) (keys : List Key) (draft : ProfileDraft) (line : TextLine) (rest : List (ℕ × List ℕ)) (kind : Kind)
+    (more : List (List ℕ)) (more_keys : List Key) (after : ProfileDraft)
     → IsLeft file whole names keys draft ((line.number, line.bytes.now) ∷ rest) → is_passed line.bytes.now ≡ false
     → ((before : List Line) (numbers : List Number) → IsRead names keys draft before numbers → cause_of_line before (line_of line.bytes.now) ≡ Some kind)
     → whole.bad ≡ Some (record { file = file; at = line.number; kind = kind })
@@ -79,8 +79,8 @@ left_refused file whole names keys draft line rest kind more more_keys after lef
     judged_line file whole names keys draft line rest left kept
     ∙ ap (λ cause. first_bad (item file line.number cause ∷ items_from file (with_line left.before (line_of line.bytes.now)) (kept_lines rest))) (takes left.before left.numbers left.read)
 
-pub left_taken : (file : ℕ) (whole : Whole) (names : List (List ℕ)) (keys : List Key) (draft : Draft) (line : TextLine) (rest : List (ℕ × List ℕ))
-    (more : List (List ℕ)) (more_keys : List Key) (after : Draft)
+pub left_taken : (file : ℕ) (whole : Whole) (names : List (List ℕ)) (keys : List Key) (draft : ProfileDraft) (line : TextLine) (rest : List (ℕ × List ℕ))
+    (more : List (List ℕ)) (more_keys : List Key) (after : ProfileDraft)
     → IsLeft file whole names keys draft ((line.number, line.bytes.now) ∷ rest) → is_passed line.bytes.now ≡ false
     → ((before : List Line) (numbers : List Number) → IsRead names keys draft before numbers
     → (cause_of_line before (line_of line.bytes.now) ≡ None)
@@ -149,7 +149,7 @@ unfolding lines_of
 text_bytes text =
     omega (arith, numbered_bytes 1 (without_empty_end (slice_split is_line_feed text)), without_end_bytes (slice_split is_line_feed text), split_bytes text)
 
-nothing_read : (names : List (List ℕ)) (keys : List Key) (draft : Draft) → IsNew draft → All (HasNames (length names)) keys → IsRead names keys draft [] []
+nothing_read : (names : List (List ℕ)) (keys : List Key) (draft : ProfileDraft) → IsNew draft → All (HasNames (length names)) keys → IsRead names keys draft [] []
 unfolding ways_of
 nothing_read names keys draft new named = record {
   ways = [];
@@ -162,7 +162,7 @@ nothing_read names keys draft new named = record {
   told = rw new.items (record { given = tt; tell = λ more more_keys kept keys_kept. refl });
 }
 
-pub all_left : (file : ℕ) (text : List ℕ) (names : List (List ℕ)) (keys : List Key) (draft : Draft) (left : List (ℕ × List ℕ)) → IsNew draft → left ≡ enumerate_from 1 (lines_of text)
+pub all_left : (file : ℕ) (text : List ℕ) (names : List (List ℕ)) (keys : List Key) (draft : ProfileDraft) (left : List (ℕ × List ℕ)) → IsNew draft → left ≡ enumerate_from 1 (lines_of text)
     → All (HasNames (length names)) keys → IsLeft file (whole_of file text names keys) names keys draft left
 all_left file text names keys draft left new is named =
     subst (IsLeft file (whole_of file text names keys) names keys draft) (sym is)
@@ -179,7 +179,7 @@ all_left file text names keys draft left new is named =
       few_opened = omega (arith, text_bytes text, ap length new.opened);
     })
 
-pub none_left : (file : ℕ) (text : List ℕ) (names more : List (List ℕ)) (keys more_keys : List Key) (draft : Draft) (left : List (ℕ × List ℕ)) (items : List Item)
+pub none_left : (file : ℕ) (text : List ℕ) (names more : List (List ℕ)) (keys more_keys : List Key) (draft : ProfileDraft) (left : List (ℕ × List ℕ)) (items : List Item)
     → IsLeft file (whole_of file text names keys) more more_keys draft left → left ≡ [] → items ≡ draft.items.items
     → (first_bad_of_profile file text ≡ None) × TellText names keys text items more more_keys
 unfolding kept_lines items_from numbers_from
@@ -202,7 +202,7 @@ none_left file text names more keys more_keys draft left items is none are =
       },
     )
 
-pub stopped : (file : ℕ) (whole : Whole) (rest : List (ℕ × List ℕ)) (stop : Stop) (names : List (List ℕ)) (keys : List Key) (draft : Draft) (P : Profile → Type 0)
+pub stopped : (file : ℕ) (whole : Whole) (rest : List (ℕ × List ℕ)) (stop : Stop) (names : List (List ℕ)) (keys : List Key) (draft : ProfileDraft) (P : Profile → Type 0)
     → GoesOn file whole rest (Err stop) names keys draft → JudgesUnlessNoMemory whole.bad (Err stop) P
 stopped file whole rest (Refused place) names keys draft P goes = goes
 stopped file whole rest NoMemory names keys draft P goes = tt

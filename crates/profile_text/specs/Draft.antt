@@ -19,9 +19,9 @@ use Rattle.profile_tree.specs.Known.{HasNames}
 use Rattle.profile_tree.specs.Said.{way_at}
 use Rattle.profile_tree.specs.Steps.{NumberedStep, at_function, at_line, at_call, name_at, named, steps_of}
 use Rattle.profile_text.specs.Path.{opening}
-use Rattle.profile_text.specs.declared.draft.Draft.{Draft}
-use Rattle.profile_text.specs.declared.draft.DraftStop.{DraftStop}
-use Rattle.profile_text.specs.declared.draft.DraftStop.TheVariants.{Refused, NoMemory}
+use Rattle.profile_text.specs.declared.draft.ProfileDraft.{ProfileDraft}
+use Rattle.profile_text.specs.declared.draft.ProfileDraftStop.{ProfileDraftStop}
+use Rattle.profile_text.specs.declared.draft.ProfileDraftStop.TheVariants.{Refused, NoMemory}
 use Rattle.profile_text.specs.declared.item.Item.{Item}
 use Rattle.profile_text.specs.declared.item.What.{What}
 use Rattle.profile_text.specs.declared.item.What.TheVariants.{Head, Count, Target}
@@ -118,7 +118,7 @@ pub record TargetsSoFar
 
 -- Targets are put where no name stands twice.
 abbrev pub PutsTargets :
-    List (List ℕ) → List Item → ℕ → KeyId → List (List ℕ × ℕ) → Result (Unit {0}) DraftStop
+    List (List ℕ) → List Item → ℕ → KeyId → List (List ℕ × ℕ) → Result (Unit {0}) ProfileDraftStop
     → List (List ℕ) → List ℕ → List Item → Type 0
 PutsTargets names items at key targets (Ok done) more stamps after =
     (has_twice (names_of targets) ≡ false) × AreTargetsPut names items at key targets more stamps after
@@ -162,7 +162,7 @@ AreNamed names keys = (n : ℕ) (key : Key) → slice_get keys n ≡ Some key �
 
 -- These lines were read, and these numbers told.
 pub record IsRead
-    (names : List (List ℕ)) (keys : List Key) (draft : Draft) (before : List Line) (numbers : List Number)
+    (names : List (List ℕ)) (keys : List Key) (draft : ProfileDraft) (before : List Line) (numbers : List Number)
     : Type 0 where
   pub ways : List (List NumberedStep)
   pub path : IsPath names draft.path before
@@ -174,7 +174,7 @@ pub record IsRead
   pub told : TellNumbers names keys draft.items.items numbers
 
 -- Nothing was read.
-pub record IsNew (draft : Draft) : Type 0 where
+pub record IsNew (draft : ProfileDraft) : Type 0 where
   pub path : draft.path ≡ []
   pub opened : draft.opened ≡ []
   pub places : draft.places ≡ []
@@ -188,7 +188,7 @@ abbrev pub cause_of_depth : ℕ → ℕ → Option Kind
 cause_of_depth lines depth = first_cause ((nat_lt max_depth depth, TooDeep) ∷ (nat_lt lines depth, BadIndent) ∷ [])
 
 -- A line is refused for its cause; without one, P holds. Where memory was refused nothing is told.
-abbrev pub JudgesLine : Option Kind → Result (Unit {0}) DraftStop → Type 0 → Type 0
+abbrev pub JudgesLine : Option Kind → Result (Unit {0}) ProfileDraftStop → Type 0 → Type 0
 JudgesLine cause (Ok done) P = (cause ≡ None) × P
 JudgesLine cause (Err (Refused kind)) P = cause ≡ Some kind
 JudgesLine cause (Err NoMemory) P = ⊤
@@ -210,8 +210,8 @@ room_of line = 1 + length (targets_on line)
 
 -- A line is taken in behind those that were read.
 abbrev pub TakesIn :
-    List (List ℕ) → List Key → Draft → ℕ → Line → Result (Unit {0}) DraftStop
-    → List (List ℕ) → List Key → Draft → Type 0
+    List (List ℕ) → List Key → ProfileDraft → ℕ → Line → Result (Unit {0}) ProfileDraftStop
+    → List (List ℕ) → List Key → ProfileDraft → Type 0
 TakesIn names keys draft at line result more more_keys after =
     (before : List Line) (numbers : List Number) → IsRead names keys draft before numbers
     → JudgesLine (cause_of before line) result
@@ -233,8 +233,8 @@ pub record IsOpened (path : List NumberedStep) (opened : List Key) (fresh : Bool
 
 -- The same for a line in bytes, which can have the form of none.
 abbrev pub TakesLine :
-    List (List ℕ) → List Key → Draft → TextLine → Result (Unit {0}) DraftStop
-    → List (List ℕ) → List Key → Draft → Type 0
+    List (List ℕ) → List Key → ProfileDraft → TextLine → Result (Unit {0}) ProfileDraftStop
+    → List (List ℕ) → List Key → ProfileDraft → Type 0
 TakesLine names keys draft line result more more_keys after =
     (before : List Line) (numbers : List Number) → IsRead names keys draft before numbers
     → JudgesLine (cause_of_line before (line_of line.bytes.now)) result

@@ -13,7 +13,7 @@ use Rattle.profile_model.specs.Profile.{Line}
 use Rattle.profile_model.specs.Spelled.{Number, numbers_from, numbers_of}
 use Rattle.profile_tree.specs.Known.{HasNames}
 use Rattle.profile_text.specs.Draft.{Kept, IsRead, TellNumbers}
-use Rattle.profile_text.specs.declared.draft.Draft.{Draft}
+use Rattle.profile_text.specs.declared.draft.ProfileDraft.{ProfileDraft}
 use Rattle.profile_text.specs.declared.item.Item.{Item}
 
 -- How many bytes lines have, without their line feeds.
@@ -46,8 +46,8 @@ whole_of file text names keys = record {
 
 -- Lines are left. Their first bad place is that of the whole text, and the numbers told and theirs are all.
 pub record IsLeft
-    (file : ℕ) (whole : Whole) (names : List (List ℕ)) (keys : List Key) (draft : Draft) (left : List (ℕ × List ℕ))
-    : Type 0 where
+    (file : ℕ) (whole : Whole) (names : List (List ℕ)) (keys : List Key) (draft : ProfileDraft)
+    (left : List (ℕ × List ℕ)) : Type 0 where
   pub before : List Line
   pub numbers : List Number
   pub read : IsRead names keys draft before numbers
@@ -60,13 +60,15 @@ pub record IsLeft
   pub few_opened : length draft.opened + bytes_of left ≤ whole.most_opened
 
 -- A line was taken in, and the others are left; or it is the first bad one.
-abbrev pub GoesOn : ℕ → Whole → List (ℕ × List ℕ) → Result (Unit {0}) Stop → List (List ℕ) → List Key → Draft → Type 0
+abbrev pub GoesOn :
+    ℕ → Whole → List (ℕ × List ℕ) → Result (Unit {0}) Stop → List (List ℕ) → List Key → ProfileDraft → Type 0
 GoesOn file whole rest (Ok done) names keys draft = IsLeft file whole names keys draft rest
 GoesOn file whole rest (Err (Refused place)) names keys draft = whole.bad ≡ Some place
 GoesOn file whole rest (Err NoMemory) names keys draft = ⊤
 
 abbrev pub TakesOn :
-    ℕ → List (List ℕ) → List Key → Draft → TextLine → Result (Unit {0}) Stop → List (List ℕ) → List Key → Draft → Type 0
+    ℕ → List (List ℕ) → List Key → ProfileDraft → TextLine → Result (Unit {0}) Stop
+    → List (List ℕ) → List Key → ProfileDraft → Type 0
 TakesOn file names keys draft line result more more_keys after =
     (whole : Whole) (rest : List (ℕ × List ℕ))
     → IsLeft file whole names keys draft ((line.number, line.bytes.now) ∷ rest)

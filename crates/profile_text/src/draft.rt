@@ -4,7 +4,7 @@ ghost use Rattle.key_types.specs.declared.key.Key.{Key};
 ghost use Rattle.profile_model.specs.Profile.{body_line, call_line, function_line};
 ghost use Rattle.profile_text.specs.Draft as spec;
 ghost use Rattle.profile_text.specs.Said.{pair_of};
-ghost use Rattle.profile_text.specs.declared.draft.DraftStop.TheVariants.{NoMemory as no_memory};
+ghost use Rattle.profile_text.specs.declared.draft.ProfileDraftStop.TheVariants.{NoMemory as no_memory};
 
 use crate::item::{Item, Profile, What};
 use crate::path::Path;
@@ -23,24 +23,24 @@ const NO_PLACE: Location = Location { offset: 0, disc: 0 };
 
 /// Why a line was not taken in.
 #[derive(Clone, Copy, Debug, PartialEq, Eq)]
-pub(crate) enum DraftStop {
+pub(crate) enum ProfileDraftStop {
     /// The line breaks the format, for this cause.
     Refused(Kind),
     /// Memory was refused.
     NoMemory,
 }
 
-impl From<NoMemory> for DraftStop {
+impl From<NoMemory> for ProfileDraftStop {
     ghost from_gives = { λ _ stop. stop ≡ no_memory };
 
     fn from(_: NoMemory) -> Self {
-        DraftStop::NoMemory
+        ProfileDraftStop::NoMemory
     }
 }
 
 /// What was read so far: the lines that are open, and what tells whether a line stood before.
 #[derive(Drop)]
-pub(crate) struct Draft {
+pub(crate) struct ProfileDraft {
     path: Path,
     /// Keys of all functions and calls, with offset and discriminator 0.
     opened: Keys,
@@ -51,12 +51,12 @@ pub(crate) struct Draft {
     items: Vec<Item>,
 }
 
-impl Draft {
+impl ProfileDraft {
     /// Nothing was read.
-    pub(crate) fn new(alloc: Global) -> Result<Draft, NoMemory>
+    pub(crate) fn new(alloc: Global) -> Result<ProfileDraft, NoMemory>
         ensures { IfOk result spec.IsNew }
     {
-        Ok(Draft {
+        Ok(ProfileDraft {
             path: Path::new(alloc),
             opened: Keys::new(alloc)?,
             places: Stamps::new(alloc),
@@ -82,7 +82,7 @@ impl Draft {
         name: &'a [u8],
         head: u64,
         names: &mut Names<'a>,
-    ) -> Result<(), DraftStop>
+    ) -> Result<(), ProfileDraftStop>
         requires names { length names.old < 2 ^ 32 - 1 }
         requires opened { length self.old.opened < 2 ^ 32 - 1 }
         ensures read { (keys : List Key) (total : ℕ) → spec.TakesIn names.old keys self.old at
@@ -91,7 +91,7 @@ impl Draft {
         let id = names.add(name)?;
         self.path.begin(id);
         if !open_first(alloc, &self.path, &mut self.opened)? {
-            return Err(DraftStop::Refused(Kind::KeyTwice));
+            return Err(ProfileDraftStop::Refused(Kind::KeyTwice));
         }
         put(&mut self.items, at, What::Head(id), head)?;
         Ok(())
@@ -108,7 +108,7 @@ impl Draft {
         targets: &[Named<'a>],
         names: &mut Names<'a>,
         keys: &mut Keys,
-    ) -> Result<(), DraftStop>
+    ) -> Result<(), ProfileDraftStop>
         requires deep { 0 < depth }
         requires names { length names.old + length targets.now < 2 ^ 32 - 1 }
         requires keys { length keys.old < 2 ^ 32 - 1 }
@@ -117,13 +117,13 @@ impl Draft {
             names.new keys.new self.new }
     {
         if let Some(kind) = cause_of_depth(&self.path, depth) {
-            return Err(DraftStop::Refused(kind));
+            return Err(ProfileDraftStop::Refused(kind));
         }
         names.each_once();
         self.path.close(depth);
         let key = keys.add(self.path.key(alloc, location)?)?;
         if self.places.stamp(key.0, 1)? {
-            return Err(DraftStop::Refused(Kind::KeyTwice));
+            return Err(ProfileDraftStop::Refused(Kind::KeyTwice));
         }
         put(&mut self.items, at, What::Count(key), count)?;
         put_targets(&mut self.items, &mut self.called, at, key, targets, names)
@@ -137,7 +137,7 @@ impl Draft {
         location: Location,
         callee: Named<'a>,
         names: &mut Names<'a>,
-    ) -> Result<(), DraftStop>
+    ) -> Result<(), ProfileDraftStop>
         requires deep { 0 < depth }
         requires names { length names.old < 2 ^ 32 - 1 }
         requires opened { length self.old.opened < 2 ^ 32 - 1 }
@@ -146,7 +146,7 @@ impl Draft {
             callee.entry.times) result names.new keys self.new }
     {
         if let Some(kind) = cause_of_depth(&self.path, depth) {
-            return Err(DraftStop::Refused(kind));
+            return Err(ProfileDraftStop::Refused(kind));
         }
         let name = names.add(callee.name)?;
         self.path.close(depth);
@@ -156,7 +156,7 @@ impl Draft {
             disc: location.disc,
         })?;
         if !open_first(alloc, &self.path, &mut self.opened)? {
-            return Err(DraftStop::Refused(Kind::KeyTwice));
+            return Err(ProfileDraftStop::Refused(Kind::KeyTwice));
         }
         Ok(())
     }
@@ -170,7 +170,7 @@ fn put_targets<'a>(
     key: KeyId,
     targets: &[Named<'a>],
     names: &mut Names<'a>,
-) -> Result<(), DraftStop>
+) -> Result<(), ProfileDraftStop>
     requires { length names.old + length targets.now < 2 ^ 32 - 1 }
     ensures { spec.AreOld called.old (length items.old.items) (length names.old)
         → spec.PutsTargets names.old items.old.items at key (map pair_of targets.now) result
@@ -180,7 +180,7 @@ fn put_targets<'a>(
     for target in targets {
         let name = names.add(target.name)?;
         if called.stamp(name.0, stamp)? {
-            return Err(DraftStop::Refused(Kind::KeyTwice));
+            return Err(ProfileDraftStop::Refused(Kind::KeyTwice));
         }
         put(items, at, What::Target(key, name), target.times)?;
     }

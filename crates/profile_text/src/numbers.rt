@@ -1,19 +1,37 @@
-// The numbers of a profile text, as counts, calls and heads, and the functions that they are of.
-ghost use Rattle.std.specs.Prelude.{◌≡◌, IfOk, length};
+// The numbers of a profile text, as those of a profile, and the functions that they are of.
+ghost use Rattle.std.specs.Prelude.{◌≡◌, ℕ, IfOk, List, length};
 ghost use Rattle.std.specs.List.{filter_map};
-ghost use Rattle.profile_text.specs.Numbers.{HasKey, call_in, count_in, head_in, root_of};
+ghost use Rattle.profile_tree.specs.Numbers.{AreOf, CountTheSame, numbers_said};
+ghost use Rattle.profile_text.specs.Numbers.{AreNumbersOf, HasKey, call_in, count_in, counted, head_in, root_of};
 
 use crate::item::{Item, What};
 use key_types::{Keys, NameId};
-use profile_tree::{Call, Head, KeyCount};
+use profile_tree::{Call, Head, KeyCount, Numbers};
 use refusal::NoMemory;
 use std::alloc::Global;
 
-/// The counts of keys.
+/// The numbers of a profile text, in which no head, key or target has two: 0 for a key whose count
+/// it does not tell.
 ///
 /// # Errors
 /// `NoMemory`.
-pub fn counts_of(alloc: Global, items: &[Item]) -> Result<Vec<KeyCount>, NoMemory>
+pub fn numbers_of(alloc: Global, items: &[Item], keys: &Keys) -> Result<Numbers, NoMemory>
+    requires { (names : ℕ) × AreNumbersOf names keys.now items.now }
+    ensures of { IfOk result (λ numbers. (names : ℕ) → AreNumbersOf names keys.now items.now
+        → AreOf names keys.now numbers) }
+    ensures told { IfOk result (λ numbers. (names : List (List ℕ))
+        → AreNumbersOf (length names) keys.now items.now
+        → CountTheSame (numbers_said names keys.now numbers) (counted names keys.now items.now)) }
+{
+    let counts = counts_of(alloc, items)?;
+    let calls = calls_of(alloc, items)?;
+    let heads = heads_of(alloc, items)?;
+    let numbers = Numbers::stated(alloc, keys.len(), &counts, calls, heads)?;
+    Ok(numbers)
+}
+
+/// The counts of keys.
+fn counts_of(alloc: Global, items: &[Item]) -> Result<Vec<KeyCount>, NoMemory>
     ensures { IfOk result (λ counts. counts.items ≡ filter_map count_in items.now) }
 {
     let counts = items.iter().filter_map(|item| count_of(item));
@@ -32,10 +50,7 @@ fn count_of(item: &Item) -> Option<KeyCount>
 }
 
 /// The calls from keys.
-///
-/// # Errors
-/// `NoMemory`.
-pub fn calls_of(alloc: Global, items: &[Item]) -> Result<Vec<Call>, NoMemory>
+fn calls_of(alloc: Global, items: &[Item]) -> Result<Vec<Call>, NoMemory>
     ensures { IfOk result (λ calls. calls.items ≡ filter_map call_in items.now) }
 {
     let calls = items.iter().filter_map(|item| call_of(item));
@@ -54,10 +69,7 @@ fn call_of(item: &Item) -> Option<Call>
 }
 
 /// The entries of functions.
-///
-/// # Errors
-/// `NoMemory`.
-pub fn heads_of(alloc: Global, items: &[Item]) -> Result<Vec<Head>, NoMemory>
+fn heads_of(alloc: Global, items: &[Item]) -> Result<Vec<Head>, NoMemory>
     ensures { IfOk result (λ heads. heads.items ≡ filter_map head_in items.now) }
 {
     let heads = items.iter().filter_map(|item| head_of(item));

@@ -10,12 +10,12 @@ use std::marker::Model;
 
 /// The parts of a text that are left, from left to right: what stands between bytes of one value.
 #[derive(Drop)]
-pub(crate) struct Parts<'a> {
+pub(crate) struct LineParts<'a> {
     byte: u8,
     rest: Option<&'a [u8]>,
 }
 
-impl<'a> Model for Parts<'a> {
+impl<'a> Model for LineParts<'a> {
     ghost use Rattle.std.specs.Prelude.{ℕ, List};
     ghost use Rattle.profile_text.specs.Parts.{parts_left};
 
@@ -24,19 +24,19 @@ impl<'a> Model for Parts<'a> {
     ghost view = { λ a. parts_left a.byte a.rest };
 }
 
-impl<'a> Parts<'a> {
+impl<'a> LineParts<'a> {
     /// All parts of `text` between bytes of this value.
-    pub(crate) fn new(text: &'a [u8], byte: u8) -> Parts<'a>
+    pub(crate) fn new(text: &'a [u8], byte: u8) -> LineParts<'a>
         ensures { result ≡ parts_at byte text.now }
     {
-        Parts {
+        LineParts {
             byte,
             rest: Some(text),
         }
     }
 }
 
-impl<'a> Iterator for Parts<'a> {
+impl<'a> Iterator for LineParts<'a> {
     type Item = &'a [u8];
 
     ghost next_gives = { YieldsFirstRef (λ left. left) };
@@ -50,7 +50,7 @@ impl<'a> Iterator for Parts<'a> {
     }
 }
 
-impl<'a> FusedIterator for Parts<'a> {}
+impl<'a> FusedIterator for LineParts<'a> {}
 
 /// The first part of `text`, and what stands behind the byte that ends it.
 fn split_part(text: &[u8], byte: u8) -> (&[u8], Option<&[u8]>)

@@ -6,9 +6,9 @@ ghost use Rattle.profile_tree.specs.Known.{HasNames};
 ghost use Rattle.profile_text.specs.Draft as spec;
 ghost use Rattle.profile_text.specs.Text.{TakesOn, TellText};
 
-use crate::draft::{Draft, DraftStop};
+use crate::draft::{ProfileDraft, ProfileDraftStop};
 use crate::item::Profile;
-use crate::said::{Said, is_passed, read_line};
+use crate::said::{ProfileLine, is_passed, read_line};
 use key_types::{Keys, Names};
 use refusal::{Kind, Place, Stop};
 use std::alloc::Global;
@@ -49,7 +49,7 @@ pub fn read<'a>(
     ensures { JudgesUnlessNoMemory (first_bad_of_profile file text.now) result (λ profile.
         TellText names.old keys.old text.now profile.items names.new keys.new) }
 {
-    let mut draft = Draft::new(alloc)?;
+    let mut draft = ProfileDraft::new(alloc)?;
     let mut lines = Lines::new(text);
     while let Some(line) = lines.next() {
         take_in(alloc, &mut draft, line, file, names, keys)?;
@@ -82,7 +82,7 @@ pub fn read_behind<'a>(
 /// Takes in a line, unless it is passed over.
 fn take_in<'a>(
     alloc: Global,
-    draft: &mut Draft,
+    draft: &mut ProfileDraft,
     line: Line<'a>,
     file: u8,
     names: &mut Names<'a>,
@@ -99,23 +99,23 @@ fn take_in<'a>(
     }
     match take_line(alloc, draft, line, names, keys) {
         Ok(()) => Ok(()),
-        Err(DraftStop::Refused(kind)) => Err(Stop::Refused(Place {
+        Err(ProfileDraftStop::Refused(kind)) => Err(Stop::Refused(Place {
             file,
             at: line.number,
             kind,
         })),
-        Err(DraftStop::NoMemory) => Err(Stop::NoMemory),
+        Err(ProfileDraftStop::NoMemory) => Err(Stop::NoMemory),
     }
 }
 
 /// Takes in a line that is not passed over.
 fn take_line<'a>(
     alloc: Global,
-    draft: &mut Draft,
+    draft: &mut ProfileDraft,
     line: Line<'a>,
     names: &mut Names<'a>,
     keys: &mut Keys,
-) -> Result<(), DraftStop>
+) -> Result<(), ProfileDraftStop>
     requires names { length names.old + length line.bytes.now < 2 ^ 32 - 1 }
     requires keys { length keys.old < 2 ^ 32 - 1 }
     requires opened { length draft.old.opened < 2 ^ 32 - 1 }
@@ -123,13 +123,13 @@ fn take_line<'a>(
         names.new keys.new draft.new }
 {
     let Some(said) = read_line(alloc, line.bytes)? else {
-        return Err(DraftStop::Refused(Kind::BadLine));
+        return Err(ProfileDraftStop::Refused(Kind::BadLine));
     };
     match said {
-        Said::Function(name, _, head) => {
+        ProfileLine::Function(name, _, head) => {
             draft.add_function(alloc, line.number, name, head, names)
         }
-        Said::Body(depth, location, count, targets) => draft.add_body(
+        ProfileLine::Body(depth, location, count, targets) => draft.add_body(
             alloc,
             line.number,
             depth,
@@ -139,7 +139,7 @@ fn take_line<'a>(
             names,
             keys,
         ),
-        Said::Call(depth, location, callee) => {
+        ProfileLine::Call(depth, location, callee) => {
             draft.add_call(alloc, depth, location, callee, names)
         }
     }

@@ -5,7 +5,7 @@ ghost use Rattle.text_model.specs.LineTests.{is_blank_line};
 ghost use Rattle.profile_model.specs.Reading as model;
 ghost use Rattle.profile_text.specs.Said.{meaning_of, pair_of, place_of};
 
-use crate::parts::Parts;
+use crate::parts::LineParts;
 use key_types::is_name;
 use refusal::NoMemory;
 use std::alloc::Global;
@@ -27,7 +27,7 @@ pub(crate) struct Location {
 
 /// What a line says. Numbers in front are depths.
 #[derive(Drop)]
-pub(crate) enum Said<'a> {
+pub(crate) enum ProfileLine<'a> {
     /// A function, its total and how often it was entered.
     Function(&'a [u8], u64, u64),
     /// A body line, its count and its targets.
@@ -68,19 +68,19 @@ fn first_other(line: &[u8]) -> Option<usize>
 
 /// What a line says, if it has the form of one.
 #[tactic(auto, unfolding(profile_model::specs::Reading::line_of))]
-pub(crate) fn read_line(alloc: Global, line: &[u8]) -> Result<Option<Said<'_>>, NoMemory>
+pub(crate) fn read_line(alloc: Global, line: &[u8]) -> Result<Option<ProfileLine<'_>>, NoMemory>
     ensures { IfOk result (λ said. option_map meaning_of said ≡ model.line_of line.now) }
 {
     let depth = spaces(line);
     if depth == 0 {
-        return Ok(function_line(Parts::new(line, b':')));
+        return Ok(function_line(LineParts::new(line, b':')));
     }
-    line_below(alloc, depth, Parts::new(&line[depth..], b' '))
+    line_below(alloc, depth, LineParts::new(&line[depth..], b' '))
 }
 
 /// `NAME:TOTAL:HEAD`
 #[tactic(auto, unfolding(profile_model::specs::Reading::function_of))]
-fn function_line(mut parts: Parts<'_>) -> Option<Said<'_>>
+fn function_line(mut parts: LineParts<'_>) -> Option<ProfileLine<'_>>
     ensures { option_map meaning_of result ≡ model.function_of parts.entry }
 {
     let name = parts.next()?;
@@ -92,7 +92,7 @@ fn function_line(mut parts: Parts<'_>) -> Option<Said<'_>>
     if !is_name(name) {
         return None;
     }
-    Some(Said::Function(name, number(total)?, number(head)?))
+    Some(ProfileLine::Function(name, number(total)?, number(head)?))
 }
 
 /// A line below a function: `OFFSET[.DISC]:`, and what stands behind.
@@ -100,8 +100,8 @@ fn function_line(mut parts: Parts<'_>) -> Option<Said<'_>>
 fn line_below<'a>(
     alloc: Global,
     depth: usize,
-    mut words: Parts<'a>,
-) -> Result<Option<Said<'a>>, NoMemory>
+    mut words: LineParts<'a>,
+) -> Result<Option<ProfileLine<'a>>, NoMemory>
     ensures { IfOk result (λ said. option_map meaning_of said
         ≡ model.line_below depth words.entry) }
 {
@@ -158,19 +158,22 @@ fn body_line<'a>(
     depth: usize,
     location: Location,
     count: u64,
-    words: Parts<'a>,
-) -> Result<Option<Said<'a>>, NoMemory>
+    words: LineParts<'a>,
+) -> Result<Option<ProfileLine<'a>>, NoMemory>
     ensures { IfOk result (λ said. option_map meaning_of said
         ≡ model.body_by depth (place_of location) count words.entry) }
 {
     match targets_of(alloc, words)? {
-        Some(targets) => Ok(Some(Said::Body(depth, location, count, targets))),
+        Some(targets) => Ok(Some(ProfileLine::Body(depth, location, count, targets))),
         None => Ok(None),
     }
 }
 
 /// `CALLEE:COUNT`, word by word.
-fn targets_of<'a>(alloc: Global, mut words: Parts<'a>) -> Result<Option<Vec<Named<'a>>>, NoMemory>
+fn targets_of<'a>(
+    alloc: Global,
+    mut words: LineParts<'a>,
+) -> Result<Option<Vec<Named<'a>>>, NoMemory>
     ensures { IfOk result (λ targets. option_map (λ list. map pair_of list.items) targets
         ≡ model.targets_of words.entry) }
 {
@@ -190,15 +193,15 @@ fn call_line<'a>(
     depth: usize,
     location: Location,
     word: &'a [u8],
-    mut words: Parts<'a>,
-) -> Option<Said<'a>>
+    mut words: LineParts<'a>,
+) -> Option<ProfileLine<'a>>
     ensures { option_map meaning_of result
         ≡ model.call_of depth (place_of location) word.now words.entry }
 {
     if words.next().is_some() {
         return None;
     }
-    Some(Said::Call(depth, location, read_named(word)?))
+    Some(ProfileLine::Call(depth, location, read_named(word)?))
 }
 
 /// `NAME:NUMBER`
@@ -206,7 +209,7 @@ fn call_line<'a>(
 fn read_named(word: &[u8]) -> Option<Named<'_>>
     ensures { option_map pair_of result ≡ model.named_of word.now }
 {
-    let mut parts = Parts::new(word, b':');
+    let mut parts = LineParts::new(word, b':');
     let name = parts.next()?;
     let digits = parts.next()?;
     if parts.next().is_some() {
@@ -226,7 +229,7 @@ fn read_named(word: &[u8]) -> Option<Named<'_>>
 fn read_location(word: &[u8]) -> Option<Location>
     ensures { option_map place_of result ≡ model.location_of word.now }
 {
-    let mut parts = Parts::new(word, b':');
+    let mut parts = LineParts::new(word, b':');
     let location = parts.next()?;
     let behind = parts.next()?;
     if parts.next().is_some() {
@@ -235,11 +238,11 @@ fn read_location(word: &[u8]) -> Option<Location>
     if !behind.is_empty() {
         return None;
     }
-    located(Parts::new(location, b'.'))
+    located(LineParts::new(location, b'.'))
 }
 
 /// `OFFSET[.DISC]`
-fn located(mut parts: Parts<'_>) -> Option<Location>
+fn located(mut parts: LineParts<'_>) -> Option<Location>
     ensures { option_map place_of result ≡ model.located_by parts.entry }
 {
     let offset = parts.next()?;

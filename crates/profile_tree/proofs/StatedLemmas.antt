@@ -8,6 +8,7 @@ use Rattle.key_types.specs.declared.key.Key.{Key}
 use Rattle.cold_model.proofs.ColdLemmas.{lines_with_are_by_counts}
 use Rattle.cold_model.specs.Cold.{lines_with}
 use Rattle.profile_laws.proofs.TotalLemmas.{sum_both}
+use Rattle.profile_laws.specs.Counts.{CountTheSame}
 use Rattle.profile_laws.specs.Once.{StandOnce}
 use Rattle.profile_lists.specs.declared.pairs.Call.{Call}
 use Rattle.profile_model.specs.Profile.{count_of}
@@ -154,7 +155,9 @@ module _ (names : List (List ℕ)) (keys : List Key) (counts : List KeyCount) (n
       ∙ sym (sum_map (λ c. cond (same_way way c.0) c.1 0) (λ (count : KeyCount). (way_at names keys count.key.0, count.times)) counts)
       ∙ sym (sum_filter (λ c. c.1) (λ c. same_way way c.0) (map (λ (count : KeyCount). (way_at names keys count.key.0, count.times)) counts))
 
+  -- What is said counts the same as what is stated.
+  pub same_counts : CountTheSame (said names keys numbers calls heads) (stated names keys counts calls heads)
+  same_counts = record { keys = same_count; targets = λ way name. refl; heads = λ name. refl }
+
   pub stated_lines : (besides : List Way) → lines_with besides (said names keys numbers calls heads) ≡ lines_with besides (stated names keys counts calls heads)
-  stated_lines besides =
-      lines_with_are_by_counts besides (said names keys numbers calls heads) (stated names keys counts calls heads)
-      (record { keys = same_count; targets = λ way name. refl; heads = λ name. refl })
+  stated_lines besides = lines_with_are_by_counts besides (said names keys numbers calls heads) (stated names keys counts calls heads) same_counts

@@ -1,5 +1,6 @@
 pub mod Items
 pub mod Known
+pub mod Numbers
 pub mod Rows
 pub mod Said
 pub mod Standing

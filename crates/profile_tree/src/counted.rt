@@ -4,30 +4,61 @@ ghost use Rattle.profile_model.specs.Steps.{hits_by};
 ghost use Rattle.profile_lists.specs.Segments.{AllFit};
 ghost use Rattle.key_types.specs.Segments.{AreSegments};
 ghost use Rattle.key_types.specs.Numbers.{IsNumbered};
-ghost use Rattle.cold_model.specs.Cold.{lines_with, standing_lines_of};
+ghost use Rattle.cold_model.specs.Cold.{lines_with};
 ghost use Rattle.profile_model.specs.Profile.{lines_of};
 ghost use Rattle.profile_tree.specs.Said.{AreCountsOfPlaces, said, stated, ways_said};
-ghost use Rattle.profile_tree.specs.Standing.{first_ways};
-ghost use Rattle.profile_tree.specs.Stated.{AreGiven, AreStated, AreSummed};
+ghost use Rattle.profile_tree.specs.Numbers.{AreOf, numbers_said};
+ghost use Rattle.profile_tree.specs.Stated.{AreGiven, AreStated};
 ghost use Rattle.profile_tree.specs.Sums.{AreEach, calls_of, count_stated, entries_of};
 ghost use Rattle.profile_tree.specs.Told.{IsOf, told};
 
-use crate::fit::{calls_fit, heads_fit};
 use crate::head::Head;
 use crate::items::{RankedBy, items_of};
 use crate::key_count::KeyCount;
 use crate::line::Line;
 use crate::lines::{Parts, lines_of};
+use crate::numbers::Numbers;
 use crate::order::{by_name, by_total};
-use crate::standing::standing_keys;
-use crate::sums::{heads_of, stated_of, totals_of};
+use crate::sums::{heads_of, totals_of};
 use crate::tree::Tree;
 use item_lists::Items;
 use key_types::{KeyId, Keys, Names, Seg};
-use profile_lists::{Call, counts_of, rows_of, sort_items, targets_of};
+use profile_lists::{Call, rows_of, sort_items, targets_of};
 use range_counts::Hits;
 use refusal::NoMemory;
 use std::alloc::Global;
+
+/// The profile of numbers, where the keys of `besides` have lines too, in any order and however
+/// often they stand there: a key that has neither a count nor a target has a line with count 0. A
+/// total stands still at 2^64 - 1.
+///
+/// All numbers are of `keys` and `names`.
+///
+/// # Errors
+/// `NoMemory`.
+pub fn tree_of(
+    alloc: Global,
+    numbers: Numbers,
+    besides: &[KeyId],
+    keys: &Keys,
+    names: &Names,
+) -> Result<Tree, NoMemory>
+    requires numbers { AreOf (length names.now) keys.now numbers }
+    requires besides { All (λ key. key.0 < length keys.now) besides.now }
+    ensures lines { IfOk result (λ tree. map (told names.now) tree.lines
+        ≡ lines_with (ways_said names.now keys.now besides.now)
+        (numbers_said names.now keys.now numbers)) }
+    ensures names { IfOk result (λ tree. All (IsOf names.now) tree.lines) }
+    ensures counts { IfOk result (λ tree. tree.counts ≡ numbers.counts) }
+{
+    keys.each_once();
+    names.each_once();
+    let lines = lines_of_numbers(alloc, &numbers, besides, keys, names)?;
+    Ok(Tree {
+        lines: Items::new(lines),
+        counts: Items::new(numbers.into_counts()),
+    })
+}
 
 /// The profile of what was counted: how often addresses ran, what was called, and what was entered.
 ///
@@ -63,54 +94,10 @@ pub fn build(
     ensures len { IfOk result (λ tree. length tree.counts ≡ length keys.now) }
     ensures small { IfOk result (λ tree. All (λ count. count < 2 ^ 44) tree.counts) }
 {
-    keys.each_once();
-    names.each_once();
-    let counts = counts_of(alloc, segments, hits, keys.len())?;
-    let lines = lines_of_counts(alloc, &counts, calls, &[], heads, keys, names)?;
-    Ok(Tree {
-        lines: Items::new(lines),
-        counts: Items::new(counts),
-    })
-}
-
-/// The same, where each key has a line whose function stands there: with count 0 where it has
-/// neither a count nor a target.
-///
-/// # Errors
-/// `NoMemory`.
-pub fn build_with_cold(
-    alloc: Global,
-    segments: &[Seg],
-    hits: &Hits,
-    calls: &[Call],
-    heads: &[Head],
-    keys: &Keys,
-    names: &Names,
-) -> Result<Tree, NoMemory>
-    requires segments { AreSegments segments.now }
-    requires fit { AllFit (length keys.now) segments.now }
-    requires hits { (a : ℕ) → hits_by hits.now a < 2 ^ 32 }
-    requires given { AreGiven (length names.now) keys.now calls.now heads.now }
-    requires call_sums { (key callee : ℕ) → calls_of calls.now key callee < 2 ^ 64 }
-    requires head_sums { (name : ℕ) → entries_of heads.now name < 2 ^ 64 }
-    ensures lines { IfOk result (λ tree. map (told names.now) tree.lines
-        ≡ standing_lines_of (first_ways names.now keys.now (length keys.now))
-        (said names.now keys.now tree.counts calls.now heads.now)) }
-    ensures names { IfOk result (λ tree. All (IsOf names.now) tree.lines) }
-    ensures counts { IfOk result (λ tree.
-        AreCountsOfPlaces segments.now (hits_by hits.now) tree.counts) }
-    ensures len { IfOk result (λ tree. length tree.counts ≡ length keys.now) }
-    ensures small { IfOk result (λ tree. All (λ count. count < 2 ^ 44) tree.counts) }
-{
-    keys.each_once();
-    names.each_once();
-    let counts = counts_of(alloc, segments, hits, keys.len())?;
-    let cold = standing_keys(alloc, &counts, calls, heads, keys, keys.len(), names.len())?;
-    let lines = lines_of_counts(alloc, &counts, calls, &cold, heads, keys, names)?;
-    Ok(Tree {
-        lines: Items::new(lines),
-        counts: Items::new(counts),
-    })
+    let calls = Vec::from_slice(alloc, calls)?;
+    let heads = Vec::from_slice(alloc, heads)?;
+    let numbers = Numbers::of_places(alloc, keys.len(), segments, hits, calls, heads)?;
+    tree_of(alloc, numbers, &[], keys, names)
 }
 
 /// The profile of counts, calls and heads that are known: each key, target and head has the number
@@ -136,100 +123,30 @@ pub fn from_counts(
     ensures counts { IfOk result (λ tree.
         AreEach (length keys.now) (count_stated counts.now) tree.counts) }
 {
-    from_counts_with(alloc, counts, calls, &[], heads, keys, names)
+    let calls = Vec::from_slice(alloc, calls)?;
+    let heads = Vec::from_slice(alloc, heads)?;
+    let numbers = Numbers::stated(alloc, keys.len(), counts, calls, heads)?;
+    tree_of(alloc, numbers, &[], keys, names)
 }
 
-/// The same, where the keys of `besides` have lines too, in any order and however often they stand
-/// there: a key that has neither a count nor a target has a line with count 0.
-///
-/// # Errors
-/// `NoMemory`.
-pub fn from_counts_with(
+/// The lines of a profile of numbers, where the keys of `besides` have lines too.
+fn lines_of_numbers(
     alloc: Global,
-    counts: &[KeyCount],
-    calls: &[Call],
+    numbers: &Numbers,
     besides: &[KeyId],
-    heads: &[Head],
-    keys: &Keys,
-    names: &Names,
-) -> Result<Tree, NoMemory>
-    requires stated { AreStated (length names.now) keys.now counts.now calls.now heads.now }
-    requires besides { All (λ key. key.0 < length keys.now) besides.now }
-    ensures lines { IfOk result (λ tree. map (told names.now) tree.lines
-        ≡ lines_with (ways_said names.now keys.now besides.now)
-        (stated names.now keys.now counts.now calls.now heads.now)) }
-    ensures names { IfOk result (λ tree. All (IsOf names.now) tree.lines) }
-    ensures counts { IfOk result (λ tree.
-        AreEach (length keys.now) (count_stated counts.now) tree.counts) }
-{
-    keys.each_once();
-    names.each_once();
-    calls_fit(calls);
-    heads_fit(heads);
-    let counts = stated_of(alloc, keys.len(), counts)?;
-    let lines = lines_of_counts(alloc, &counts, calls, besides, heads, keys, names)?;
-    Ok(Tree {
-        lines: Items::new(lines),
-        counts: Items::new(counts),
-    })
-}
-
-/// The profile of the counts of all keys, each at its number, with calls and heads that are known.
-/// A total stands still at 2^64 - 1.
-///
-/// Each pair of a key and a callee stands once in `calls` and each function once in `heads`; all
-/// numbers are of `keys` and `names`.
-///
-/// # Errors
-/// `NoMemory`.
-pub fn from_all_counts(
-    alloc: Global,
-    counts: Vec<u64>,
-    calls: &[Call],
-    heads: &[Head],
-    keys: &Keys,
-    names: &Names,
-) -> Result<Tree, NoMemory>
-    requires len { length counts.items ≡ length keys.now }
-    requires summed { AreSummed (length names.now) keys.now calls.now heads.now }
-    ensures lines { IfOk result (λ tree. map (told names.now) tree.lines
-        ≡ lines_of (said names.now keys.now counts.items calls.now heads.now)) }
-    ensures names { IfOk result (λ tree. All (IsOf names.now) tree.lines) }
-    ensures counts { IfOk result (λ tree. tree.counts ≡ counts.items) }
-{
-    keys.each_once();
-    names.each_once();
-    calls_fit(calls);
-    heads_fit(heads);
-    let lines = lines_of_counts(alloc, &counts, calls, &[], heads, keys, names)?;
-    Ok(Tree {
-        lines: Items::new(lines),
-        counts: Items::new(counts),
-    })
-}
-
-/// The lines of a profile, from the counts of its keys, where those of `besides` have lines too.
-fn lines_of_counts(
-    alloc: Global,
-    counts: &[u64],
-    calls: &[Call],
-    besides: &[KeyId],
-    heads: &[Head],
     keys: &Keys,
     names: &Names,
 ) -> Result<Vec<Line>, NoMemory>
-    requires len { length counts.now ≡ length keys.now }
+    requires numbers { AreOf (length names.now) keys.now numbers.now }
     requires keys { IsNumbered keys.now }
     requires names { IsNumbered names.now }
-    requires given { AreGiven (length names.now) keys.now calls.now heads.now }
     requires besides { All (λ key. key.0 < length keys.now) besides.now }
-    requires call_sums { (key callee : ℕ) → calls_of calls.now key callee < 2 ^ 64 }
-    requires head_sums { (name : ℕ) → entries_of heads.now name < 2 ^ 64 }
     ensures lines { IfOk result (λ lines. map (told names.now) lines.items
         ≡ lines_with (ways_said names.now keys.now besides.now)
-        (said names.now keys.now counts.now calls.now heads.now)) }
+        (numbers_said names.now keys.now numbers.now)) }
     ensures names { IfOk result (λ lines. All (IsOf names.now) lines.items) }
 {
+    let counts = numbers.counts();
     let totals = totals_of(alloc, names.len(), keys, counts)?;
     let by_total = by_total(alloc, names, &totals)?;
     let by_name = by_name(alloc, names)?;
@@ -237,11 +154,11 @@ fn lines_of_counts(
         total: by_total.ranks.as_slice(),
         name: by_name.ranks.as_slice(),
     };
-    let mut items = items_of(alloc, keys, counts, calls, besides, heads, &ranks)?;
+    let mut items = items_of(alloc, keys, numbers, besides, &ranks)?;
     sort_items(&mut items)?;
     let rows = rows_of(alloc, &items)?;
-    let targets = targets_of(alloc, calls, by_name.ranks.as_slice())?;
-    let heads = heads_of(alloc, names.len(), heads)?;
+    let targets = targets_of(alloc, numbers.calls(), by_name.ranks.as_slice())?;
+    let heads = heads_of(alloc, names.len(), numbers.heads())?;
     let parts = Parts {
         by_total: &by_total,
         by_name: &by_name,

@@ -6,6 +6,7 @@ ghost use Rattle.profile_tree.specs.Known.{HasNames, IsGiven};
 ghost use Rattle.profile_tree.specs.Steps.{at_function, frame_step, steps_at, steps_of};
 
 use crate::head::Head;
+use crate::numbers::Numbers;
 use key_types::{Frame, Key, KeyId, Keys, NameId};
 use profile_lists::{Call, Item, Kind, Step, sort_items};
 use refusal::NoMemory;
@@ -32,26 +33,24 @@ pub struct Written {
 pub fn items_of(
     alloc: Global,
     keys: &Keys,
-    counts: &[u64],
-    calls: &[Call],
+    numbers: &Numbers,
     besides: &[KeyId],
-    heads: &[Head],
     ranks: &RankedBy,
 ) -> Result<Vec<Item>, NoMemory>
     requires names { All (HasNames (length ranks.now.total.now)) keys.now }
     requires callees { All (HasNames (length ranks.now.name.now)) keys.now }
-    requires calls { All (IsGiven (length keys.now) (length ranks.now.name.now)) calls.now }
+    requires calls { All (IsGiven (length keys.now) (length ranks.now.name.now)) numbers.now.calls }
     requires besides { All (λ key. key.0 < length keys.now) besides.now }
-    requires heads { All (λ head. head.name.0 < length ranks.now.total.now) heads.now }
-    requires len { length counts.now ≡ length keys.now }
+    requires heads { All (λ head. head.name.0 < length ranks.now.total.now) numbers.now.heads }
+    requires len { length numbers.now.counts ≡ length keys.now }
     ensures { IfOk result (λ items. IsPermutation (map told_item items.items)
         (map (ranked_source ranks.now.total.now ranks.now.name.now)
-        (sources keys.now counts.now calls.now besides.now heads.now))) }
+        (sources keys.now numbers.now.counts numbers.now.calls besides.now numbers.now.heads))) }
 {
-    let written = written_of(alloc, keys, counts, calls, besides, ranks)?;
+    let written = written_of(alloc, keys, numbers, besides, ranks)?;
     let mut items = Vec::new(alloc);
-    push_written(alloc, &mut items, keys, counts, &written, ranks)?;
-    push_entered(alloc, &mut items, heads, ranks)?;
+    push_written(alloc, &mut items, keys, numbers.counts(), &written, ranks)?;
+    push_entered(alloc, &mut items, numbers.heads(), ranks)?;
     Ok(items)
 }
 
@@ -59,19 +58,19 @@ pub fn items_of(
 fn written_of(
     alloc: Global,
     keys: &Keys,
-    counts: &[u64],
-    calls: &[Call],
+    numbers: &Numbers,
     besides: &[KeyId],
     ranks: &RankedBy,
 ) -> Result<Vec<Written>, NoMemory>
     requires names { All (HasNames (length ranks.now.total.now)) keys.now }
-    requires calls { All (λ call. call.key.0 < length keys.now) calls.now }
+    requires calls { All (λ call. call.key.0 < length keys.now) numbers.now.calls }
     requires besides { All (λ key. key.0 < length keys.now) besides.now }
-    requires len { length counts.now ≡ length keys.now }
+    requires len { length numbers.now.counts ≡ length keys.now }
     ensures { IfOk result (λ made. IsPermutation (map (λ w. w.id) made.items) (filter
-        (is_written counts.now calls.now besides.now) (range_with_len 0 (length keys.now)))) }
+        (is_written numbers.now.counts numbers.now.calls besides.now)
+        (range_with_len 0 (length keys.now)))) }
 {
-    let mut written = numbered(alloc, keys, counts, calls, besides, ranks)?;
+    let mut written = numbered(alloc, keys, numbers, besides, ranks)?;
     sort_written(&mut written)?;
     Ok(written)
 }
@@ -80,19 +79,20 @@ fn written_of(
 fn numbered(
     alloc: Global,
     keys: &Keys,
-    counts: &[u64],
-    calls: &[Call],
+    numbers: &Numbers,
     besides: &[KeyId],
     ranks: &RankedBy,
 ) -> Result<Vec<Written>, NoMemory>
     requires names { All (HasNames (length ranks.now.total.now)) keys.now }
-    requires calls { All (λ call. call.key.0 < length keys.now) calls.now }
+    requires calls { All (λ call. call.key.0 < length keys.now) numbers.now.calls }
     requires besides { All (λ key. key.0 < length keys.now) besides.now }
-    requires len { length counts.now ≡ length keys.now }
+    requires len { length numbers.now.counts ≡ length keys.now }
     ensures { IfOk result (λ made. map (λ w. w.id) made.items ≡ filter
-        (is_written counts.now calls.now besides.now) (range_with_len 0 (length keys.now))) }
+        (is_written numbers.now.counts numbers.now.calls besides.now)
+        (range_with_len 0 (length keys.now))) }
 {
-    let marks = marks_of(alloc, keys.len(), calls, besides)?;
+    let counts = numbers.counts();
+    let marks = marks_of(alloc, keys.len(), numbers.calls(), besides)?;
     let mut made = Vec::new(alloc);
     for id in 0..keys.len() {
         if is_written(counts, &marks, id) {

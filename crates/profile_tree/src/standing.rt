@@ -1,35 +1,42 @@
 // The functions that stand in a profile, and their keys.
 ghost use Rattle.std.specs.Prelude.{◌≡◌, ◌<◌, ◌≤◌, All, IfOk, filter, length, map, slice_index_or, slice_set, false, true};
 ghost use Rattle.std.specs.List.{range_with_len};
+ghost use Rattle.cold_model.specs.Cold.{stands_in};
 ghost use Rattle.profile_tree.specs.Items.{AreMarked};
-ghost use Rattle.profile_tree.specs.Standing.{has_mark, is_counted, is_told, standing_ids, stands};
+ghost use Rattle.profile_tree.specs.Numbers.{AreOf, numbers_said};
+ghost use Rattle.profile_tree.specs.Said.{ways_said};
+ghost use Rattle.profile_tree.specs.Standing.{first_ways, has_mark, is_counted, is_told, stands};
 
 use crate::head::Head;
-use key_types::{Key, KeyId, Keys, NameId};
+use crate::numbers::Numbers;
+use key_types::{Key, KeyId, Keys, NameId, Names};
 use profile_lists::Call;
 use refusal::NoMemory;
 use std::alloc::Global;
 
 /// Those of the first `known` keys whose functions stand in the profile of these numbers, in their
 /// order: each was entered, or one of its keys has a count or a target.
+///
+/// # Errors
+/// `NoMemory`.
 pub fn standing_keys(
     alloc: Global,
-    counts: &[u64],
-    calls: &[Call],
-    heads: &[Head],
-    keys: &Keys,
+    numbers: &Numbers,
     known: u32,
-    names: u32,
+    keys: &Keys,
+    names: &Names,
 ) -> Result<Vec<KeyId>, NoMemory>
+    requires numbers { AreOf (length names.now) keys.now numbers.now }
     requires known { known ≤ length keys.now }
-    requires roots { All (λ key. key.root.0 < names) keys.now }
-    requires len { length counts.now ≡ length keys.now }
-    requires calls { All (λ call. call.key.0 < length keys.now) calls.now }
-    requires heads { All (λ head. head.name.0 < names) heads.now }
-    ensures { IfOk result (λ ids. map (λ key. key.0) ids.items
-        ≡ standing_ids keys.now counts.now calls.now heads.now known) }
+    ensures ways { IfOk result (λ ids. ways_said names.now keys.now ids.items
+        ≡ filter (stands_in (numbers_said names.now keys.now numbers.now))
+        (first_ways names.now keys.now known)) }
+    ensures given { IfOk result (λ ids. All (λ key. key.0 < length keys.now) ids.items) }
 {
-    let marks = standing(alloc, counts, calls, heads, keys, names)?;
+    names.each_once();
+    let calls = numbers.calls();
+    let heads = numbers.heads();
+    let marks = standing(alloc, numbers.counts(), calls, heads, keys, names.len())?;
     marked(alloc, keys, known, &marks)
 }
 

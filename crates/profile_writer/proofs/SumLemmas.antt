@@ -1,5 +1,5 @@
 -- Sums over what is made of rows, and over the members that the rows tell of.
-use Rattle.std.proofs.Common.{◌≡◌, ℕ, ◌+◌, Bool, cond, List, [], ◌∷◌, sum_by, Option, None, Some, refl, sym, ap, subst, ◌∙◌, inl, inr, zero-add}
+use Rattle.std.proofs.Common.{◌≡◌, ℕ, ◌+◌, Bool, cond, List, [], ◌∷◌, sum_by, Option, None, Some, refl, sym, ap, ◌∙◌, inl, inr, zero-add}
 use Rattle.std.specs.Prelude.{count_by}
 use Rattle.std.specs.List.{All, AllByRecursion, cons_option, filter_map}
 use Rattle.std.specs.Option.{option_map_or}

@@ -16,7 +16,7 @@ ghost use Rattle.profile_writer.specs.Told.{TellsProgram, TellsSampled};
 
 use crate::counted::ran_of;
 use crate::samples::Samples;
-use crate::tree::{tree_of, tree_with_cold};
+use crate::tree::tree_of;
 use branch_class::{Class, RangeClass};
 use key_types::{Keys, Names, Places, Seg};
 use profile_report::{Classed, Units, class_branches, class_ranges};
@@ -91,7 +91,7 @@ impl Profile {
         names.each_once();
         let branches = class_branches(alloc, samples.branches, places)?;
         let ranges = class_ranges(alloc, samples.ranges, places)?;
-        let tree = tree_of(alloc, &branches, &ranges, places, segments, keys, names)?;
+        let tree = tree_of(alloc, &branches, &ranges, places, segments, 0, keys, names)?;
         Ok(Profile {
             tree,
             branches,
@@ -131,7 +131,10 @@ impl Profile {
         names.each_once();
         let branches = class_branches(alloc, samples.branches, places)?;
         let ranges = class_ranges(alloc, samples.ranges, places)?;
-        let tree = tree_with_cold(alloc, &branches, &ranges, places, segments, keys, names)?;
+        let known = keys.len();
+        let tree = tree_of(
+            alloc, &branches, &ranges, places, segments, known, keys, names,
+        )?;
         Ok(Profile {
             tree,
             branches,

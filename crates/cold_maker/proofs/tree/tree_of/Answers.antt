@@ -1,35 +1,44 @@
-use Rattle.std.proofs.Common.{◌∙◌, length, ap, subst, sym}
-use Rattle.std.specs.List.{AllByRecursion, filter_map}
+use Rattle.std.proofs.Common.{◌∙◌, ap, length, subst, sym}
+use Rattle.std.specs.List.{AllByRecursion}
 use Rattle.std.proofs.lemmas.Result.{IfOk-weaker}
-use Rattle.cold_maker.proofs.BesidesLemmas.{besides_given}
-use Rattle.profile_text.proofs.NumberLemmas.{items_stated}
-use Rattle.cold_maker.proofs.TreeLemmas.{tree_is}
-use Rattle.cold_maker.specs.Besides.{has_mark}
+use Rattle.cold_model.specs.Cold.{cold_lines_of, lines_with}
+use Rattle.profile_laws.specs.Counts.{CountTheSame}
 use Rattle.profile_text.specs.Draft.{IsGivenItem}
-use Rattle.profile_text.specs.Numbers.{call_in, count_in, head_in}
+use Rattle.profile_text.specs.Numbers.{AreNumbersOf, counted}
+use Rattle.profile_tree.specs.Numbers.{numbers_said}
+use Rattle.profile_tree.specs.Said.{ways_said}
+use Rattle.cold_maker.proofs.BesidesLemmas.{cold_lines_are}
+use Rattle.cold_maker.specs.Besides.{first_ways}
 use Rattle.cold_maker.proofs.tree.tree_of.Goals as goal
 
-pub from_counts_with-requires-clause-stated : goal.from_counts_with-requires-clause-stated
-from_counts_with-requires-clause-stated c =
-    let items = c.as_slice-items.ensures in
-    items_stated (length c.args.names.now) c.args.keys.now c.args.part.now.items c.deref-2.result.now c.deref-3.result.now c.deref-5.result.now c.requires.numbers
-    (c.deref-2.ensures.value ∙ c.in_ok-counts.ensures ∙ ap (filter_map count_in) items)
-    (c.deref-3.ensures.value ∙ c.in_ok-calls.ensures ∙ ap (filter_map call_in) items)
-    (c.deref-5.ensures.value ∙ c.in_ok-heads.ensures ∙ ap (filter_map head_in) items)
+pub numbers_of-requires : goal.numbers_of-requires
+numbers_of-requires c =
+    (length c.args.names.now, subst (AreNumbersOf (length c.args.names.now) c.args.keys.now) (sym c.as_slice-items.ensures) c.requires.numbers)
 
-pub from_counts_with-requires-clause-besides : goal.from_counts_with-requires-clause-besides
-from_counts_with-requires-clause-besides c =
-    besides_given c.args.names.now c.args.keys.now c.requires.numbers.key_names c.as_slice-items.result.now c.args.known (has_mark c.args.keys.now c.deref.result.now)
-    c.in_ok-besides.besides.items c.deref-4.result.now
-    (subst (AllByRecursion (IsGivenItem (length c.args.names.now) (length c.args.keys.now))) (sym c.as_slice-items.ensures) c.requires.numbers.given)
-    c.requires.known c.in_ok-besides.ensures c.deref-4.ensures.value
+pub besides_of-requires-clause-given : goal.besides_of-requires-clause-given
+besides_of-requires-clause-given c =
+    subst (AllByRecursion (IsGivenItem (length c.args.names.now) (length c.args.keys.now))) (sym c.as_slice-items.ensures) c.requires.numbers.given
+
+pub besides_of-requires-clause-numbers : goal.besides_of-requires-clause-numbers
+besides_of-requires-clause-numbers c =
+    c.in_ok-numbers.ensures.of (length c.args.names.now) (subst (AreNumbersOf (length c.args.names.now) c.args.keys.now) (sym c.as_slice-items.ensures) c.requires.numbers)
+
+pub tree_of-requires-clause-numbers : goal.tree_of-requires-clause-numbers
+tree_of-requires-clause-numbers c =
+    c.in_ok-numbers.ensures.of (length c.args.names.now) (subst (AreNumbersOf (length c.args.names.now) c.args.keys.now) (sym c.as_slice-items.ensures) c.requires.numbers)
 
 pub returns-clause-lines : goal.returns-clause-lines
 returns-clause-lines c =
-    IfOk-weaker c.from_counts_with.result _ _
+    let names = c.args.names.now in
+    let keys = c.args.keys.now in
+    let items = c.as_slice-items.result.now in
+    let numbers = c.in_ok-numbers.numbers in
+    let ways = first_ways names keys c.args.known in
+    let same : CountTheSame (numbers_said names keys numbers) (counted names keys items) =
+    c.in_ok-numbers.ensures.told names (subst (AreNumbersOf (length names) keys) (sym c.as_slice-items.ensures) c.requires.numbers) in
+    IfOk-weaker c.tree_of.result _ _
     (λ tree is. is
-    ∙ tree_is c.args.names.now c.args.keys.now c.args.part.now.items c.as_slice-items.result.now c.in_ok-marks.marks.items c.deref.result.now c.len.result c.args.known
-    c.deref-4.result.now c.in_ok-besides.besides.items c.deref-2.result.now c.deref-3.result.now c.deref-5.result.now
-    c.each_once.ensures c.requires.numbers.key_names c.requires.numbers.given c.len.ensures c.requires.known c.as_slice-items.ensures c.in_ok-marks.ensures c.deref.ensures.value c.in_ok-besides.ensures c.deref-4.ensures.value
-    (c.deref-2.ensures.value ∙ c.in_ok-counts.ensures) (c.deref-3.ensures.value ∙ c.in_ok-calls.ensures) (c.deref-5.ensures.value ∙ c.in_ok-heads.ensures))
-    c.from_counts_with.ensures.lines
+    ∙ ap (λ ids. lines_with (ways_said names keys ids) (numbers_said names keys numbers)) c.deref.ensures.value
+    ∙ ap (λ besides. lines_with besides (numbers_said names keys numbers)) c.in_ok-besides.ensures.ways
+    ∙ cold_lines_are ways (numbers_said names keys numbers) (counted names keys items) same
+    ∙ ap (λ xs. cold_lines_of ways (counted names keys xs)) c.as_slice-items.ensures) c.tree_of.ensures.lines

@@ -1,22 +1,22 @@
-use Rattle.std.proofs.Common.{◌∙◌, ap, map, subst, sym}
+use Rattle.std.proofs.Common.{◌∙◌, sym}
+use Rattle.std.specs.Prelude.{IfOk, Result, Ok, Err}
 use Rattle.cold_model.proofs.ColdLemmas.{none_besides}
-use Rattle.profile_model.specs.Steps.{hits_by}
-use Rattle.profile_lists.proofs.PlaceLemmas.{counts_are_those_of_places}
-use Rattle.profile_tree.specs.Said.{AreCountsOfPlaces, said}
-use Rattle.profile_tree.specs.Told.{told}
 use Rattle.profile_model.specs.Profile.{lines_of}
+use Rattle.profile_tree.specs.Numbers.{numbers_said}
+use Rattle.profile_tree.specs.Said.{said}
 use Rattle.profile_tree.proofs.counted.build.Goals as goal
 
-pub returns-clause-counts : goal.returns-clause-counts
-returns-clause-counts c =
-    let segments = c.args.segments.now in
-    let hits = hits_by c.args.hits.now in
-    subst (AreCountsOfPlaces segments hits) (sym c.new-2.ensures)
-    (λ key low. counts_are_those_of_places segments hits key _ c.requires.segments (c.in_ok-counts.ensures.counts key low))
+both : {T E : Type 0} (r : Result T E) (P Q R : T → Type 0) → ((x : T) → P x → Q x → R x) → IfOk r P → IfOk r Q → IfOk r R
+both (Ok x) P Q R f p q = f x p q
+both (Err e) P Q R f p q = tt
 
 pub returns-clause-lines : goal.returns-clause-lines
 returns-clause-lines c =
-    ap (map (told c.args.names.now)) c.new.ensures
-    ∙ c.in_ok-lines.ensures.lines
-    ∙ none_besides (said c.args.names.now c.args.keys.now c.deref.result.now c.args.calls.now c.args.heads.now)
-    ∙ ap (λ counts. lines_of (said c.args.names.now c.args.keys.now counts c.args.calls.now c.args.heads.now)) (c.deref.ensures.value ∙ sym c.new-2.ensures)
+    let names = c.args.names.now in
+    let keys = c.args.keys.now in
+    let calls_are = c.in_ok-numbers.ensures.calls ∙ c.in_ok-calls.ensures.items in
+    let heads_are = c.in_ok-numbers.ensures.heads ∙ c.in_ok-heads.ensures.items in
+    both c.tree_of.result _ _ _
+    (λ tree lines counts.
+    lines ∙ none_besides (numbers_said names keys c.in_ok-numbers.numbers)
+    ∙ (λ i. lines_of (said names keys (sym counts i) (calls_are i) (heads_are i)))) c.tree_of.ensures.lines c.tree_of.ensures.counts

@@ -1,24 +1,29 @@
-use Rattle.std.proofs.Common.{◌∙◌}
-use Rattle.profile_writer.proofs.BranchLemmas.{calls_small, heads_small}
-use Rattle.profile_writer.proofs.RanLemmas.{hits_small, none_beyond, on_ok, times_small}
+use Rattle.std.proofs.Common.{◌∙◌, ap, sym}
+use Rattle.cold_model.specs.Cold.{lines_with, standing_lines_of}
+use Rattle.profile_tree.specs.Numbers.{numbers_said}
+use Rattle.profile_tree.specs.Said.{said, ways_said}
+use Rattle.profile_tree.specs.Standing.{first_ways}
 use Rattle.profile_writer.proofs.tree.tree_of.Goals as goal
 
-pub sweep-requires-clause-times : goal.sweep-requires-clause-times
-sweep-requires-clause-times g c = times_small _ c.args.ranges.now (c.deref.ensures.value ∙ c.in_ok-ran_of.ensures) c.requires.few_ranges
+pub standing_keys-requires-clause-numbers : goal.standing_keys-requires-clause-numbers
+standing_keys-requires-clause-numbers g c = record {
+  len = c.in_ok-numbers.ensures.len ∙ c.len.ensures;
+  given = rw (c.in_ok-numbers.ensures.calls, c.in_ok-numbers.ensures.heads) c.requires.given;
+}
 
-pub build-requires-clause-hits : goal.build-requires-clause-hits
-build-requires-clause-hits g c = hits_small _ _ c.args.ranges.now c.in_ok-hits.ensures (c.deref.ensures.value ∙ c.in_ok-ran_of.ensures) c.requires.few_ranges
+pub tree_of-requires-clause-numbers : goal.tree_of-requires-clause-numbers
+tree_of-requires-clause-numbers g c = record {
+  len = c.in_ok-numbers.ensures.len ∙ c.len.ensures;
+  given = rw (c.in_ok-numbers.ensures.calls, c.in_ok-numbers.ensures.heads) c.requires.given;
+}
 
-pub build-requires-clause-given : goal.build-requires-clause-given
-build-requires-clause-given g c =
-    rw (c.deref-2.ensures.value, c.in_ok-calls.ensures, c.deref-3.ensures.value, c.in_ok-heads.ensures) c.requires.given
-
-pub build-requires-clause-call_sums : goal.build-requires-clause-call_sums
-build-requires-clause-call_sums g c = calls_small _ _ c.args.branches.now (c.deref-2.ensures.value ∙ c.in_ok-calls.ensures) c.requires.few_branches
-
-pub build-requires-clause-head_sums : goal.build-requires-clause-head_sums
-build-requires-clause-head_sums g c = heads_small _ c.args.branches.now (c.deref-3.ensures.value ∙ c.in_ok-heads.ensures) c.requires.few_branches
-
-pub returns-clause-beyond : goal.returns-clause-beyond
-returns-clause-beyond g c =
-    on_ok c.build.result _ (none_beyond c.in_ok-hits.hits _ c.args.ranges.now c.in_ok-hits.ensures (c.deref.ensures.value ∙ c.in_ok-ran_of.ensures))
+pub returns-clause-lines : goal.returns-clause-lines
+returns-clause-lines g c =
+    let names = c.args.names.now in
+    let keys = c.args.keys.now in
+    let numbers = c.in_ok-numbers.numbers in
+    c.in_ok-tree.ensures.lines
+    ∙ ap (λ ids. lines_with (ways_said names keys ids) (numbers_said names keys numbers)) c.deref.ensures.value
+    ∙ ap (λ ways. lines_with ways (numbers_said names keys numbers)) c.in_ok-besides.ensures.ways
+    ∙ (λ i. standing_lines_of (first_ways names keys c.args.known)
+    (said names keys (sym c.in_ok-tree.ensures.counts i) (c.in_ok-numbers.ensures.calls i) (c.in_ok-numbers.ensures.heads i)))

@@ -1,4 +1,5 @@
 use Rattle.std.proofs.Common.{◌∙◌}
+use Rattle.cold_model.proofs.ColdLemmas.{none_besides}
 use Rattle.profile_writer.proofs.BranchLemmas.{rows_given}
 use Rattle.profile_writer.proofs.OutputLemmas.{profile_alike}
 use Rattle.profile_writer.proofs.RanLemmas.{ran_in_forward}
@@ -21,6 +22,6 @@ returns-clause-told g c = λ program sampled shown rows.
     c.args.samples.now.branches.now c.args.samples.now.ranges.now c.args.samples.now.units rows
     c.deref.result.now (c.deref.ensures.value ∙ c.in_ok-branches.ensures) c.deref-2.result.now (c.deref-2.ensures.value ∙ c.in_ok-ranges.ensures)
     c.each_once-2.ensures c.each_once.ensures c.requires.key_names
-    c.in_ok-tree.tree.lines c.in_ok-tree.tree.counts c.in_ok-tree.ensures.lines c.in_ok-tree.ensures.len
+    c.in_ok-tree.tree.lines c.in_ok-tree.tree.counts (c.in_ok-tree.ensures.lines ∙ none_besides _) c.in_ok-tree.ensures.len
     c.in_ok-tree.ensures.counts c.in_ok-tree.ensures.beyond
     c.in_ok-branches.branches.items c.in_ok-branches.ensures c.in_ok-ranges.ranges.items c.in_ok-ranges.ensures

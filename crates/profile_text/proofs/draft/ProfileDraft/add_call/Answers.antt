@@ -3,7 +3,7 @@ use Rattle.profile_tree.specs.Steps.{at_call}
 use Rattle.profile_text.proofs.CallLemmas.{call_again, call_read}
 use Rattle.profile_text.proofs.CauseLemmas.{cause_by_depth, stands_free}
 use Rattle.profile_text.specs.Draft.{IsOpened}
-use Rattle.profile_text.proofs.draft.Draft.add_call.Goals as goal
+use Rattle.profile_text.proofs.draft.ProfileDraft.add_call.Goals as goal
 
 pub returns-in-Some : goal.returns-in-Some
 returns-in-Some c = record {

@@ -2,7 +2,7 @@ use Rattle.std.proofs.Common.{sym, ◌∙◌, length, map, refl}
 use Rattle.profile_text.proofs.BodyLemmas.{body_again, body_twice, body_read, old_stamps, judged_by_targets}
 use Rattle.profile_text.proofs.CauseLemmas.{cause_by_depth, stands_free}
 use Rattle.profile_text.specs.Said.{pair_of}
-use Rattle.profile_text.proofs.draft.Draft.add_body.Goals as goal
+use Rattle.profile_text.proofs.draft.ProfileDraft.add_body.Goals as goal
 
 pub returns-in-Some : goal.returns-in-Some
 returns-in-Some c = λ before numbers is.

@@ -3,7 +3,7 @@ use Rattle.profile_tree.specs.Steps.{at_function}
 use Rattle.profile_text.proofs.FunctionLemmas.{function_again, function_read}
 use Rattle.profile_text.proofs.OpenLemmas.{kept_grows}
 use Rattle.profile_text.specs.Draft.{IsOpened}
-use Rattle.profile_text.proofs.draft.Draft.add_function.Goals as goal
+use Rattle.profile_text.proofs.draft.ProfileDraft.add_function.Goals as goal
 
 pub returns-then-not-branch : goal.returns-then-not-branch
 returns-then-not-branch c =

@@ -1,6 +1,6 @@
 use Rattle.std.proofs.Common.{◌∙◌}
 use Rattle.profile_merge.proofs.RowLemmas.{padded_reads}
-use Rattle.profile_merge.proofs.row.Row.padded.Goals as goal
+use Rattle.profile_merge.proofs.row.SumRow.padded.Goals as goal
 
 pub returns-clause-reads : goal.returns-clause-reads
 returns-clause-reads c =

@@ -1,24 +1,26 @@
-"""The clauses of the top call stand in both programs, word for word."""
+"""The clauses of `pgo_run::run`, which the specification names, are those of the top call of both programs, word for word."""
 import re
 import unittest
 
 from common import TOP
 
 
-def clauses(path, command):
-    """The clauses of `run` in this file by their names, where the words of `command` spell what is asked for."""
+def clauses(path, asked, answered):
+    """The clauses of a file's top call by their names, where `asked` is what its words ask for and `answered` what they come to."""
     text = (TOP / path).read_text(encoding="utf-8")
-    head = text[text.index("pub fn run<"):]
-    head = re.sub(r"//[^\n]*", "", head[:head.index("\n{\n")]).replace(command, "COMMAND")
-    return {name: " ".join(fact.split()) for name, fact in re.findall(r"ensures (\w+) \{(.*?)\}\s*(?=ensures|$)", head, re.S)}
+    head = text[re.search(r"^pub fn run\w*<", text, re.M).start():]
+    head = re.sub(r"//[^\n]*", "", head[:head.index("\n{\n")])
+    head = " ".join(head.replace(answered, "ANSWER").replace(asked, "ASKED").replace("TheCommand", "Command").split())
+    return {name: fact.strip() for name, fact in re.findall(r"ensures (\w+) \{(.*?)\}\s*(?=ensures|$)", head)}
 
 
 class Clauses(unittest.TestCase):
-    def test_both_programs_promise_the_same(self):
-        pgo = clauses("crates/pgo_run/src/program.rt", "command_of")
-        cold = clauses("crates/pgo_cold/src/program.rt", "cold_of")
+    def test_pgo_promises_what_both_programs_do(self):
+        pgo = clauses("crates/pgo_run/src/program.rt", "command_of (texts_of words.now)", "answer_of files (texts_of words.now)")
+        both = clauses("crates/program_edge/src/top_call.rt", "P.asked (texts_of words.now)",
+                       "answer_of_words files (P.asked (texts_of words.now))")
         self.assertEqual(len(pgo), 16)
-        self.assertEqual(pgo, cold)
+        self.assertEqual(pgo, both)
 
 
 if __name__ == "__main__":

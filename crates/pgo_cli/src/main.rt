@@ -1,5 +1,5 @@
-//! The program `pgo`: hands its words, the system's files and the standard output to the top call,
-//! prints the status on the error output, and ends with the status's code.
+//! The program `pgo`: `main` hands its words, the system's files and the standard output to the top
+//! call, `pgo_run::run`, prints the status on the error output, and ends with the status's code.
 //!
 //! `--help` (or `-h`) and `--version`, as the only word, and `--help` with the name of a command or
 //! of a kind of refusal are answered here.
@@ -9,42 +9,34 @@ mod about;
 mod remedies;
 mod topics;
 
-use io_edge::{FileInputs, StdSink, write_all};
-use pgo_run::{LINE_ROOM, Status, run, status_line};
-use program_words::{WordsStop, read_words};
-use std::io;
+use io_edge::{Inputs, Sink};
+use pgo_run::{LINE_ROOM, Status};
+use program_main::{Called, main_of};
+use std::alloc::Global;
 use std::process::ExitCode;
-use std::rt::{Env, Files};
 
 fn main(rt: HostRuntime) -> ExitCode {
-    let status = answer(&rt);
-    report(&rt, &status);
-    ExitCode::from(status.code())
+    main_of::<Pgo, _>(&rt)
 }
 
-/// Carries out the program's words.
-fn answer<R: AllocGlobal + Env + Files + Print>(rt: &R) -> Status {
-    let alloc = rt.alloc();
-    let words = match read_words(rt, alloc) {
-        Ok(words) => words,
-        Err(WordsStop::NoMemory) => return Status::NoMemory,
-        Err(WordsStop::TooLong) => return Status::Usage,
-    };
-    let mut out = StdSink::new(io::writer(rt));
-    match about::answer_to(&words) {
-        Some(text) => match write_all(&mut out, text) {
-            Ok(()) => Status::Done,
-            Err(_) => Status::WriteFault,
-        },
-        None => run(alloc, &words, &mut FileInputs::new(rt), &mut out),
+/// The program `pgo`.
+struct Pgo;
+
+impl Called for Pgo {
+    fn answer_to(words: &[Vec<u8>]) -> Option<&'static [u8]> {
+        about::answer_to(words)
     }
-}
 
-/// Prints the status's line. Nothing can be said where even that fails; the exit status tells.
-fn report(rt: &impl Eprint, status: &Status) {
-    let mut line = [0; LINE_ROOM];
-    let len = status_line(status, &mut line);
-    if let Ok(text) = str::from_utf8(&line[..len]) {
-        let _ = rt.eprint(text);
+    fn run<I: Inputs, O: Sink>(
+        alloc: Global,
+        words: &[Vec<u8>],
+        inputs: &mut I,
+        out: &mut O,
+    ) -> Status {
+        pgo_run::run(alloc, words, inputs, out)
+    }
+
+    fn status_line(status: &Status, buf: &mut [u8; LINE_ROOM]) -> usize {
+        pgo_run::status_line(status, buf)
     }
 }

@@ -1,8 +1,8 @@
 // What is said on the error output.
 ghost use Rattle.std.specs.Prelude.{◌≡◌, ◌≤◌, length, take};
-ghost use Rattle.pgo_cold.specs.Run.{text_of};
+ghost use Rattle.pgo_cold.specs.Status.{text_of};
 
-use pgo_run::{LINE_ROOM, Status};
+use program_edge::{LINE_ROOM, Status};
 
 /// The line for words that ask for nothing that the program does.
 const USAGE: &[u8] =
@@ -15,11 +15,5 @@ pub(crate) fn status_line(status: &Status, buf: &mut [u8; LINE_ROOM]) -> usize
     ensures length { result ≡ length (text_of status.now) }
     ensures text { take result buf.new ≡ text_of status.now }
 {
-    match status {
-        Status::Usage => {
-            buf[..USAGE.len()].copy_from_slice(USAGE);
-            USAGE.len()
-        }
-        _ => pgo_run::status_line(status, buf),
-    }
+    program_edge::status_line(USAGE, status, buf)
 }

@@ -1,14 +1,9 @@
 -- A block text that was read, and what is written of it with the others.
-use Rattle.std.proofs.Common.{◌≡◌, ◌≤◌, ◌^◌, ℕ, Bool, true, false, nat_lt, List, [], ◌∷◌, length, map, Option, None, Some, Result, Bor, refl, ap, subst, sym, ◌∙◌, arith}
-use Rattle.std.specs.Prelude.{IfSome, if◌then◌else◌}
+use Rattle.std.proofs.Common.{◌≡◌, ◌≤◌, ◌^◌, ℕ, Bool, true, List, [], ◌∷◌, length, map, Option, None, Some, Bor, ap, subst, sym, ◌∙◌, arith}
 use Rattle.std.specs.List.{All}
 use Rattle.std.specs.Option.{option_map}
 use Rattle.std.proofs.lemmas.List.{length-append, length-map}
 use Rattle.std.proofs.lemmas.List.Elements.{All-cons, All-head, All-nil, All-tail}
-use Rattle.refusal.specs.declared.kind.Kind.TheVariants.{FileTooLarge}
-use Rattle.refusal.specs.declared.place.Place.{Place}
-use Rattle.refusal.specs.declared.place.Stop.{Stop}
-use Rattle.refusal.specs.Place.{JudgesUnlessNoMemory, first_bad, size_item}
 use Rattle.text_model.specs.Lines.{lines_of}
 use Rattle.load_model.specs.declared.load_segment.LoadSegment.{LoadSegment}
 use Rattle.sample_model.specs.Moves.{LoadMap}
@@ -27,24 +22,8 @@ use Rattle.sound_text.proofs.TextLemmas.{good_texts_are_sound}
 use Rattle.output_model.specs.Output.{sampled_by}
 use Rattle.output_model.specs.Program.{program_of}
 use Rattle.output_model.specs.Scaled.{IsBuiltBy, IsBuiltOf}
-use Rattle.io_edge.specs.Inputs.{Store}
-use Rattle.command_model.specs.Files.{Asked, first_bad_of_blocks, max_block_bytes, named}
-use Rattle.pgo_run.specs.Halt.{IfAnswers}
-use Rattle.pgo_run.specs.Output.{EndsAt}
-use Rattle.pgo_run.specs.declared.halt.Halt.{Halt}
-use Rattle.pgo_run.proofs.ProfileLemmas.{same-loading}
-use Rattle.pgo_run.proofs.UnreadLemmas.{alone, not_above}
-
--- A block text within its size is judged by its lines.
-pub judged_by_lines : (file : ℕ) (text : List ℕ) → length text ≤ max_block_bytes → first_bad_of_blocks file text ≡ first_bad_of_text file text
-unfolding first_bad_of_blocks
-judged_by_lines file text within =
-    ap (λ b. first_bad ((if b then Some (record { file = file; at = max_block_bytes; kind = FileTooLarge }) else None) ∷ first_bad_of_text file text ∷ [])) (not_above (length text) max_block_bytes within)
-    ∙ alone (first_bad_of_text file text)
-
-pub blocks_judged : {T : Type 0} (file : ℕ) (text : List ℕ) (r : Result T Stop) (P : T → Type 0) → length text ≤ max_block_bytes
-    → JudgesUnlessNoMemory (first_bad_of_text file text) r P → JudgesUnlessNoMemory (first_bad_of_blocks file text) r P
-blocks_judged file text r P within judges = subst (λ bad. JudgesUnlessNoMemory bad r P) (sym (judged_by_lines file text within)) judges
+use Rattle.command_model.specs.Files.{max_block_bytes}
+use Rattle.program_edge.proofs.SamplesLemmas.{same-loading}
 
 -- What holds of each function of a good text holds of each that was read.
 pub all_unmapped : {X Y : Type 0} (P : Y → Type 0) (f : X → Y) (xs : List X) → All P (map f xs) → All (λ x. P (f x)) xs
@@ -98,16 +77,3 @@ built bytes base binary map_to loads counts text blocks out edges scaled funs is
     let with_funs = made bytes base (option_map (λ name. record { name = name.now; segments = loads }) map_to) (lines_of text) is ranged tells in
     subst (λ l. IsBuiltBy scaled edges (program_of bytes base) (sampled_by l bytes (lines_of text)) (functions_of blocks) out) (same-loading map_to loads bytes (same ∙ is.loads_are))
     (subst (λ fs. IsBuiltBy scaled edges (program_of bytes base) (sampled_by (option_map (λ name. record { name = name.now; segments = loads }) map_to) bytes (lines_of text)) fs out) are with_funs)
-
--- ---- file 3, behind the two
-
-abbrev pub asked_blocks : List ℕ → Asked
-asked_blocks name = record { source = named name; judge = λ before. first_bad_of_blocks 3 }
-
--- What is said of the store at one time holds of it at another.
-pub there-behind : (store was : Option Store) (name bytes : List ℕ) → was ≡ store → IfSome was (λ files. files name ≡ Some bytes) → IfSome store (λ files. files name ≡ Some bytes)
-there-behind store was name bytes same is = subst (λ s. IfSome s (λ files. files name ≡ Some bytes)) same is
-
-pub ends-behind : (store was : Option Store) (name : List ℕ) (h : Halt) → was ≡ store
-    → IfSome was (λ files. IfAnswers h (EndsAt 3 (files name) (first_bad_of_blocks 3))) → IfSome store (λ files. IfAnswers h (EndsAt 3 (files name) (first_bad_of_blocks 3)))
-ends-behind store was name h same there = subst (λ s. IfSome s (λ files. IfAnswers h (EndsAt 3 (files name) (first_bad_of_blocks 3)))) same there

@@ -1,13 +1,7 @@
 -- A repair text that was read beside the functions of a block text, and what `check` says of it.
-use Rattle.std.proofs.Common.{◌≡◌, ◌≤◌, ◌<◌, ◌^◌, ℕ, true, false, nat_lt, List, [], ◌∷◌, length, map, Option, None, Some, Result, refl, ap, subst, sym, ◌∙◌, arith}
-use Rattle.std.specs.Prelude.{IfSome, if◌then◌else◌}
+use Rattle.std.proofs.Common.{◌≡◌, ◌≤◌, ◌^◌, ℕ, List, length, map, Option, None, ap, subst, sym, ◌∙◌, arith}
 use Rattle.std.specs.List.{AllZip}
 use Rattle.std.proofs.lemmas.List.{length-map}
-use Rattle.refusal.specs.declared.kind.Kind.TheVariants.{FileTooLarge}
-use Rattle.refusal.specs.declared.place.Place.{Place}
-use Rattle.refusal.specs.declared.place.Stop.{Stop}
-use Rattle.refusal.specs.Place.{JudgesUnlessNoMemory, first_bad, size_item}
-use Rattle.io_edge.specs.Inputs.{Store}
 use Rattle.block_model.specs.Function.{Function}
 use Rattle.block_model.specs.Text.{functions_of}
 use Rattle.cfg_text.specs.declared.fun.Fun.{Fun}
@@ -19,29 +13,12 @@ use Rattle.repair_model.specs.Repair.{Repair}
 use Rattle.repair_model.specs.Text.{repairs_of}
 use Rattle.repair_model.proofs.WholeLemmas.{good_repairs_are_whole}
 use Rattle.command_model.specs.Check.{checked_text}
-use Rattle.command_model.specs.Files.{Asked, first_bad_of_repair_text, functions_in, max_repair_bytes, named}
-use Rattle.pgo_run.proofs.UnreadLemmas.{alone, not_above}
+use Rattle.command_model.specs.Files.{first_bad_of_repair_text, max_repair_bytes}
+use Rattle.program_edge.proofs.SizedLemmas.{Sized, sized-repairs}
 
-abbrev pub asked_repairs : List ℕ → Asked
-asked_repairs name = record { source = named name; judge = λ before. first_bad_of_repair_text 2 (functions_in 0 before) }
-
--- What is said of the store at one time holds of it at another.
-pub said-behind : (P : Store → Type 0) (store was : Option Store) → was ≡ store → IfSome was P → IfSome store P
-said-behind P store was same is = subst (λ s. IfSome s P) same is
-
--- A repair text within its size is judged by its lines.
-pub repairs_by_lines : (file : ℕ) (funs told : List Function) (text : List ℕ) → length text ≤ max_repair_bytes → told ≡ funs
-    → first_bad_of_repair_text file funs text ≡ first_bad_of_repairs file told text
-unfolding first_bad_of_repair_text
-repairs_by_lines file funs told text within same =
-    ap (λ b. first_bad ((if b then Some (record { file = file; at = max_repair_bytes; kind = FileTooLarge }) else None) ∷ first_bad_of_repairs file funs text ∷ [])) (not_above (length text) max_repair_bytes within)
-    ∙ alone (first_bad_of_repairs file funs text) ∙ ap (λ fs. first_bad_of_repairs file fs text) (sym same)
-
-pub repairs_judged : {T : Type 0} (file : ℕ) (funs told : List Function) (text : List ℕ) (r : Result T Stop) (P : T → Type 0)
-    → length text ≤ max_repair_bytes → told ≡ funs
-    → JudgesUnlessNoMemory (first_bad_of_repairs file told text) r P → JudgesUnlessNoMemory (first_bad_of_repair_text file funs text) r P
-repairs_judged file funs told text r P within same judges =
-    subst (λ bad. JudgesUnlessNoMemory bad r P) (sym (repairs_by_lines file funs told text within same)) judges
+-- A repair text within its size is judged by its lines, beside the functions that were read.
+pub sized-told : (funs told : List Function) → told ≡ funs → Sized 2 max_repair_bytes (first_bad_of_repair_text 2 funs) (first_bad_of_repairs 2 told)
+sized-told funs told same = subst (λ fs. Sized 2 max_repair_bytes (first_bad_of_repair_text 2 funs) (first_bad_of_repairs 2 fs)) (sym same) (sized-repairs 2 funs)
 
 -- All of each function is told in a good text.
 pub told_whole : (file : ℕ) (funs : List Function) (text : List ℕ) (told : List (ℕ × Repair)) → length text ≤ max_repair_bytes

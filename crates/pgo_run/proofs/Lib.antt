@@ -1,10 +1,4 @@
-pub mod BranchTextLemmas
 pub mod BuildLemmas
 pub mod CheckLemmas
-pub mod Examples
-pub mod LiftLemmas
 pub mod MakeLemmas
 pub mod MergeLemmas
-pub mod ProfileLemmas
-pub mod ReachedLemmas
-pub mod UnreadLemmas

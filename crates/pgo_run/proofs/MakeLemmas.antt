@@ -1,5 +1,5 @@
 -- What is made of a generated case, whose files come from no store.
-use Rattle.std.proofs.Common.{◌≡◌, ◌≤◌, ◌<◌, ℕ, Bool, true, false, List, [], ◌∷◌, length, map, take, Option, None, Some, Result, Ok, Err, refl, sym, ap, subst, ◌∙◌, arith}
+use Rattle.std.proofs.Common.{◌≡◌, ◌≤◌, ◌<◌, ℕ, true, false, List, [], ◌∷◌, map, take, Option, None, Some, Result, Ok, Err, refl, sym, ap, subst, ◌∙◌, arith}
 use Rattle.std.specs.Prelude.{IfSome}
 use Rattle.std.specs.List.{All}
 use Rattle.std.specs.Global.{Vec}
@@ -11,7 +11,6 @@ use Rattle.refusal.specs.declared.place.Stop.TheVariants as stop
 use Rattle.text_model.specs.Lines.{lines_of}
 use Rattle.io_edge.specs.Inputs.{Store}
 use Rattle.sample_model.specs.Judging.{first_bad_of_text}
-use Rattle.sample_model.specs.Moves.{LoadMap}
 use Rattle.branch_counts.specs.Tally.{Tally, Tells}
 use Rattle.binary_model.specs.Binary.{first_bad_of_binary}
 use Rattle.binary_places.specs.declared.binary.Binary.{Binary}
@@ -21,21 +20,19 @@ use Rattle.block_model.specs.Text.{functions_of}
 use Rattle.cfg_text.specs.declared.fun.Fun.{Fun}
 use Rattle.cfg_text.specs.Fun.{function_of}
 use Rattle.flow_model.specs.Sound.{IsSound}
-use Rattle.output_model.specs.Output.{sampled_by}
-use Rattle.output_model.specs.Program.{program_of}
-use Rattle.output_model.specs.Summary.{IsSummary, IsSummaryOf}
-use Rattle.command_model.specs.Answer.{Answer, answer_of_command, in_file, refused, unless_bad, writes}
+use Rattle.output_model.specs.Summary.{IsSummaryOf}
+use Rattle.command_model.specs.Answer.{Answer, answer_of_command, in_file, unless_bad, writes}
 use Rattle.command_model.specs.Command.{Command, CaseFile, bin_file, cfg_file, make, make_sum, perf_file}
 use Rattle.command_model.specs.Files.{files_of, first_bad_of_blocks, max_block_bytes}
 use Rattle.command_model.specs.Make.{case_file}
-use Rattle.pgo_run.specs.Halt.{judged_in}
-use Rattle.pgo_run.specs.Opens.{opens_behind, opens_of}
-use Rattle.pgo_run.specs.Output.{Carries}
-use Rattle.pgo_run.specs.declared.halt.Halt.{Halt}
-use Rattle.pgo_run.specs.declared.halt.Halt.TheVariants.{CheckFailed, NoSuchFile, Refused, ReadFault, NoMemory}
+use Rattle.program_edge.specs.Halt.{judged_in}
+use Rattle.program_edge.specs.Opens.{opens_behind, opens_of}
+use Rattle.program_edge.specs.Output.{Carries}
+use Rattle.program_edge.specs.declared.halt.Halt.{Halt}
+use Rattle.program_edge.specs.declared.halt.Halt.TheVariants.{Refused, NoMemory}
 use Rattle.pgo_run.proofs.BuildLemmas.{read_soundly}
-use Rattle.pgo_run.proofs.UnreadLemmas.{alone}
-use Rattle.pgo_run.proofs.ReachedLemmas.{carried}
+use Rattle.program_edge.proofs.SizedLemmas.{alone}
+use Rattle.program_edge.proofs.ReachedLemmas.{carried}
 
 -- What holds of each store.
 in-any : {P : Store → Type 0} (store : Option Store) → ((files : Store) → P files) → IfSome store P

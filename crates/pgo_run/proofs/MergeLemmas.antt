@@ -1,49 +1,27 @@
 -- Profile texts that were read, and sums of several.
 use Rattle.std.proofs.Common.{◌≡◌, ◌≤◌, ◌<◌, ◌+◌, ℕ, zero, suc, List, [], ◌∷◌, ◌++◌, drop, length, map, Option, None, Some, Result, Ok, Err, refl, ap, subst, sym, ◌∙◌, arith, add-one, drop-cons, get_or}
-use Rattle.std.specs.Prelude.{IfSome, IsSome, MatchOption, if◌then◌else◌}
+use Rattle.std.specs.Prelude.{IfSome, IsSome, MatchOption}
 use Rattle.std.specs.Global.{Vec}
 use Rattle.std.specs.List.{zip}
 use Rattle.std.specs.Result.{IsErrAnd}
 use Rattle.std.proofs.lemmas.List.{drop_all, length-append}
-use Rattle.refusal.specs.declared.kind.Kind.TheVariants.{FileTooLarge}
 use Rattle.refusal.specs.declared.place.Place.{Place}
 use Rattle.refusal.specs.declared.place.Stop.{Stop}
-use Rattle.refusal.specs.Place.{JudgesUnlessNoMemory, first_bad}
+use Rattle.refusal.specs.Place.{JudgesUnlessNoMemory}
 use Rattle.io_edge.specs.Faults.{raised}
 use Rattle.io_edge.specs.Inputs.{Store}
-use Rattle.profile_model.specs.Judging.{first_bad_of_profile}
 use Rattle.profile_model.specs.Merge.{first_bad_of_summed, merge_text, merged}
-use Rattle.profile_model.specs.Profile.{Profile}
 use Rattle.merge_maker.specs.Merge.{State, HasRoom, IsMergeOf}
 use Rattle.command_model.specs.Command.{max_parts, merge as merge_command}
 use Rattle.command_words.specs.Words.{told_weighed}
 use Rattle.command_words.specs.declared.command.Part.{Part}
-use Rattle.command_model.specs.Files.{asked_part, first_bad_of_part, first_bad_of_profile_text, max_profile_bytes, named, weighed_texts}
-use Rattle.pgo_run.specs.Halt.{IfAnswers, halt_of_stop, judged_in}
+use Rattle.command_model.specs.Files.{asked_part, first_bad_of_part, max_profile_bytes, named, weighed_texts}
+use Rattle.program_edge.specs.Halt.{IfAnswers, halt_of_stop, judged_in}
 use Rattle.pgo_run.specs.Merge.{AddsFile, IsAdded}
-use Rattle.pgo_run.specs.Output.{Carries, EndsAt, HasFileCause}
-use Rattle.pgo_run.specs.declared.halt.Halt.{Halt}
-use Rattle.pgo_run.proofs.UnreadLemmas.{alone, not_above}
-use Rattle.pgo_run.proofs.ReachedLemmas.{Reached, Reached-all, Reached-more, Reached-no-memory, Reached-start, Reached-stop, any-store, handed-on, is-good, judged-ends, there-ends}
-
--- ---- a text within its size is judged by its lines
-
-pub profile_by_lines : (file : ℕ) (text : List ℕ) → length text ≤ max_profile_bytes → first_bad_of_profile_text file text ≡ first_bad_of_profile file text
-unfolding first_bad_of_profile_text
-profile_by_lines file text within =
-    ap (λ b. first_bad ((if b then Some (record { file = file; at = max_profile_bytes; kind = FileTooLarge }) else None) ∷ first_bad_of_profile file text ∷ [])) (not_above (length text) max_profile_bytes within)
-    ∙ alone (first_bad_of_profile file text)
-
-pub profile_judged : {T : Type 0} (file : ℕ) (text : List ℕ) (r : Result T Stop) (P : T → Type 0) → length text ≤ max_profile_bytes
-    → JudgesUnlessNoMemory (first_bad_of_profile file text) r P → JudgesUnlessNoMemory (first_bad_of_profile_text file text) r P
-profile_judged file text r P within judges = subst (λ bad. JudgesUnlessNoMemory bad r P) (sym (profile_by_lines file text within)) judges
-
-part_by_lines : (file weight : ℕ) (before : Profile) (text : List ℕ) → length text ≤ max_profile_bytes
-    → first_bad_of_part file weight before text ≡ first_bad_of_summed file weight before text
-unfolding first_bad_of_part
-part_by_lines file weight before text within =
-    ap (λ b. first_bad ((if b then Some (record { file = file; at = max_profile_bytes; kind = FileTooLarge }) else None) ∷ first_bad_of_summed file weight before text ∷ [])) (not_above (length text) max_profile_bytes within)
-    ∙ alone (first_bad_of_summed file weight before text)
+use Rattle.program_edge.specs.Output.{Carries, EndsAt, HasFileCause}
+use Rattle.program_edge.specs.declared.halt.Halt.{Halt}
+use Rattle.program_edge.proofs.SizedLemmas.{judged-sized, sized-part}
+use Rattle.program_edge.proofs.ReachedLemmas.{Reached, Reached-all, Reached-more, Reached-no-memory, Reached-start, Reached-stop, any-store, handed-on, is-good, judged-ends, there-ends}
 
 -- A file that was read and judged behind texts was added, or ends the command.
 added-by : (store : Option Store) (k : ℕ) (part : ℕ × List ℕ) (texts : List (ℕ × List ℕ)) (text : List ℕ) (judged : Result (Unit {0}) Stop) (after : State)
@@ -51,11 +29,11 @@ added-by : (store : Option Store) (k : ℕ) (part : ℕ × List ℕ) (texts : Li
     → JudgesUnlessNoMemory (first_bad_of_summed k part.0 (merged texts) text) judged (λ done. IsMergeOf after (texts ++ (part.0, text) ∷ []))
     → AddsFile store k part texts (judged_in k judged) after
 added-by store k part texts text (Ok done) after there within judges =
-    record { text = text; there = there; good = part_by_lines k part.0 (merged texts) text within ∙ judges.0; summed = judges.1 }
+    record { text = text; there = there; good = (sized-part k part.0 (merged texts)).by_content text within ∙ judges.0; summed = judges.1 }
 added-by store k part texts text (Err stop) after there within judges =
     let P : Unit {0} → Type 0 = λ done. IsMergeOf after (texts ++ (part.0, text) ∷ []) in
     let sized : JudgesUnlessNoMemory {T = Unit {0}} (first_bad_of_part k part.0 (merged texts) text) (Err stop) P =
-    subst (λ bad. JudgesUnlessNoMemory {T = Unit {0}} bad (Err stop) P) (sym (part_by_lines k part.0 (merged texts) text within)) judges in
+    judged-sized {T = Unit {0}} (Err stop) P (sized-part k part.0 (merged texts)) text within judges in
     there-ends store part.1 text k (first_bad_of_part k part.0 (merged texts)) (halt_of_stop k stop) there
     (judged-ends {T = Unit {0}} k (first_bad_of_part k part.0 (merged texts) text) (Err stop) P (halt_of_stop k stop) sized refl)
 

@@ -1,8 +1,6 @@
-pub mod BranchText
-pub mod Halt
 pub mod Merge
-pub mod Opens
-pub mod Output
-pub mod Run
-pub mod Samples
 pub mod Status
+pub use Rattle.program_edge.specs.Halt
+pub use Rattle.program_edge.specs.Opens
+pub use Rattle.program_edge.specs.Output
+pub use Rattle.program_edge.specs.Run

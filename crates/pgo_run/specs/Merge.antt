@@ -4,9 +4,9 @@ use Rattle.profile_model.specs.Merge.{merged}
 use Rattle.io_edge.specs.Inputs.{Store}
 use Rattle.merge_maker.specs.Merge.{State, IsMergeOf}
 use Rattle.command_model.specs.Files.{first_bad_of_part}
-use Rattle.pgo_run.specs.Halt.{IfAnswers}
-use Rattle.pgo_run.specs.Output.{EndsAt}
-use Rattle.pgo_run.specs.declared.halt.Halt.{Halt}
+use Rattle.program_edge.specs.Halt.{IfAnswers}
+use Rattle.program_edge.specs.Output.{EndsAt}
+use Rattle.program_edge.specs.declared.halt.Halt.{Halt}
 
 -- The k-th file, with its weight and its name, is there and good behind these texts, and was summed.
 pub record IsAdded

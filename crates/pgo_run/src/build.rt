@@ -2,15 +2,13 @@
 ghost use Rattle.std.specs.Prelude.{◌≡◌};
 ghost use Rattle.command_model.specs.Command.{build as build_command};
 ghost use Rattle.command_words.specs.Words.{told_options};
-ghost use Rattle.pgo_run.specs.Output.{Carries};
+ghost use Rattle.program_edge.specs.Output.{Carries};
 
-use crate::halt::{Halt, in_file};
-use crate::order::{MAX_BINARY_BYTES, MAX_BLOCK_BYTES, read_file};
-use crate::samples::sampled;
 use binary_places::read;
 use build_maker::build;
 use command_words::Options;
 use io_edge::Inputs;
+use program_edge::{Halt, MAX_BINARY_BYTES, MAX_BLOCK_BYTES, in_file, read_file, sampled};
 use std::alloc::Global;
 
 /// What `build` writes for the binary, the branch text and the block text in these files.

@@ -1,12 +1,11 @@
 // `check`: whether the repairs of a repair text keep what they promise.
 ghost use Rattle.std.specs.Prelude.{◌≡◌};
 ghost use Rattle.command_model.specs.Command.{check as check_command};
-ghost use Rattle.pgo_run.specs.Output.{Carries};
+ghost use Rattle.program_edge.specs.Output.{Carries};
 
-use crate::halt::{Halt, in_file};
-use crate::order::{MAX_BLOCK_BYTES, MAX_REPAIR_BYTES, read_file};
 use answer_text::checked_text;
 use io_edge::Inputs;
+use program_edge::{Halt, MAX_BLOCK_BYTES, MAX_REPAIR_BYTES, in_file, read_file};
 use repair_check::failed_line;
 use std::alloc::Global;
 

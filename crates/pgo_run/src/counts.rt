@@ -1,14 +1,13 @@
 // `counts`: the branches of a branch text, each with how often it was taken.
-ghost use Rattle.std.specs.Prelude.{◌≡◌};
+ghost use Rattle.std.specs.Prelude.{◌≡◌, None};
 ghost use Rattle.command_model.specs.Command.{counts as counts_command};
-ghost use Rattle.pgo_run.specs.Output.{Carries};
+ghost use Rattle.program_edge.specs.Output.{Carries, TakesFile};
+ghost use Rattle.program_edge.specs.Samples.{CountsFile};
 
-use crate::branch_text::count_text;
-use crate::halt::Halt;
-use crate::order::open_file;
 use answer_text::counts_text;
 use branch_stacks::{Counts, Reader};
 use io_edge::Inputs;
+use program_edge::{Halt, count_text, open_file};
 use std::alloc::Global;
 
 /// What `counts` writes for the branch text in this file.
@@ -20,9 +19,20 @@ pub(crate) fn output<I: Inputs>(alloc: Global, perf: &[u8], inputs: &mut I) -> R
         (I.opens inputs.old) (I.opens inputs.new) (I.faults inputs.old) (I.faults inputs.new) }
     ensures store { I.store inputs.new ≡ I.store inputs.old }
 {
+    let counts = branches(alloc, perf, inputs)?;
+    let text = counts_text(alloc, counts)?;
+    Ok(text)
+}
+
+/// The branches of the branch text in file 1, of this name.
+fn branches<I: Inputs>(alloc: Global, perf: &[u8], inputs: &mut I) -> Result<Counts, Halt>
+    ensures read { TakesFile (CountsFile 1 None) 1 perf.now (I.store inputs.old) result
+        (I.opens inputs.old) (I.opens inputs.new) (I.faults inputs.old) (I.faults inputs.new) }
+    ensures store { I.store inputs.new ≡ I.store inputs.old }
+{
     open_file(inputs, 1, perf)?;
     let reader = Reader::new(alloc, 1)?;
     let mut counts = Counts::of_branches(alloc)?;
     count_text(inputs, 1, reader, &mut counts)?;
-    Ok(counts_text(alloc, counts)?)
+    Ok(counts)
 }

@@ -2,14 +2,13 @@
 ghost use Rattle.std.specs.Prelude.{◌≡◌};
 ghost use Rattle.command_model.specs.Command.{lift as lift_command};
 ghost use Rattle.command_words.specs.Words.{told_options};
-ghost use Rattle.pgo_run.specs.Output.{Carries};
+ghost use Rattle.program_edge.specs.Output.{Carries};
 
-use crate::halt::{Halt, in_file};
-use crate::order::{MAX_BINARY_BYTES, MAX_BLOCK_BYTES, MAX_REPAIR_BYTES, read_file};
 use binary_places::read;
 use command_words::Options;
 use io_edge::Inputs;
 use lift_maker::{Lifted, lift};
+use program_edge::{Halt, MAX_BINARY_BYTES, MAX_BLOCK_BYTES, MAX_REPAIR_BYTES, in_file, read_file};
 use std::alloc::Global;
 
 /// What `lift` writes for the binary, the block text and what was built in these files.

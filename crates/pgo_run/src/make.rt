@@ -14,15 +14,14 @@ ghost use Rattle.command_model.specs.Files.{first_bad_of_blocks};
 ghost use Rattle.command_model.specs.Make.{case_file as file_told};
 ghost use Rattle.command_words.specs.Words.{told_part};
 ghost use Rattle.output_model.specs.Summary.{IsSummaryOf};
-ghost use Rattle.pgo_run.specs.Output.{Carries};
+ghost use Rattle.program_edge.specs.Output.{Carries};
 
-use crate::halt::{Halt, in_file};
-use crate::order::{MAX_BINARY_BYTES, MAX_BLOCK_BYTES, too_large};
 use binary_places::{Binary, read};
 use branch_stacks::{Counts, read_text};
 use build_maker::summarize;
 use case_maker::{CasePart, CaseStop, make};
 use cfg_text::Fun;
+use program_edge::{Halt, MAX_BINARY_BYTES, MAX_BLOCK_BYTES, in_file, too_large};
 use refusal::{NoMemory, Stop, refuse_if};
 use std::alloc::Global;
 

@@ -5,13 +5,12 @@ ghost use Rattle.command_model.specs.Command.{max_parts, merge as merge_command}
 ghost use Rattle.command_words.specs.Words.{told_weighed};
 ghost use Rattle.merge_maker.specs.Merge.{HasRoom, IsMergeOf};
 ghost use Rattle.pgo_run.specs.Merge.{AddsFile};
-ghost use Rattle.pgo_run.specs.Output.{Carries, HasFileCause};
+ghost use Rattle.program_edge.specs.Output.{Carries, HasFileCause};
 
-use crate::halt::{Halt, in_file};
-use crate::order::{MAX_PROFILE_BYTES, read_file};
 use command_words::{MAX_PARTS, Part};
 use io_edge::Inputs;
 use merge_maker::Merge;
+use program_edge::{Halt, MAX_PROFILE_BYTES, in_file, read_file};
 use std::alloc::Global;
 use std::array;
 

@@ -1,38 +1,32 @@
 // `profile`: what a branch text says of a binary, as a profile for compilers, and the report on it.
-ghost use Rattle.std.specs.Prelude.{◌≡◌};
-ghost use Rattle.command_model.specs.Command.{profile as profile_command};
-ghost use Rattle.command_words.specs.Words.{told_options};
-ghost use Rattle.pgo_run.specs.Output.{Carries};
+ghost use Rattle.std.specs.Prelude.{ℕ, Bool, List};
 
-use crate::halt::{Halt, in_file};
-use crate::order::{MAX_BINARY_BYTES, read_file};
-use crate::samples::sampled;
-use binary_places::read;
-use command_words::Options;
-use io_edge::Inputs;
+use binary_places::Binary;
+use branch_stacks::Counts;
 use profile_maker::make;
+use program_edge::FromSamples;
+use refusal::NoMemory;
 use std::alloc::Global;
 
-/// What `profile` writes for the binary and the branch text in these files.
-///
-/// # Errors
-/// Those of reading file 1, the first bad place of the binary, those of reading file 2, and the
-/// first bad place of the text.
-pub(crate) fn output<I: Inputs>(
-    alloc: Global,
-    options: Options<'_>,
-    binary: &[u8],
-    perf: &[u8],
-    inputs: &mut I,
-) -> Result<Vec<u8>, Halt>
-    ensures carried { Carries (profile_command (told_options options.entry) binary.now perf.now)
-        (I.store inputs.old) result
-        (I.opens inputs.old) (I.opens inputs.new) (I.faults inputs.old) (I.faults inputs.new) }
-    ensures store { I.store inputs.new ≡ I.store inputs.old }
-{
-    let file = read_file(alloc, inputs, 1, binary, MAX_BINARY_BYTES)?;
-    let binary = in_file(1, read(alloc, &file, options.base))?;
-    let counts = sampled(alloc, inputs, perf, options.map, &binary.loads)?;
-    let text = make(alloc, binary, counts)?;
-    Ok(text)
+/// The command `profile`.
+pub(crate) struct Profile;
+
+impl FromSamples for Profile {
+    ghost use Rattle.std.specs.Prelude.{refl};
+    ghost use Rattle.command_model.specs.Command.{profile};
+    ghost use Rattle.output_model.specs.Output.{output_text};
+
+    ghost command = { profile };
+
+    ghost text = { output_text };
+
+    fn make(alloc: Global, binary: Binary<'_>, counts: Counts) -> Result<Vec<u8>, NoMemory> {
+        make(alloc, binary, counts)
+    }
+
+    ghost asks = { λ options binary perf. refl };
+
+    ghost passes = { λ options binary perf contents. refl };
+
+    ghost writes = { λ options binary perf bytes lines out is. is };
 }

@@ -6,16 +6,16 @@ ghost use Rattle.refusal.specs.declared.place.Place.{Place};
 ghost use Rattle.command_model.specs.Answer.{answer_of, fails_check, no_such_file, refused, writes};
 ghost use Rattle.command_model.specs.Command.{Command as TheCommand, command_of};
 ghost use Rattle.command_model.specs.Good.{AreGoodBefore};
-ghost use Rattle.pgo_run.specs.Run.{ComesExactly, HasWritten, IsWithoutFault, IsWithoutOutput};
-ghost use Rattle.pgo_run.specs.Opens.{AgreesWithOpens, ReachesNamed};
-ghost use Rattle.pgo_run.specs.Output.{Carries};
+ghost use Rattle.program_edge.specs.Run.{ComesExactly, HasWritten, IsWithoutFault, IsWithoutOutput};
+ghost use Rattle.program_edge.specs.Opens.{AgreesWithOpens, ReachesNamed};
+ghost use Rattle.program_edge.specs.Output.{Carries};
 ghost use Rattle.command_words.specs.Words.{meaning_of, texts_of};
 
-use crate::halt::Halt;
-use crate::status::Status;
-use crate::{build, check, counts, lift, make, merge, profile, summary, where_};
+use crate::profile::Profile;
+use crate::{build, check, counts, lift, make, merge, summary, where_};
 use command_words::{Command, parse};
-use io_edge::{Inputs, Sink, write_all};
+use io_edge::{Inputs, Sink};
+use program_edge::{Halt, Program, Status, from_samples, run_as};
 use std::alloc::Global;
 
 /// Carries out the command that the words spell: reads its files from `inputs` in the order of
@@ -82,16 +82,24 @@ pub fn run<I: Inputs, O: Sink>(
     ensures unwritten { IsWithoutOutput result → out.new ≡ out.old }
     ensures store { I.store inputs.new ≡ I.store inputs.old }
 {
-    let Some(command) = parse(words) else {
-        return Status::Usage;
-    };
-    let text = match output(alloc, command, inputs) {
-        Ok(text) => text,
-        Err(halt) => return Status::from(halt),
-    };
-    match write_all(out, &text) {
-        Ok(()) => Status::Done,
-        Err(_) => Status::WriteFault,
+    run_as::<Pgo, I, O>(alloc, words, inputs, out)
+}
+
+/// The program `pgo`.
+pub struct Pgo;
+
+impl Program for Pgo {
+    ghost use Rattle.command_model.specs.Command.{command_of};
+
+    ghost asked = { command_of };
+
+    fn output<I: Inputs>(
+        alloc: Global,
+        words: &[Vec<u8>],
+        inputs: &mut I,
+    ) -> Option<Result<Vec<u8>, Halt>> {
+        let command = parse(words)?;
+        Some(output(alloc, command, inputs))
     }
 }
 
@@ -112,7 +120,7 @@ fn output<I: Inputs>(alloc: Global, command: Command<'_>, inputs: &mut I) -> Res
             options,
             binary,
             perf,
-        } => profile::output(alloc, options, binary, perf, inputs),
+        } => from_samples::<Profile, I>(alloc, options, binary, perf, inputs),
         Command::Build {
             options,
             binary,

@@ -1,12 +1,11 @@
 // `summary`: how hot the lines of a profile are.
 ghost use Rattle.std.specs.Prelude.{◌≡◌};
 ghost use Rattle.command_model.specs.Command.{summary as summary_command};
-ghost use Rattle.pgo_run.specs.Output.{Carries};
+ghost use Rattle.program_edge.specs.Output.{Carries};
 
-use crate::halt::{Halt, in_file};
-use crate::order::{MAX_PROFILE_BYTES, read_file};
 use io_edge::Inputs;
 use merge_maker::summarize;
+use program_edge::{Halt, MAX_PROFILE_BYTES, in_file, read_file};
 use std::alloc::Global;
 
 /// What `summary` writes for the profile text in this file.

@@ -7,15 +7,14 @@ ghost use Rattle.binary_places.specs.Binary.{IsBinary, IsPlaced, asks_in};
 ghost use Rattle.command_model.specs.Command.{where_ as where_command};
 ghost use Rattle.command_model.specs.Where.{where_text};
 ghost use Rattle.command_words.specs.Words.{told_options};
-ghost use Rattle.pgo_run.specs.Output.{Carries};
+ghost use Rattle.program_edge.specs.Output.{Carries};
 
-use crate::halt::{Halt, in_file};
-use crate::order::{MAX_BINARY_BYTES, read_file};
 use answer_text::place_line;
 use binary_places::{Asked, Binary, Placed, places, read};
 use command_words::Options;
 use io_edge::Inputs;
 use key_types::Places;
+use program_edge::{Halt, MAX_BINARY_BYTES, in_file, read_file};
 use refusal::{NoMemory, Stop};
 use std::alloc::Global;
 

@@ -6,7 +6,7 @@ use Rattle.command_model.specs.Command.{make_sum, perf_file}
 use Rattle.command_model.specs.Files.{first_bad_of_blocks}
 use Rattle.command_model.specs.Make.{case_file}
 use Rattle.pgo_run.proofs.MakeLemmas.{Sums, binary-stops, blocks-stop, made-lacks, made-summary, samples-stop, summed}
-use Rattle.pgo_run.proofs.ReachedLemmas.{judged-good}
+use Rattle.program_edge.proofs.ReachedLemmas.{judged-good}
 use Rattle.pgo_run.proofs.make.summary_output.Goals as goal
 
 pub returns-in_err-file : goal.returns-in_err-file

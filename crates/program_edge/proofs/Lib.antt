@@ -1,0 +1,6 @@
+pub mod BranchTextLemmas
+pub mod Examples
+pub mod ReachedLemmas
+pub mod SamplesLemmas
+pub mod SizedLemmas
+pub mod WalkLemmas

@@ -1,0 +1,134 @@
+"""What a call costs, and calls by turns: the processor's seconds, in user mode and in the system, and the most memory held."""
+import os
+import resource
+import signal
+import subprocess
+import sys
+import zlib
+from typing import NamedTuple, Optional
+
+sys.path.insert(0, os.path.join(os.path.dirname(os.path.realpath(__file__)), "../contrib"))
+from pgo_tools import cli, programs  # noqa: E402
+from pgo_tools.names import text_of  # noqa: E402
+
+# What takes so many seconds is not called again.
+ONCE_ABOVE = 60
+# What takes fewer seconds is compared with nothing.
+LEAST_COMPARED = 0.05
+
+
+class Call(NamedTuple):
+    """The words of a program, who it is in the table, and the file that takes what it prints ("": one that is not kept).
+
+    Those of a job with `is_same` have to print the same bytes.
+    """
+
+    who: str
+    words: "list[str]"
+    out: str = ""
+    is_same: bool = False
+
+
+class Cost(NamedTuple):
+    """Seconds of a processor, and bytes of memory; None where these are too few to be told."""
+
+    seconds: float
+    memory: Optional[int]
+
+    def beyond(self, other):
+        memory = None if None in (self.memory, other.memory) else self.memory - other.memory
+        return Cost(self.seconds - other.seconds, memory)
+
+
+class Measured:
+    """What became of a call in all its turns: its costs, the sums of what it printed, and why it failed, if it did."""
+
+    def __init__(self):
+        self.costs, self.sums, self.failed = [], set(), ""
+
+    def least(self):
+        """The least seconds, and the least of what it held at most."""
+        held = [cost.memory for cost in self.costs]
+        return Cost(min(cost.seconds for cost in self.costs), None if None in held else min(held))
+
+    def is_done(self):
+        return bool(self.failed) or any(cost.seconds > ONCE_ABOVE for cost in self.costs)
+
+
+def own_memory():
+    """The most memory that this script held: a program starts as a copy of it, and the system tells no less of any."""
+    return resource.getrusage(resource.RUSAGE_SELF).ru_maxrss * 1024
+
+
+def run(words, out, err):
+    """Runs a program, with what it prints in these files: its status, and its cost."""
+    with open(out, "wb") as printed, open(err, "wb") as said:
+        with programs.running(words, stdin=subprocess.DEVNULL, stdout=printed, stderr=said) as process:
+            _, ended, used = os.wait4(process.pid, 0)
+            process.returncode = os.waitstatus_to_exitcode(ended)
+    memory = used.ru_maxrss * 1024
+    return process.returncode, Cost(used.ru_utime + used.ru_stime, memory if memory > own_memory() else None)
+
+
+def reason(status, err):
+    """Why a program failed: the first line that it said."""
+    with open(err, "rb") as file:
+        said = text_of(file.readline(200)).strip()
+    how = f"it ended by {signal.Signals(-status).name}" if status < 0 else f"it ended with {status}"
+    return f"{how}: {said}" if said else how
+
+
+def sum_of(path):
+    """The size of a file and its CRC, read piece by piece, as this script has to stay small."""
+    found, size = 0, 0
+    with open(path, "rb") as file:
+        while piece := file.read(1 << 16):
+            found, size = zlib.crc32(piece, found), size + len(piece)
+    return size, found
+
+
+def take(call, held, scratch):
+    """One turn of a call."""
+    out, err = call.out or os.path.join(scratch, "out"), os.path.join(scratch, "err")
+    status, cost = run(call.words, out, err)
+    if status:
+        held.failed = reason(status, err)
+    else:
+        held.costs.append(cost)
+        held.sums.add(sum_of(out) if call.is_same else None)
+    return cost
+
+
+def by_turns(calls, turns, scratch, told):
+    """Runs calls one behind the other, so many times: what became of each, in their order. Each is told as it ends, by its place."""
+    measured = [Measured() for _ in calls]
+    for turn in range(1, turns + 1):
+        for at, held in enumerate(measured):
+            if not held.is_done():
+                told(turn, at, take(calls[at], held, scratch))
+    return measured
+
+
+def seconds(value):
+    return f"{value:,.1f} s" if abs(value) >= 10 else f"{value:.2f} s"
+
+
+def memory(value):
+    """Bytes as megabytes, or what they are below."""
+    return f"below {own_memory() / 1e6:.0f} MB" if value is None else f"{value / 1e6:,.0f} MB"
+
+
+def shown(cost):
+    return f"{seconds(cost.seconds)}, {memory(cost.memory)}"
+
+
+def ratio(value, by):
+    return f"{value / by:.2f}" if value < 10 * by else f"{value / by:.1f}"
+
+
+def ratios(cost, ours):
+    """How many times the time and the memory of ours, where these are not too small to tell."""
+    if ours.seconds < LEAST_COMPARED:
+        return ""
+    is_told = cost.memory and ours.memory and ours.memory > 0
+    return f" ({ratio(cost.seconds, ours.seconds)}" + (f", {ratio(cost.memory, ours.memory)})" if is_told else ")")

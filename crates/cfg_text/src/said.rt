@@ -15,7 +15,7 @@ const BOUND_LIMIT: u64 = 1 << 44;
 
 /// What a line says.
 #[derive(Clone, Copy, Debug)]
-pub(crate) enum Said<'a> {
+pub(crate) enum BlockLine<'a> {
     /// Nothing: it is blank or a comment.
     Nothing,
     /// A function of this name begins.
@@ -30,22 +30,22 @@ pub(crate) enum Said<'a> {
 
 /// What a line says, if it has the form of one.
 #[tactic(auto, unfolding(block_model::specs::Line::line_of))]
-pub(crate) fn read_line(line: &[u8]) -> Option<Said<'_>>
+pub(crate) fn read_line(line: &[u8]) -> Option<BlockLine<'_>>
     ensures { option_map meaning_of result ≡ model.line_of line.now }
 {
     if line.starts_with(b"#") {
-        return Some(Said::Nothing);
+        return Some(BlockLine::Nothing);
     }
     read_fields(Fields::new(line))
 }
 
 /// What the fields of a line say.
 #[tactic(auto, unfolding(block_model::specs::Line::line_by_fields))]
-fn read_fields(mut fields: Fields<'_>) -> Option<Said<'_>>
+fn read_fields(mut fields: Fields<'_>) -> Option<BlockLine<'_>>
     ensures { option_map meaning_of result ≡ model.line_by_fields fields.entry }
 {
     let Some(word) = fields.next() else {
-        return Some(Said::Nothing);
+        return Some(BlockLine::Nothing);
     };
     if word == b"block".as_slice() {
         block_line(fields)
@@ -61,29 +61,29 @@ fn read_fields(mut fields: Fields<'_>) -> Option<Said<'_>>
 }
 
 /// `NAME`
-fn func_line(mut fields: Fields<'_>) -> Option<Said<'_>>
+fn func_line(mut fields: Fields<'_>) -> Option<BlockLine<'_>>
     ensures { option_map meaning_of result ≡ model.func_line_of fields.entry }
 {
     let name = fields.next()?;
     if fields.next().is_some() {
         return None;
     }
-    Some(Said::Begins(name))
+    Some(BlockLine::Begins(name))
 }
 
 /// Nothing more.
-fn end_line(mut fields: Fields<'_>) -> Option<Said<'_>>
+fn end_line(mut fields: Fields<'_>) -> Option<BlockLine<'_>>
     ensures { option_map meaning_of result ≡ model.end_line_of fields.entry }
 {
     if fields.next().is_some() {
         return None;
     }
-    Some(Said::Ends)
+    Some(BlockLine::Ends)
 }
 
 /// `N 0xLO 0xHI [exit] [bound]`
 #[tactic(auto, unfolding(block_model::specs::Line::block_line_of))]
-fn block_line(mut fields: Fields<'_>) -> Option<Said<'_>>
+fn block_line(mut fields: Fields<'_>) -> Option<BlockLine<'_>>
     ensures { option_map meaning_of result ≡ model.block_line_of fields.entry }
 {
     let number = fields.next()?;
@@ -99,12 +99,12 @@ fn block_line(mut fields: Fields<'_>) -> Option<Said<'_>>
         exit,
         bound,
     };
-    Some(Said::Block(number, block))
+    Some(BlockLine::Block(number, block))
 }
 
 /// `N M [bound]`
 #[tactic(auto, unfolding(block_model::specs::Line::edge_line_of))]
-fn edge_line(mut fields: Fields<'_>) -> Option<Said<'_>>
+fn edge_line(mut fields: Fields<'_>) -> Option<BlockLine<'_>>
     ensures { option_map meaning_of result ≡ model.edge_line_of fields.entry }
 {
     let from = fields.next()?;
@@ -112,7 +112,7 @@ fn edge_line(mut fields: Fields<'_>) -> Option<Said<'_>>
     let from = place_of(from)?;
     let to = place_of(to)?;
     let bound = bound(false, fields)?;
-    Some(Said::Edge(from, to, bound))
+    Some(BlockLine::Edge(from, to, bound))
 }
 
 /// `[exit] [bound]`

@@ -8,7 +8,7 @@ ghost use Rattle.cfg_text.specs.Reading.{Begins, IsNumbered, ReadsFunction, Take
 
 use crate::draft::{Draft, DraftStop};
 use crate::fun::Fun;
-use crate::said::{Said, read_line};
+use crate::said::{BlockLine, read_line};
 use refusal::{Kind, NoMemory, Place, Stop};
 use std::alloc::Global;
 use text_scan::{Line, Lines};
@@ -56,11 +56,11 @@ fn begun<'a>(line: Line<'a>, file: u8) -> Result<Option<&'a [u8]>, Place>
         return Err(place(file, line.number, Kind::BadLine));
     };
     match said {
-        Said::Nothing => Ok(None),
-        Said::Begins(name) => Ok(Some(name)),
-        Said::Block(_, _) => Err(place(file, line.number, Kind::BadLine)),
-        Said::Edge(_, _, _) => Err(place(file, line.number, Kind::BadLine)),
-        Said::Ends => Err(place(file, line.number, Kind::BadLine)),
+        BlockLine::Nothing => Ok(None),
+        BlockLine::Begins(name) => Ok(Some(name)),
+        BlockLine::Block(_, _) => Err(place(file, line.number, Kind::BadLine)),
+        BlockLine::Edge(_, _, _) => Err(place(file, line.number, Kind::BadLine)),
+        BlockLine::Ends => Err(place(file, line.number, Kind::BadLine)),
     }
 }
 
@@ -94,12 +94,12 @@ fn take_in<'a>(draft: &mut Draft<'a>, line: Line<'a>, file: u8) -> Result<bool, 
         return Err(Stop::Refused(place(file, at, Kind::BadLine)));
     };
     match said {
-        Said::Nothing => Ok(false),
-        Said::Block(number, block) => goes_on(draft.add_block(number, block), file, at),
-        Said::Edge(from, to, bound) => goes_on(draft.add_edge(from, to, bound), file, at),
-        Said::Ends if draft.is_empty() => Err(Stop::Refused(place(file, at, Kind::NoBlocks))),
-        Said::Ends => Ok(true),
-        Said::Begins(_) => Err(Stop::Refused(place(file, at, Kind::BadLine))),
+        BlockLine::Nothing => Ok(false),
+        BlockLine::Block(number, block) => goes_on(draft.add_block(number, block), file, at),
+        BlockLine::Edge(from, to, bound) => goes_on(draft.add_edge(from, to, bound), file, at),
+        BlockLine::Ends if draft.is_empty() => Err(Stop::Refused(place(file, at, Kind::NoBlocks))),
+        BlockLine::Ends => Ok(true),
+        BlockLine::Begins(_) => Err(Stop::Refused(place(file, at, Kind::BadLine))),
     }
 }
 

@@ -9,27 +9,27 @@ use Rattle.std.proofs.lemmas.Option.{slice_get_cases}
 use Rattle.std.proofs.lemmas.List.Quantifiers.{position-Some}
 use Rattle.unit_model.specs.Abbrev.{Attr, Abbrev, find_code, has_code}
 use Rattle.unit_model.specs.Table.{max_abbrevs}
-use Rattle.dwarf_abbrev.specs.declared.rows.Row.{Row}
-use Rattle.dwarf_abbrev.specs.declared.rows.Rows.{Rows}
+use Rattle.dwarf_abbrev.specs.declared.rows.AbbrevRow.{AbbrevRow}
+use Rattle.dwarf_abbrev.specs.declared.rows.AbbrevRows.{AbbrevRows}
 use Rattle.dwarf_abbrev.specs.Codes.{place_of}
 use Rattle.dwarf_abbrev.specs.Rows.{abbrev_of_row, IsWithin, IsWhole, AddsRow, AddsAbbrev, table_of}
 
 -- ---- more attributes
 
-row-kept : (attrs more : List Attr) (row : Row) → IsWithin attrs row → abbrev_of_row (attrs ++ more) row ≡ abbrev_of_row attrs row
+row-kept : (attrs more : List Attr) (row : AbbrevRow) → IsWithin attrs row → abbrev_of_row (attrs ++ more) row ≡ abbrev_of_row attrs row
 row-kept attrs more row w =
     let d : drop row.first (attrs ++ more) ≡ drop row.first attrs ++ more = drop-append-le row.first attrs more (omega (arith, w.ordered, w.within)) in
     let n : row.end - row.first ≤ length (drop row.first attrs) = omega (arith, length-drop row.first attrs, w.ordered, w.within) in
     ap (λ (xs : List Attr). record { code = row.code; tag = row.tag; children = row.children; attrs = xs })
     (ap (take (row.end - row.first)) d ∙ take-append-le (row.end - row.first) (drop row.first attrs) more n)
 
-rows-kept : (attrs more : List Attr) (rows : List Row) → AllByRecursion (IsWithin attrs) rows → map (abbrev_of_row (attrs ++ more)) rows ≡ map (abbrev_of_row attrs) rows
+rows-kept : (attrs more : List Attr) (rows : List AbbrevRow) → AllByRecursion (IsWithin attrs) rows → map (abbrev_of_row (attrs ++ more)) rows ≡ map (abbrev_of_row attrs) rows
 rows-kept attrs more [] w = refl
 rows-kept attrs more (row ∷ rows) w =
     ap (λ (a : Abbrev). a ∷ map (abbrev_of_row (attrs ++ more)) rows) (row-kept attrs more row w.0)
     ∙ ap (λ (t : List Abbrev). abbrev_of_row attrs row ∷ t) (rows-kept attrs more rows w.1)
 
-within-more : (attrs more : List Attr) (rows : List Row) (row : Row) → AllByRecursion (IsWithin attrs) rows → IsWithin (attrs ++ more) row
+within-more : (attrs more : List Attr) (rows : List AbbrevRow) (row : AbbrevRow) → AllByRecursion (IsWithin attrs) rows → IsWithin (attrs ++ more) row
     → AllByRecursion (IsWithin (attrs ++ more)) (rows ++ row ∷ [])
 within-more attrs more [] row w here = (here, tt)
 within-more attrs more (r ∷ rows) row w here = (
@@ -43,44 +43,44 @@ last_range attrs more first end at to =
 
 -- ---- one row more
 
-pub AddsAbbrev-row : (old mid new : Rows) (row : Row) (more : List Attr) → IsWhole old → mid.rows.items ≡ old.rows.items → mid.codes ≡ old.codes
+pub AddsAbbrev-row : (old mid new : AbbrevRows) (row : AbbrevRow) (more : List Attr) → IsWhole old → mid.rows.items ≡ old.rows.items → mid.codes ≡ old.codes
     → mid.attrs.items ≡ old.attrs.items ++ more → row.first ≡ length old.attrs.items → row.end ≡ length mid.attrs.items → AddsRow mid new row
     → AddsAbbrev old new (record { code = row.code; tag = row.tag; children = row.children; attrs = more })
 AddsAbbrev-row old mid new row more is same_rows same_codes same_attrs first end adds =
     let attrs : new.attrs.items ≡ old.attrs.items ++ more = adds.attrs ∙ same_attrs in
-    let rows : new.rows.items ≡ old.rows.items ++ row ∷ [] = adds.rows ∙ ap (λ (rs : List Row). rs ++ row ∷ []) same_rows in
+    let rows : new.rows.items ≡ old.rows.items ++ row ∷ [] = adds.rows ∙ ap (λ (rs : List AbbrevRow). rs ++ row ∷ []) same_rows in
     let to : row.end ≡ length (old.attrs.items ++ more) = end ∙ ap (λ (xs : List Attr). length xs) same_attrs in
     let here : IsWithin (old.attrs.items ++ more) row = record { ordered = omega (arith, first, to, length-append old.attrs.items more); within = omega (arith, to) } in
     let last : abbrev_of_row (old.attrs.items ++ more) row ≡ record { code = row.code; tag = row.tag; children = row.children; attrs = more } =
     ap (λ (xs : List Attr). record { code = row.code; tag = row.tag; children = row.children; attrs = xs }) (last_range old.attrs.items more row.first row.end first to) in
     record {
       table = ap (λ (xs : List Attr). map (abbrev_of_row xs) new.rows.items) attrs
-          ∙ ap (λ (rs : List Row). map (abbrev_of_row (old.attrs.items ++ more)) rs) rows
+          ∙ ap (λ (rs : List AbbrevRow). map (abbrev_of_row (old.attrs.items ++ more)) rs) rows
           ∙ map-append (abbrev_of_row (old.attrs.items ++ more)) old.rows.items (row ∷ [])
           ∙ ap (λ (t : List Abbrev). t ++ abbrev_of_row (old.attrs.items ++ more) row ∷ []) (rows-kept old.attrs.items more old.rows.items is.within)
           ∙ ap (λ (a : Abbrev). table_of old ++ a ∷ []) last;
       whole = record {
         within = subst (λ (xs : List Attr). AllByRecursion (IsWithin xs) new.rows.items) (sym attrs)
-            (subst (λ (rs : List Row). AllByRecursion (IsWithin (old.attrs.items ++ more)) rs) (sym rows) (within-more old.attrs.items more old.rows.items row is.within here));
-        codes = ap (λ (rs : List Row). map (λ (r : Row). r.code) rs) rows ∙ map-append (λ (r : Row). r.code) old.rows.items (row ∷ [])
+            (subst (λ (rs : List AbbrevRow). AllByRecursion (IsWithin (old.attrs.items ++ more)) rs) (sym rows) (within-more old.attrs.items more old.rows.items row is.within here));
+        codes = ap (λ (rs : List AbbrevRow). map (λ (r : AbbrevRow). r.code) rs) rows ∙ map-append (λ (r : AbbrevRow). r.code) old.rows.items (row ∷ [])
             ∙ ap (λ (cs : List ℕ). cs ++ row.code ∷ []) (is.codes ∙ sym same_codes) ∙ sym adds.codes;
       };
     }
 
 -- ---- what the rows say of the table
 
-codes_of : (attrs : List Attr) (rows : List Row) → map (λ (a : Abbrev). a.code) (map (abbrev_of_row attrs) rows) ≡ map (λ (r : Row). r.code) rows
+codes_of : (attrs : List Attr) (rows : List AbbrevRow) → map (λ (a : Abbrev). a.code) (map (abbrev_of_row attrs) rows) ≡ map (λ (r : AbbrevRow). r.code) rows
 codes_of attrs [] = refl
 codes_of attrs (row ∷ rows) = ap (λ (cs : List ℕ). row.code ∷ cs) (codes_of attrs rows)
 
-codes-are : (rows : Rows) → IsWhole rows → map (λ (a : Abbrev). a.code) (table_of rows) ≡ rows.codes
+codes-are : (rows : AbbrevRows) → IsWhole rows → map (λ (a : Abbrev). a.code) (table_of rows) ≡ rows.codes
 codes-are rows is = codes_of rows.attrs.items rows.rows.items ∙ is.codes
 
 length-map : {X Y : Type 0} (f : X → Y) (xs : List X) → length (map f xs) ≡ length xs
 length-map f [] = refl
 length-map f (x ∷ xs) = let ih = length-map f xs in omega arith
 
-length-is : (rows : Rows) → length (table_of rows) ≡ length rows.rows.items
+length-is : (rows : AbbrevRows) → length (table_of rows) ≡ length rows.rows.items
 length-is rows = length-map (abbrev_of_row rows.attrs.items) rows.rows.items
 
 position-map : (table : List Abbrev) (code : ℕ) → position_or_len (λ (a : Abbrev). a.code == code) table ≡ position_or_len (λ c. c == code) (map (λ (a : Abbrev). a.code) table)
@@ -103,7 +103,7 @@ position_is codes code place some = grind (arith, nat_tests)
 position_past : (codes : List ℕ) (code : ℕ) → place_of codes code ≡ None → length codes ≤ position_or_len (λ c. c == code) codes
 position_past codes code none = grind (arith, nat_tests)
 
-pub place-some : (rows : Rows) (code place : ℕ) → IsWhole rows → place_of rows.codes code ≡ Some place → IsPlace (table_of rows) code place
+pub place-some : (rows : AbbrevRows) (code place : ℕ) → IsWhole rows → place_of rows.codes code ≡ Some place → IsPlace (table_of rows) code place
 unfolding find_code
 place-some rows code place is some =
     let table = table_of rows in
@@ -117,7 +117,7 @@ place-some rows code place is some =
       found = find_at (λ (a : Abbrev). a.code == code) table ∙ ap (slice_get table) first;
     }
 
-pub place-none : (rows : Rows) (code : ℕ) → IsWhole rows → place_of rows.codes code ≡ None → find_code (table_of rows) code ≡ None
+pub place-none : (rows : AbbrevRows) (code : ℕ) → IsWhole rows → place_of rows.codes code ≡ None → find_code (table_of rows) code ≡ None
 unfolding find_code
 place-none rows code is none =
     let table = table_of rows in
@@ -136,7 +136,7 @@ has_code-some table code place is =
     ]
 
 -- whether a code stands in the table
-pub has_code-is : (rows : Rows) (code : ℕ) → IsWhole rows → has_code (table_of rows) code ≡ is_some (place_of rows.codes code)
+pub has_code-is : (rows : AbbrevRows) (code : ℕ) → IsWhole rows → has_code (table_of rows) code ≡ is_some (place_of rows.codes code)
 has_code-is rows code is =
     elim (place_of rows.codes code) as (λ o. place_of rows.codes code ≡ o → has_code (table_of rows) code ≡ is_some o) [
       | None ↦ λ none. ap is_some (place-none rows code is none)
@@ -144,7 +144,7 @@ has_code-is rows code is =
     ] refl
 
 -- whether the table is full
-pub is_full-is : (rows : Rows) → nat_le max_abbrevs (length (table_of rows)) ≡ nat_le 1048576 (length rows.rows.items)
+pub is_full-is : (rows : AbbrevRows) → nat_le max_abbrevs (length (table_of rows)) ≡ nat_le 1048576 (length rows.rows.items)
 is_full-is rows = ap (nat_le max_abbrevs) (length-is rows)
 
 pub ruleset next_lemmas = (has_code-is, is_full-is)
@@ -152,7 +152,7 @@ pub ruleset next_lemmas = (has_code-is, is_full-is)
 -- ---- a look-up
 
 -- the place of a code among the rows is that of its abbreviation in the table
-pub place-is : (rows : Rows) (code : ℕ) → IsWhole rows → position (λ (a : Abbrev). a.code == code) (table_of rows) ≡ place_of rows.codes code
+pub place-is : (rows : AbbrevRows) (code : ℕ) → IsWhole rows → position (λ (a : Abbrev). a.code == code) (table_of rows) ≡ place_of rows.codes code
 place-is rows code is =
     let table = table_of rows in
     let codes = codes-are rows is in

@@ -16,7 +16,7 @@ const MAX_ABBREVS: usize = 1 << 20;
 
 /// An abbreviation whose attributes stand in a table's list of all, from `first` up to `end`.
 #[derive(Clone, Copy, Debug)]
-pub(crate) struct Row {
+pub(crate) struct AbbrevRow {
     pub code: u64,
     pub tag: u64,
     pub children: bool,
@@ -26,8 +26,8 @@ pub(crate) struct Row {
 
 /// The rows of a table's abbreviations, their codes, and the attributes of all.
 #[derive(Debug, Drop)]
-pub(crate) struct Rows {
-    pub rows: Vec<Row>,
+pub(crate) struct AbbrevRows {
+    pub rows: Vec<AbbrevRow>,
     pub codes: Codes,
     pub attrs: Vec<Attr>,
 }
@@ -44,15 +44,15 @@ fn read_children(cur: &mut Cur<'_>) -> Result<bool, Place>
     Ok(byte == 1)
 }
 
-impl Rows {
+impl AbbrevRows {
     ghost use Rattle.dwarf_abbrev.specs.Rows.{table_of, IsWhole, AddsRow, ReadsAbbrev, ReadsNext};
 
     /// No abbreviations.
-    pub fn new(alloc: Global) -> Rows
+    pub fn new(alloc: Global) -> AbbrevRows
         ensures whole { IsWhole result }
         ensures table { table_of result ≡ [] }
     {
-        Rows {
+        AbbrevRows {
             rows: Vec::new(alloc),
             codes: Codes::new(alloc),
             attrs: Vec::new(alloc),
@@ -60,7 +60,7 @@ impl Rows {
     }
 
     /// Adds a row whose code is new.
-    fn add(&mut self, row: Row) -> Result<(), NoMemory>
+    fn add(&mut self, row: AbbrevRow) -> Result<(), NoMemory>
         requires fresh { place_of self.old.codes row.code ≡ None }
         requires positive { 0 < row.code }
         ensures { OnOk result (AddsRow self.old self.new row) }
@@ -84,7 +84,7 @@ impl Rows {
         let first = self.attrs.len();
         read_attrs(cur, &mut self.attrs)?;
         let end = self.attrs.len();
-        self.add(Row {
+        self.add(AbbrevRow {
             code,
             tag,
             children,

@@ -5,7 +5,7 @@ ghost use Rattle.unit_model.specs.Table.{next_abbrev, table};
 ghost use Rattle.dwarf_abbrev.specs.Rows.{ReadsFirst};
 
 use crate::abbrev::Abbrev;
-use crate::rows::Rows;
+use crate::rows::AbbrevRows;
 use byte_view::{Cur, Part};
 use refusal::Stop;
 use std::alloc::Global;
@@ -14,7 +14,7 @@ use std::marker::Model;
 /// The abbreviations of a table, in their order.
 #[derive(Debug, Drop)]
 pub struct Abbrevs {
-    rows: Rows,
+    rows: AbbrevRows,
 }
 
 impl Model for Abbrevs {
@@ -83,7 +83,7 @@ pub fn read_table(alloc: Global, part: Part<'_>) -> Result<Abbrevs, Stop>
         (IsRead (table (start_of part.entry))) }
 {
     let mut cur = Cur::new(part);
-    let mut rows = Rows::new(alloc);
+    let mut rows = AbbrevRows::new(alloc);
     while rows.read_next(&mut cur)? {}
     Ok(Abbrevs { rows })
 }
@@ -97,7 +97,7 @@ pub fn read_first(alloc: Global, cur: &mut Cur<'_>) -> Result<Option<Abbrevs>, S
     ensures read { ReadsFirst result cur.new (next_abbrev [] cur.old) }
     ensures shorter { OnOk result (length cur.new.left < length cur.old.left) }
 {
-    let mut rows = Rows::new(alloc);
+    let mut rows = AbbrevRows::new(alloc);
     if rows.read_next(cur)? {
         return Ok(Some(Abbrevs { rows }));
     }

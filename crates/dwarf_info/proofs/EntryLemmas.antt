@@ -17,26 +17,26 @@ use Rattle.dwarf_info.specs.Values.{ReadsValues}
 use Rattle.unit_model.specs.Abbrev.{Abbrev}
 use Rattle.unit_model.specs.Values.{Found, values}
 use Rattle.unit_model.specs.Entries.{Entry, InUnit, SoFar, max_entries, entry_of, next_entry, entries}
-use Rattle.dwarf_info.specs.declared.rows.Row.{Row}
+use Rattle.dwarf_info.specs.declared.rows.EntryRow.{EntryRow}
 use Rattle.dwarf_info.specs.declared.rows.Entries.{Entries}
 use Rattle.dwarf_info.specs.Rows.{entry_of_row, IsWithin, entries_of, AreWithin, row_made}
 use Rattle.dwarf_info.specs.Entries.{all_of, IsWhole, ReadsSoFar, ReadsEntries}
 
 -- ---- more attributes
 
-row-kept : (found more : List Found) (row : Row) → IsWithin found row → entry_of_row (found ++ more) row ≡ entry_of_row found row
+row-kept : (found more : List Found) (row : EntryRow) → IsWithin found row → entry_of_row (found ++ more) row ≡ entry_of_row found row
 row-kept found more row w =
     let d : drop row.first (found ++ more) ≡ drop row.first found ++ more = drop-append-le row.first found more (omega (arith, w.within)) in
     let n : row.first + row.count - row.first ≤ length (drop row.first found) = omega (arith, length-drop row.first found, w.within) in
     ap (λ (fs : List Found). record { at = row.at; depth = row.depth; tag = row.tag; unit = row.unit; found = fs })
     (ap (take (row.first + row.count - row.first)) d ∙ take-append-le (row.first + row.count - row.first) (drop row.first found) more n)
 
-rows-kept : (found more : List Found) (rows : List Row) → AreWithin found rows → entries_of (found ++ more) rows ≡ entries_of found rows
+rows-kept : (found more : List Found) (rows : List EntryRow) → AreWithin found rows → entries_of (found ++ more) rows ≡ entries_of found rows
 rows-kept found more [] w = refl
 rows-kept found more (row ∷ rows) w =
     ap (λ (e : Entry). e ∷ entries_of (found ++ more) rows) (row-kept found more row w.0) ∙ ap (λ (es : List Entry). entry_of_row found row ∷ es) (rows-kept found more rows w.1)
 
-within-more : (found more : List Found) (rows : List Row) (row : Row) → AreWithin found rows → IsWithin (found ++ more) row → AreWithin (found ++ more) (rows ++ row ∷ [])
+within-more : (found more : List Found) (rows : List EntryRow) (row : EntryRow) → AreWithin found rows → IsWithin (found ++ more) row → AreWithin (found ++ more) (rows ++ row ∷ [])
 within-more found more [] row w here = (here, tt)
 within-more found more (r ∷ rows) row w here = (
   record { within = omega (arith, w.0.within, length-append found more) },
@@ -52,7 +52,7 @@ pub record AddsEntry (old new : Entries) (entry : Entry) : Type 0 where
   pub whole : IsWhole new
   pub all : all_of new ≡ all_of old ++ entry ∷ []
 
-pub AddsEntry-row : (old new : Entries) (row : Row) (own mid : List Found) → IsWhole old → length old.rows.items < 16777216 → mid ≡ old.found ++ own → new.found ≡ mid → new.rows.items ≡ old.rows.items ++ row ∷ []
+pub AddsEntry-row : (old new : Entries) (row : EntryRow) (own mid : List Found) → IsWhole old → length old.rows.items < 16777216 → mid ≡ old.found ++ own → new.found ≡ mid → new.rows.items ≡ old.rows.items ++ row ∷ []
     → row.first ≡ length old.found → row.count ≡ length mid - row.first
     → AddsEntry old new (record { at = row.at; depth = row.depth; tag = row.tag; unit = row.unit; found = own })
 AddsEntry-row old new row own mid whole more mid_is found_is rows first count =
@@ -62,11 +62,11 @@ AddsEntry-row old new row own mid whole more mid_is found_is rows first count =
     record {
       whole = record {
         within = subst (λ (fs : List Found). AreWithin fs new.rows.items) (sym found)
-            (subst (λ (rs : List Row). AreWithin (old.found ++ own) rs) (sym rows) (within-more old.found own old.rows.items row whole.within here));
-        few = omega (arith, more, ap (λ (rs : List Row). length rs) rows, length-append old.rows.items (row ∷ []));
+            (subst (λ (rs : List EntryRow). AreWithin (old.found ++ own) rs) (sym rows) (within-more old.found own old.rows.items row whole.within here));
+        few = omega (arith, more, ap (λ (rs : List EntryRow). length rs) rows, length-append old.rows.items (row ∷ []));
       };
       all = ap (λ (fs : List Found). entries_of fs new.rows.items) found
-          ∙ ap (λ (rs : List Row). entries_of (old.found ++ own) rs) rows
+          ∙ ap (λ (rs : List EntryRow). entries_of (old.found ++ own) rs) rows
           ∙ map-append (entry_of_row (old.found ++ own)) old.rows.items (row ∷ [])
           ∙ ap (λ (es : List Entry). es ++ entry_of_row (old.found ++ own) row ∷ []) (rows-kept old.found own old.rows.items whole.within)
           ∙ ap (λ (fs : List Found). all_of old ++ record { at = row.at; depth = row.depth; tag = row.tag; unit = row.unit; found = fs } ∷ []) (last_range old.found own row.first (row.first + row.count) first to);
@@ -100,7 +100,7 @@ unfolding entry_of
 entry_of-ok of at kind so_far cur next own shallow room e = rw (shallow, room, e) refl
 
 -- An entry was read and stands behind the others.
-pub entry-read : (of : InUnit) (at : ℕ) (kind : Abbrev) (old new : Entries) (depth deeper count first own_count : ℕ) (row : Row) (cur next : Cursor) (own mid : List Found) (p q : Place) → IsWhole old
+pub entry-read : (of : InUnit) (at : ℕ) (kind : Abbrev) (old new : Entries) (depth deeper count first own_count : ℕ) (row : EntryRow) (cur next : Cursor) (own mid : List Found) (p q : Place) → IsWhole old
     → fails_at (nat_lt 1024 depth) p ≡ None → fails_at (nat_le 16777216 count) q ≡ None → count ≡ length old.rows.items
     → values of.wide kind.tag kind.attrs cur ≡ Ok (own, next) → mid ≡ old.found ++ own → new.found ≡ mid
     → new.rows.items ≡ old.rows.items ++ row ∷ [] → row ≡ row_made at kind.tag depth of.unit first own_count
@@ -108,7 +108,7 @@ pub entry-read : (of : InUnit) (at : ℕ) (kind : Abbrev) (old new : Entries) (d
     → IsWhole new × (entry_of of at kind (record { depth = depth; entries = all_of old }) cur ≡ Ok ((record { depth = deeper; entries = all_of new }), next))
 entry-read of at kind old new depth deeper count first own_count row cur next own mid p q whole shallow room counted read mid_is found_is rows row_is first_is own_is deeper_is =
     let few : nat_le max_entries (length (all_of old)) ≡ false = is_full-is old ∙ ap (nat_le 16777216) (sym counted) ∙ passed (nat_le 16777216 count) q room in
-    let made = rows ∙ ap (λ (r : Row). old.rows.items ++ r ∷ []) row_is in
+    let made = rows ∙ ap (λ (r : EntryRow). old.rows.items ++ r ∷ []) row_is in
     let adds = AddsEntry-row old new (row_made at kind.tag depth of.unit first own_count) own mid whole (leb-false 16777216 (length old.rows.items) (sym (is_full-is old) ∙ few)) mid_is found_is made first_is own_is in (
       adds.whole,
       entry_of-ok of at kind (record { depth = depth; entries = all_of old }) cur next own (passed (nat_lt 1024 depth) p shallow) few read

@@ -5,8 +5,8 @@ use Rattle.std.specs.Borrow.{Bor}
 use Rattle.std.proofs.lemmas.List.{length-append, map-append, append-nil, get_or_append_left, get_or-append-add, drop-map, take-map}
 use Rattle.value_model.specs.Value as model
 use Rattle.unit_model.specs.Values.{Found}
-use Rattle.dwarf_info.specs.declared.packed.Class.{Class}
-use Rattle.dwarf_info.specs.declared.packed.Class.TheVariants as classes
+use Rattle.dwarf_info.specs.declared.packed.ValueClass.{ValueClass}
+use Rattle.dwarf_info.specs.declared.packed.ValueClass.TheVariants as classes
 use Rattle.dwarf_info.specs.declared.packed.Packed.{Packed}
 use Rattle.dwarf_info.specs.Packed.{texts_of, by_number, or_text, value_of, found_of, all_found, IsText, AreHeld, Extends, IsKeptAs, IsPackedAs}
 
@@ -17,7 +17,7 @@ length-map f (x ∷ xs) = let ih = length-map f xs in omega arith
 -- ---- one value
 
 -- a value that its number tells is kept as its class and number
-pub kept-number : (texts : List (List ℕ)) (value : model.Value) (class : Class) (n : ℕ) → by_number class n ≡ Some value → IsKeptAs texts value class n
+pub kept-number : (texts : List (List ℕ)) (value : model.Value) (class : ValueClass) (n : ℕ) → by_number class n ≡ Some value → IsKeptAs texts value class n
 kept-number texts value class n told = record {
   held = λ none. let e : ◌≡◌ {A = Option model.Value} None (Some value) = sym none ∙ told in absurd cc;
   is = ap (or_text texts n) told;

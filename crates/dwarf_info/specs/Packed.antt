@@ -4,8 +4,8 @@ use Rattle.std.specs.List.{AllByRecursion}
 use Rattle.std.specs.Borrow.{Bor}
 use Rattle.value_model.specs.Value as model
 use Rattle.unit_model.specs.Values.{Found}
-use Rattle.dwarf_info.specs.declared.packed.Class.{Class}
-use Rattle.dwarf_info.specs.declared.packed.Class.TheVariants as classes
+use Rattle.dwarf_info.specs.declared.packed.ValueClass.{ValueClass}
+use Rattle.dwarf_info.specs.declared.packed.ValueClass.TheVariants as classes
 use Rattle.dwarf_info.specs.declared.packed.Packed.{Packed}
 
 -- The texts of a list, each as its bytes.
@@ -13,7 +13,7 @@ abbrev pub texts_of : List (Bor (List ℕ)) → List (List ℕ)
 texts_of texts = map (λ text. text.now) texts
 
 -- The value of a class that a number tells. A text is not told by a number alone.
-abbrev pub by_number : Class → ℕ → Option model.Value
+abbrev pub by_number : ValueClass → ℕ → Option model.Value
 by_number classes.Addr n = Some (model.addr n)
 by_number classes.Const n = Some (model.const n)
 by_number classes.Text n = None
@@ -33,7 +33,7 @@ or_text texts n (Some value) = value
 or_text texts n None = model.text (get_or texts n [])
 
 -- The value of a class and a number. The number of a text is its place among the texts.
-abbrev pub value_of : List (List ℕ) → Class → ℕ → model.Value
+abbrev pub value_of : List (List ℕ) → ValueClass → ℕ → model.Value
 value_of texts class n = or_text texts n (by_number class n)
 
 -- The attribute that a packed one stands for.
@@ -49,7 +49,7 @@ abbrev pub all_found : List (List ℕ) → List Packed → List Found
 all_found texts packed = map (found_of texts) packed
 
 -- Where a class is told by no number, the number is the place of a text.
-abbrev pub IsText : List (List ℕ) → Class → ℕ → Type 0
+abbrev pub IsText : List (List ℕ) → ValueClass → ℕ → Type 0
 IsText texts class n = by_number class n ≡ None → n < length texts
 
 -- Each packed attribute that is a text is one of the texts.
@@ -61,7 +61,7 @@ abbrev pub Extends : List (List ℕ) → List (List ℕ) → Type 0
 Extends old new = (more : List (List ℕ)) × (new ≡ old ++ more)
 
 -- A value is kept as this class and number.
-pub record IsKeptAs (texts : List (List ℕ)) (value : model.Value) (class : Class) (n : ℕ) : Type 0 where
+pub record IsKeptAs (texts : List (List ℕ)) (value : model.Value) (class : ValueClass) (n : ℕ) : Type 0 where
   pub held : IsText texts class n
   pub is : value_of texts class n ≡ value
 

@@ -3,10 +3,10 @@ use Rattle.std.specs.Prelude.{ℕ, ◌+◌, ◌≤◌, ◌<◌, List, map, lengt
 use Rattle.std.specs.List.{AllByRecursion}
 use Rattle.unit_model.specs.Values.{Found}
 use Rattle.unit_model.specs.Entries.{Entry}
-use Rattle.dwarf_info.specs.declared.rows.Row.{Row}
+use Rattle.dwarf_info.specs.declared.rows.EntryRow.{EntryRow}
 
 -- A row of these numbers.
-abbrev pub row_made : (at tag depth unit first count : ℕ) → Row
+abbrev pub row_made : (at tag depth unit first count : ℕ) → EntryRow
 row_made at tag depth unit first count = record {
   tag = tag;
   at = at;
@@ -17,7 +17,7 @@ row_made at tag depth unit first count = record {
 }
 
 -- The entry of a row.
-abbrev pub entry_of_row : List Found → Row → Entry
+abbrev pub entry_of_row : List Found → EntryRow → Entry
 entry_of_row found row = record {
   at = row.at;
   depth = row.depth;
@@ -27,17 +27,17 @@ entry_of_row found row = record {
 }
 
 -- The attributes of a row are some of the list.
-pub record IsWithin (found : List Found) (row : Row) : Type 0 where
+pub record IsWithin (found : List Found) (row : EntryRow) : Type 0 where
   pub within : row.first + row.count ≤ length found
 
 -- The entries of rows.
-abbrev pub entries_of : List Found → List Row → List Entry
+abbrev pub entries_of : List Found → List EntryRow → List Entry
 entries_of found rows = map (entry_of_row found) rows
 
 -- The attributes of each row are some of the list.
-abbrev pub AreWithin : List Found → List Row → Type 0
+abbrev pub AreWithin : List Found → List EntryRow → Type 0
 AreWithin found rows = AllByRecursion (IsWithin found) rows
 
 -- The rows stand in the order of the file.
-abbrev pub Ascend : List Row → Type 0
+abbrev pub Ascend : List EntryRow → Type 0
 Ascend rows = AllPairs (λ before after. before.at < after.at) rows

@@ -6,7 +6,7 @@ ghost use Rattle.dwarf_info.specs.Rows.{row_made};
 ghost use Rattle.dwarf_info.specs.Tails.{list_of};
 
 use crate::numbers::{in_16, in_32};
-use crate::rows::{Entries, Row};
+use crate::rows::{Entries, EntryRow};
 use crate::tables::Table;
 use crate::values::read_values;
 use byte_view::Cur;
@@ -23,7 +23,7 @@ const MAX_ENTRIES: usize = 1 << 24;
 
 /// The unit whose entries are read: its number, and the size of its offsets.
 #[derive(Clone, Copy, Debug)]
-pub(crate) struct InUnit {
+pub(crate) struct OpenUnit {
     pub unit: u32,
     pub shape: UnitShape,
 }
@@ -41,11 +41,11 @@ fn row_of(
     unit: u32,
     first: usize,
     count: usize,
-) -> Result<Row, NoMemory>
+) -> Result<EntryRow, NoMemory>
     requires { depth ≤ 1024 }
     ensures { IfOk result (λ row. row ≡ row_made at tag depth unit first count) }
 {
-    Ok(Row {
+    Ok(EntryRow {
         tag,
         at: in_32(at as u64)?,
         unit,
@@ -56,7 +56,7 @@ fn row_of(
 }
 
 /// Adds a row.
-fn push(rows: &mut Vec<Row>, row: Row) -> Result<(), NoMemory>
+fn push(rows: &mut Vec<EntryRow>, row: EntryRow) -> Result<(), NoMemory>
     ensures { OnOk result (rows.new.items ≡ rows.old.items ++ row ∷ []) }
 {
     rows.push(row)?;
@@ -78,7 +78,7 @@ fn read_entry<'a>(
     cur: &mut Cur<'a>,
     at: usize,
     abbrev: &Abbrev<'_>,
-    of: InUnit,
+    of: OpenUnit,
     depth: u32,
     entries: &mut Entries<'a>,
 ) -> Result<u32, Stop>
@@ -106,7 +106,7 @@ fn read_entry<'a>(
 fn read_next<'a>(
     cur: &mut Cur<'a>,
     table: &Table,
-    of: InUnit,
+    of: OpenUnit,
     depth: u32,
     entries: &mut Entries<'a>,
 ) -> Result<u32, Stop>
@@ -131,7 +131,7 @@ fn read_next<'a>(
 pub(crate) fn read_entries<'a>(
     cur: &mut Cur<'a>,
     table: &Table,
-    of: InUnit,
+    of: OpenUnit,
     entries: &mut Entries<'a>,
 ) -> Result<(), Stop>
     requires { IsWhole entries.old }

@@ -10,7 +10,7 @@ use refusal::NoMemory;
 
 /// The class of a value that a wanted attribute can have.
 #[derive(Clone, Copy, Debug)]
-pub(crate) enum Class {
+pub(crate) enum ValueClass {
     Addr,
     Const,
     Text,
@@ -30,7 +30,7 @@ pub(crate) enum Class {
 #[derive(Clone, Copy, Debug)]
 pub(crate) struct Packed {
     pub name: u16,
-    pub class: Class,
+    pub class: ValueClass,
     pub at: u32,
     pub number: u64,
 }
@@ -43,21 +43,21 @@ const _: () = prove!(size_of::<Packed>() == 16);
 /// # Errors
 /// `NoMemory` for a value of another class. Of these no wanted attribute has a block, a flag or a
 /// list of locations, and a text is kept by its place.
-fn numbered(value: Value<'_>) -> Result<(Class, u64), NoMemory>
+fn numbered(value: Value<'_>) -> Result<(ValueClass, u64), NoMemory>
     ensures { IfOk result (λ kept. by_number kept.0 kept.1 ≡ Some (meaning_of value.entry)) }
 {
     match value {
-        Value::Addr(number) => Ok((Class::Addr, number)),
-        Value::Const(number) => Ok((Class::Const, number)),
-        Value::StrAt(number) => Ok((Class::StrAt, number)),
-        Value::LineStrAt(number) => Ok((Class::LineStrAt, number)),
-        Value::StrIndex(number) => Ok((Class::StrIndex, number)),
-        Value::AddrIndex(number) => Ok((Class::AddrIndex, number)),
-        Value::RefInfo(number) => Ok((Class::RefInfo, number)),
-        Value::Ref(number) => Ok((Class::Ref, number)),
-        Value::Sig(number) => Ok((Class::Sig, number)),
-        Value::Offset(number) => Ok((Class::Offset, number)),
-        Value::RangeIndex(number) => Ok((Class::RangeIndex, number)),
+        Value::Addr(number) => Ok((ValueClass::Addr, number)),
+        Value::Const(number) => Ok((ValueClass::Const, number)),
+        Value::StrAt(number) => Ok((ValueClass::StrAt, number)),
+        Value::LineStrAt(number) => Ok((ValueClass::LineStrAt, number)),
+        Value::StrIndex(number) => Ok((ValueClass::StrIndex, number)),
+        Value::AddrIndex(number) => Ok((ValueClass::AddrIndex, number)),
+        Value::RefInfo(number) => Ok((ValueClass::RefInfo, number)),
+        Value::Ref(number) => Ok((ValueClass::Ref, number)),
+        Value::Sig(number) => Ok((ValueClass::Sig, number)),
+        Value::Offset(number) => Ok((ValueClass::Offset, number)),
+        Value::RangeIndex(number) => Ok((ValueClass::RangeIndex, number)),
         Value::Text(_) | Value::Block(_) | Value::Flag(_) | Value::LocIndex(_) => Err(NoMemory),
     }
 }
@@ -67,7 +67,7 @@ fn numbered(value: Value<'_>) -> Result<(Class, u64), NoMemory>
 /// # Errors
 /// `NoMemory` also for a block, a flag and a list of locations, which no wanted attribute has.
 #[tactic(auto, using(crate::proofs::PackedLemmas::keep_lemmas))]
-fn keep<'a>(value: Value<'a>, texts: &mut Vec<&'a [u8]>) -> Result<(Class, u64), NoMemory>
+fn keep<'a>(value: Value<'a>, texts: &mut Vec<&'a [u8]>) -> Result<(ValueClass, u64), NoMemory>
     ensures extends { Extends (texts_of texts.old.items) (texts_of texts.new.items) }
     ensures kept { IfOk result (λ kept.
         IsKeptAs (texts_of texts.new.items) (meaning_of value.entry) kept.0 kept.1) }
@@ -76,7 +76,7 @@ fn keep<'a>(value: Value<'a>, texts: &mut Vec<&'a [u8]>) -> Result<(Class, u64),
         Value::Text(text) => {
             let place = texts.len() as u64;
             texts.push(text)?;
-            Ok((Class::Text, place))
+            Ok((ValueClass::Text, place))
         }
         _ => numbered(value),
     }
@@ -114,22 +114,22 @@ fn text_at<'a>(texts: &[&'a [u8]], place: u64) -> &'a [u8]
 }
 
 /// The value of a class and a number.
-fn value_of<'a>(class: Class, number: u64, texts: &[&'a [u8]]) -> Value<'a>
+fn value_of<'a>(class: ValueClass, number: u64, texts: &[&'a [u8]]) -> Value<'a>
     ensures { meaning_of result ≡ value_told (texts_of texts.now) class number }
 {
     match class {
-        Class::Addr => Value::Addr(number),
-        Class::Const => Value::Const(number),
-        Class::Text => Value::Text(text_at(texts, number)),
-        Class::StrAt => Value::StrAt(number),
-        Class::LineStrAt => Value::LineStrAt(number),
-        Class::StrIndex => Value::StrIndex(number),
-        Class::AddrIndex => Value::AddrIndex(number),
-        Class::RefInfo => Value::RefInfo(number),
-        Class::Ref => Value::Ref(number),
-        Class::Sig => Value::Sig(number),
-        Class::Offset => Value::Offset(number),
-        Class::RangeIndex => Value::RangeIndex(number),
+        ValueClass::Addr => Value::Addr(number),
+        ValueClass::Const => Value::Const(number),
+        ValueClass::Text => Value::Text(text_at(texts, number)),
+        ValueClass::StrAt => Value::StrAt(number),
+        ValueClass::LineStrAt => Value::LineStrAt(number),
+        ValueClass::StrIndex => Value::StrIndex(number),
+        ValueClass::AddrIndex => Value::AddrIndex(number),
+        ValueClass::RefInfo => Value::RefInfo(number),
+        ValueClass::Ref => Value::Ref(number),
+        ValueClass::Sig => Value::Sig(number),
+        ValueClass::Offset => Value::Offset(number),
+        ValueClass::RangeIndex => Value::RangeIndex(number),
     }
 }
 

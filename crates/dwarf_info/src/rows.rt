@@ -78,7 +78,7 @@ impl Model for Unit {
 /// An entry in memory, in 24 bytes. Its attributes stand in the list of all: `count` of them, from
 /// `first` on.
 #[derive(Clone, Copy, Debug)]
-pub(crate) struct Row {
+pub(crate) struct EntryRow {
     pub tag: u64,
     pub at: u32,
     pub unit: u32,
@@ -87,7 +87,7 @@ pub(crate) struct Row {
     pub count: u16,
 }
 
-impl Row {
+impl EntryRow {
     ghost use Rattle.std.specs.Prelude.{◌≡◌};
     ghost use Rattle.dwarf_info.specs.Rows.{IsWithin, entry_of_row};
 
@@ -111,31 +111,31 @@ impl Row {
 /// Entries in memory, with the attributes of all.
 #[derive(Debug, Drop)]
 pub(crate) struct Entries<'a> {
-    pub rows: Vec<Row>,
+    pub rows: Vec<EntryRow>,
     pub found: AttributeList<'a>,
 }
 
 /// The units that are read so far, with the entries of all, and where each unit that is passed over
 /// begins and ends.
 #[derive(Debug, Drop)]
-pub(crate) struct SoFar<'a> {
+pub(crate) struct UnitsSoFar<'a> {
     pub units: Vec<Unit>,
     pub entries: Entries<'a>,
     pub skipped: Vec<(u64, u64)>,
 }
 
-impl<'a> SoFar<'a> {
+impl<'a> UnitsSoFar<'a> {
     ghost use Rattle.dwarf_info.specs.Entries.{IsWhole};
     ghost use Rattle.dwarf_info.specs.Units.{units_of};
     ghost use Rattle.unit_model.specs.Units.{no_units};
 
     /// No units.
-    pub fn new(alloc: Global) -> SoFar<'a>
+    pub fn new(alloc: Global) -> UnitsSoFar<'a>
         ensures whole { IsWhole result.entries }
         ensures none { units_of result ≡ no_units }
         ensures few { length result.units.items ≡ 0 }
     {
-        SoFar {
+        UnitsSoFar {
             units: Vec::new(alloc),
             entries: Entries {
                 rows: Vec::new(alloc),
@@ -153,7 +153,7 @@ impl<'a> SoFar<'a> {
 /// is lent, as a value that borrows its attributes.
 #[derive(Debug, Drop)]
 pub struct Units<'a> {
-    pub(crate) so_far: SoFar<'a>,
+    pub(crate) so_far: UnitsSoFar<'a>,
 }
 
 impl<'a> Model for Units<'a> {

@@ -1,11 +1,11 @@
 use crate::attributes::AttributeList;
-use crate::rows::{Entry, Row};
+use crate::rows::{Entry, EntryRow};
 use std::marker::Model;
 
 /// The entries of a unit that are left, in the order of the file.
 #[derive(Debug, Drop)]
 pub struct UnitEntries<'a, 'u> {
-    rows: &'u [Row],
+    rows: &'u [EntryRow],
     found: &'u AttributeList<'a>,
 }
 
@@ -26,7 +26,7 @@ impl<'a, 'u> UnitEntries<'a, 'u> {
     ghost use Rattle.dwarf_info.specs.Rows.{AreWithin, entries_of};
 
     /// The entries of rows, whose attributes stand in a list.
-    pub(crate) fn new(rows: &'u [Row], found: &'u AttributeList<'a>) -> UnitEntries<'a, 'u>
+    pub(crate) fn new(rows: &'u [EntryRow], found: &'u AttributeList<'a>) -> UnitEntries<'a, 'u>
         requires { AreWithin found.now rows.now }
         ensures { result ≡ entries_of found.now rows.now }
     {

@@ -19,7 +19,7 @@ use Rattle.tree_model.specs.Origin as way
 use Rattle.entry_facts.specs.declared.origin.Origin.{Origin}
 use Rattle.entry_facts.specs.Meaning.{Extends, IsNumberOf, GivesOrigin}
 use Rattle.tree_model.specs.Members.{Told, function_told}
-use Rattle.member_lists.specs.declared.frame.Frame.{Frame}
+use Rattle.member_lists.specs.declared.frame.EntryFrame.{EntryFrame}
 use Rattle.member_lists.specs.Frames.{SoFar, behind_call, behind_function, behind_other, frame_above, frame_of_function, frames_to, outside}
 use Rattle.tree_model.specs.Tree.{Source, with_call, with_member}
 use Rattle.member_lists.specs.Collecting.{function_with, next_call, next_entry, next_function}
@@ -88,7 +88,7 @@ IsSoFar-extends old new told made more is = record {
 
 -- ---- an entry more
 
-pub IsSoFar-other : (names : List (List ℕ)) (told : SoFar Told) (made : SoFar Member) (depth : ℕ) (frame : Frame) (count : ℕ)
+pub IsSoFar-other : (names : List (List ℕ)) (told : SoFar Told) (made : SoFar Member) (depth : ℕ) (frame : EntryFrame) (count : ℕ)
     → IsSoFar names told made → IsSoFar names (behind_other depth frame count told) (behind_other depth frame count made)
 IsSoFar-other names told made depth frame count is = record {
   functions_are = is.functions_are;
@@ -106,7 +106,7 @@ IsSoFar-function names told made depth function member count is one = record {
       ∙ ap (λ fs. frames_to depth (frame_of_function (length told.functions)) fs) is.frames_are;
 }
 
-pub IsSoFar-call : (names : List (List ℕ)) (told : SoFar Told) (made : SoFar Member) (depth : ℕ) (frame : Frame) (call : Told) (member : Member) (count : ℕ)
+pub IsSoFar-call : (names : List (List ℕ)) (told : SoFar Told) (made : SoFar Member) (depth : ℕ) (frame : EntryFrame) (call : Told) (member : Member) (count : ℕ)
     → IsSoFar names told made → IsTold names call member
     → IsSoFar names (behind_call depth frame call count told) (behind_call depth frame member count made)
 IsSoFar-call names told made depth frame call member count is one = record {
@@ -230,7 +230,7 @@ entry-passed_at source of entry told no_function no_call =
     ∙ ap (λ b. cond b (next_call source of entry (frame_above entry.depth told.frames) told) (Ok (behind_other entry.depth (frame_above entry.depth told.frames) 0 told)))
     (ne_eqb entry.tag DW_TAG_inlined_subroutine no_call)
 
-pub entry-passed : (source : Source) (of : InUnit) (entry : Entry) (names : List (List ℕ)) (told : SoFar Told) (old new : SoFar Member) (tag depth : ℕ) (above : Frame)
+pub entry-passed : (source : Source) (of : InUnit) (entry : Entry) (names : List (List ℕ)) (told : SoFar Told) (old new : SoFar Member) (tag depth : ℕ) (above : EntryFrame)
     → IsSoFar names told old → tag ≢ DW_TAG_subprogram → tag ≢ DW_TAG_inlined_subroutine → tag ≡ entry.tag → depth ≡ entry.depth → above ≡ frame_above depth old.frames → new ≡ behind_other depth above 0 old
     → Advances names (Ok tt) new (next_entry source of entry told)
 entry-passed source of entry names told old new tag depth above is no_function no_call same at frame after =

@@ -15,7 +15,7 @@ use crate::member::{call_of, function_of};
 use crate::source::Source;
 use dwarf_info::{DW_TAG_INLINED_SUBROUTINE, DW_TAG_SUBPROGRAM, Entry};
 use entry_facts::{InUnit, Lists, pieces};
-use member_lists::{Frame, SoFar};
+use member_lists::{EntryFrame, SoFar};
 use refusal::{Kind, Place, Stop};
 use std::alloc::Global;
 
@@ -64,7 +64,7 @@ fn next_function<'a>(
 {
     let pieces = pieces_behind(alloc, source, of, entry, &all.members, &mut all.lists)?;
     if pieces.is_empty() {
-        all.members.pass(entry.depth, Frame::outside())?;
+        all.members.pass(entry.depth, EntryFrame::outside())?;
         return Ok(());
     }
     let count = pieces.len() as u64;
@@ -79,7 +79,7 @@ fn next_function<'a>(
 ///
 /// # Errors
 /// `InlineTooDeep` at the entry, where they are more than 255.
-fn calls_below(above: &Frame, entry: &Entry<'_, '_>) -> Result<u8, Place>
+fn calls_below(above: &EntryFrame, entry: &Entry<'_, '_>) -> Result<u8, Place>
     ensures { CountsCalls entry.now.at above.now.calls result }
 {
     if above.calls == MAX_CALLS {
@@ -116,7 +116,8 @@ fn next_call<'a>(
     let pieces = pieces_behind(alloc, source, of, entry, &all.members, &mut all.lists)?;
     if pieces.is_empty() {
         let function = None;
-        all.members.pass(entry.depth, Frame { calls, function })?;
+        all.members
+            .pass(entry.depth, EntryFrame { calls, function })?;
         return Ok(());
     }
     let count = pieces.len() as u64;
@@ -124,7 +125,7 @@ fn next_call<'a>(
     let call = call_of(calls, entry, origin, pieces);
     let function = above.function;
     all.members
-        .add_call(entry.depth, Frame { calls, function }, call, count)?;
+        .add_call(entry.depth, EntryFrame { calls, function }, call, count)?;
     Ok(())
 }
 

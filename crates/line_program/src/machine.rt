@@ -13,7 +13,7 @@ ghost use Rattle.line_program.specs.declared.machine.OperationStop.TheVariants.{
 
 use crate::fault::Fault;
 use crate::header::LineHeader;
-use crate::program::Program;
+use crate::program::LineProgram;
 use crate::registers::Registers;
 use byte_view::Cur;
 use line_model::Row;
@@ -166,11 +166,15 @@ impl OperationStop {
 ///
 /// # Errors
 /// The place of the first operation that is refused, or of the end that is wanted.
-pub(crate) fn rows_in(alloc: Global, program: Program<'_>, before: u64) -> Result<Vec<Row>, Stop>
+pub(crate) fn rows_in(
+    alloc: Global,
+    program: LineProgram<'_>,
+    before: u64,
+) -> Result<Vec<Row>, Stop>
     requires { before ≤ 2 ^ 26 }
     ensures { GivesRows result (rows_in before (program_of program.entry)) }
 {
-    let Program {
+    let LineProgram {
         header,
         mut opcodes,
     } = program;

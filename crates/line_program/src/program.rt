@@ -9,12 +9,12 @@ use refusal::{Kind, Place};
 
 /// A program whose header is good: the header, and the bytes from the first opcode on.
 #[derive(Debug, Drop)]
-pub(crate) struct Program<'a> {
+pub(crate) struct LineProgram<'a> {
     pub header: LineHeader<'a>,
     pub opcodes: Cur<'a>,
 }
 
-impl<'a> Program<'a> {
+impl<'a> LineProgram<'a> {
     /// Reads the header of the program at the start of a piece.
     ///
     /// # Errors
@@ -22,7 +22,7 @@ impl<'a> Program<'a> {
     ///
     /// Source: DWARF 5, section 6.2.4.
     #[tactic(auto, unfolding(line_model::specs::Fields::program_at))]
-    pub fn read(part: Part<'a>) -> Result<Program<'a>, Place>
+    pub fn read(part: Part<'a>) -> Result<LineProgram<'a>, Place>
         ensures { GivesProgram result (program_at (cursor_of part.entry)) }
     {
         let (wide, mut fields) = LineFields::of_unit(part)?;
@@ -30,7 +30,7 @@ impl<'a> Program<'a> {
         fields.pass_sizes(version)?;
         let opcodes = fields.opcodes(wide)?;
         let header = read_header(version, &mut fields)?;
-        Ok(Program { header, opcodes })
+        Ok(LineProgram { header, opcodes })
     }
 }
 

@@ -5,7 +5,7 @@ ghost use Rattle.line_program.specs.Headers.{cursor_of};
 ghost use Rattle.line_program.specs.Rows.{GivesRows};
 
 use crate::machine::rows_in;
-use crate::program::Program;
+use crate::program::LineProgram;
 use byte_view::Part;
 use line_model::Row;
 use refusal::Stop;
@@ -28,6 +28,6 @@ pub fn rows(alloc: Global, part: Part<'_>, before: u64) -> Result<Vec<Row>, Stop
         (λ rows. AreRowsOf (cursor_of part.entry) rows.items) }
     ensures exact { GivesRows result (rows_at before (cursor_of part.entry)) }
 {
-    let program = Program::read(part)?;
+    let program = LineProgram::read(part)?;
     rows_in(alloc, program, before)
 }

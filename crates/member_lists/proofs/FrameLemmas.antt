@@ -17,7 +17,7 @@ use Rattle.tree_model.specs.Depths.{Standing, calls_on, function_count, function
 use Rattle.tree_model.specs.Members.{Told, call_told, function_told, is_call, is_function}
 use Rattle.tree_model.specs.Tree.{Source, Tree, entries_of_unit, in_unit, members, not_too_deep, with_call, with_member}
 use Rattle.tree_model.specs.Tree.{call_with as tree_call_with, function_with as tree_function_with, next_call as next_tree_call, next_entries as next_tree_entries, next_entry as next_tree_entry, next_function as next_tree_function, next_unit as next_tree_unit, next_units as next_tree_units}
-use Rattle.member_lists.specs.declared.frame.Frame.{Frame}
+use Rattle.member_lists.specs.declared.frame.EntryFrame.{EntryFrame}
 use Rattle.member_lists.specs.Frames.{SoFar, all_members, behind_other, behind_unit, first_frame, frame_above, frame_of_function, frames_above, frames_to, left_out, nothing, one_deeper, outside}
 use Rattle.member_lists.specs.Collecting.{call_with, function_with, next_call, next_entries, next_entry, next_function, next_unit, next_units}
 use Rattle.member_lists.specs.Laws.{CollectedAreMembers}
@@ -25,11 +25,11 @@ use Rattle.member_lists.specs.Laws.{CollectedAreMembers}
 -- ---- what a way up says
 
 -- The frame that a way up says.
-abbrev frame_on : List ℕ → InUnit → ℕ → List Standing → Frame
+abbrev frame_on : List ℕ → InUnit → ℕ → List Standing → EntryFrame
 frame_on file of before way = record { calls = length (calls_on way); function = inlined_into file of before way }
 
 -- The frame of an entry right below a frame.
-abbrev frame_with : List ℕ → InUnit → ℕ → Standing → Frame → Frame
+abbrev frame_with : List ℕ → InUnit → ℕ → Standing → EntryFrame → EntryFrame
 frame_with file of before on above =
     cond (is_function on.entry) (record { calls = 0; function = function_number file of before on })
     (cond (is_call on.entry) (record { calls = above.calls + 1; function = cond (has_pieces file of on.entry) above.function None }) above)
@@ -61,7 +61,7 @@ calls_on-cons on way = ap (filter on_call) (before_first-cons on way) ∙ go (is
     go false = refl
 
 -- The frame by the calls on a way and the nearest function.
-abbrev frame_by : List ℕ → InUnit → ℕ → List Standing → Option Standing → Frame
+abbrev frame_by : List ℕ → InUnit → ℕ → List Standing → Option Standing → EntryFrame
 frame_by file of before calls nearest = record {
   calls = length calls;
   function = cond (list_all (λ on. has_pieces file of on.entry) calls) (option_and_then (function_number file of before) nearest) None;
@@ -80,7 +80,7 @@ frame_on-cons file of before on way =
     go false true = below (has_pieces file of on.entry) (list_all (λ other. has_pieces file of other.entry) (calls_on way)) (option_and_then (function_number file of before) (find on_function way))
       where
         below : (here there : Bool) (nearest : Option ℕ)
-            → ◌≡◌ {A = Frame} (record { calls = length (calls_on way) + 1; function = cond here (cond there nearest None) None })
+            → ◌≡◌ {A = EntryFrame} (record { calls = length (calls_on way) + 1; function = cond here (cond there nearest None) None })
             (record { calls = length (on ∷ calls_on way); function = cond (here && there) nearest None })
         below true there nearest = let long : length (calls_on way) + 1 ≡ length (on ∷ calls_on way) = omega arith in ap (λ n. record { calls = n; function = cond there nearest None }) long
         below false there nearest = let long : length (calls_on way) + 1 ≡ length (on ∷ calls_on way) = omega arith in ap (λ n. record { calls = n; function = None }) long
@@ -89,10 +89,10 @@ frame_on-cons file of before on way =
 -- ---- frames
 
 -- The frames say of each depth what the ways up say, the last entry first.
-abbrev Framed : List ℕ → InUnit → ℕ → List Entry → List (ℕ × Frame) → Type 0
+abbrev Framed : List ℕ → InUnit → ℕ → List Entry → List (ℕ × EntryFrame) → Type 0
 Framed file of before earlier frames = (depth : ℕ) → frame_above depth frames ≡ frame_on file of before (way_up depth earlier)
 
-above-less : (few many : ℕ) (frames : List (ℕ × Frame)) → few ≤ many → frames_above few (frames_above many frames) ≡ frames_above few frames
+above-less : (few many : ℕ) (frames : List (ℕ × EntryFrame)) → few ≤ many → frames_above few (frames_above many frames) ≡ frames_above few frames
 above-less few many [] less = refl
 above-less few many (frame ∷ frames) less = elim (cases_lt frame.0 many) [
   | inl here ↦ ap (λ b. frames_above few (cond b (frame ∷ frames) (frames_above many frames))) (lt-ltb frame.0 many here)
@@ -108,7 +108,7 @@ way_up-by : (depth : ℕ) (entry : Entry) (earlier : List Entry) (less : Bool) �
 way_up-by depth entry earlier less is =
     ap (λ b. cond b (record { entry = entry; earlier = earlier } ∷ []) [] ++ way_up (cond b entry.depth depth) earlier) is
 
-framed-more : (file : List ℕ) (of : InUnit) (before : ℕ) (entry : Entry) (earlier : List Entry) (frames : List (ℕ × Frame)) (frame : Frame)
+framed-more : (file : List ℕ) (of : InUnit) (before : ℕ) (entry : Entry) (earlier : List Entry) (frames : List (ℕ × EntryFrame)) (frame : EntryFrame)
     → Framed file of before earlier frames
     → frame ≡ frame_with file of before (record { entry = entry; earlier = earlier }) (frame_above entry.depth frames)
     → Framed file of before (entry ∷ earlier) (frames_to entry.depth frame frames)
@@ -127,7 +127,7 @@ framed-more file of before entry earlier frames frame framed is depth = elim (ca
     on : Standing
     on = record { entry = entry; earlier = earlier }
 
-    first : List (ℕ × Frame) → Frame
+    first : List (ℕ × EntryFrame) → EntryFrame
     first all = first_frame all
 
     first_above : (less : Bool) → nat_lt entry.depth depth ≡ less
@@ -191,12 +191,12 @@ agree-same Behind (Ok x) f g next = next x refl
 agree-same Behind (Err place) f g next = refl
 
 -- A tree with frames.
-abbrev framed_tree : Tree → List (ℕ × Frame) → SoFar Told
+abbrev framed_tree : Tree → List (ℕ × EntryFrame) → SoFar Told
 framed_tree tree frames = record { functions = tree.functions; pieces = tree.pieces; frames = frames }
 
 -- What is collected behind some entries of a unit is the tree with frames that say what ways up say.
 record IsFramed (file : List ℕ) (of : InUnit) (before : ℕ) (earlier : List Entry) (so_far : SoFar Told) (tree : Tree) : Type 0 where
-  frames : List (ℕ × Frame)
+  frames : List (ℕ × EntryFrame)
   is : so_far ≡ framed_tree tree frames
   counted : length tree.functions ≡ function_count file of before earlier
   framed : Framed file of before earlier frames
@@ -207,12 +207,12 @@ IsCollected so_far tree = (so_far.functions ≡ tree.functions) × (so_far.piece
 
 -- ---- one entry
 
-other-is : (depth : ℕ) (frame : Frame) (tree : Tree) (frames : List (ℕ × Frame)) → behind_other depth frame 0 (framed_tree tree frames) ≡ framed_tree tree (frames_to depth frame frames)
+other-is : (depth : ℕ) (frame : EntryFrame) (tree : Tree) (frames : List (ℕ × EntryFrame)) → behind_other depth frame 0 (framed_tree tree frames) ≡ framed_tree tree (frames_to depth frame frames)
 other-is depth frame tree frames =
     let same : tree.pieces + 0 ≡ tree.pieces = omega arith in
     ap {B = SoFar Told} (λ n. record { functions = tree.functions; pieces = n; frames = frames_to depth frame frames }) same
 
-module _ (source : Source) (of : InUnit) (before : ℕ) (earlier : List Entry) (entry : Entry) (frames : List (ℕ × Frame)) (tree : Tree)
+module _ (source : Source) (of : InUnit) (before : ℕ) (earlier : List Entry) (entry : Entry) (frames : List (ℕ × EntryFrame)) (tree : Tree)
     (counted : length tree.functions ≡ function_count source.file of before earlier) (framed : Framed source.file of before earlier frames) where
   abbrev on : Standing
   on = record { entry = entry; earlier = earlier }
@@ -221,7 +221,7 @@ module _ (source : Source) (of : InUnit) (before : ℕ) (earlier : List Entry) (
   way = way_up entry.depth earlier
 
   -- an entry that adds no function
-  other : (frame : Frame) (new : Tree) → frame ≡ frame_with source.file of before on (frame_above entry.depth frames)
+  other : (frame : EntryFrame) (new : Tree) → frame ≡ frame_with source.file of before on (frame_above entry.depth frames)
       → length new.functions ≡ length tree.functions → gives_function source.file of entry ≡ false
       → (so_far : SoFar Told) → so_far ≡ framed_tree new (frames_to entry.depth frame frames)
       → IsFramed source.file of before (entry ∷ earlier) so_far new
@@ -265,13 +265,13 @@ module _ (source : Source) (of : InUnit) (before : ℕ) (earlier : List Entry) (
   unfolding next_entry next_function next_call next_tree_entry next_tree_function next_tree_call
   entry_step = go (is_function entry) (is_call entry) refl refl
     where
-      call_below : (above : Frame) → above ≡ frame_on source.file of before way → is_function entry ≡ false → is_call entry ≡ true
+      call_below : (above : EntryFrame) → above ≡ frame_on source.file of before way → is_function entry ≡ false → is_call entry ≡ true
           → Agree (IsFramed source.file of before (entry ∷ earlier))
           (and_then (not_too_deep entry.at (above.calls + 1)) (λ _. and_then (pieces source.file of tree.pieces entry) (call_with source entry above (framed_tree tree frames))))
           (and_then (not_too_deep entry.at (length (calls_on way) + 1))
           (λ _. and_then (pieces source.file of tree.pieces entry) (tree_call_with source (inlined_into source.file of before way) (length (calls_on way) + 1) entry tree)))
       call_below above above_is not_function is = subst
-          (λ (f : Frame). Agree (IsFramed source.file of before (entry ∷ earlier))
+          (λ (f : EntryFrame). Agree (IsFramed source.file of before (entry ∷ earlier))
           (and_then (not_too_deep entry.at (f.calls + 1)) (λ _. and_then (pieces source.file of tree.pieces entry) (call_with source entry f (framed_tree tree frames))))
           (and_then (not_too_deep entry.at (length (calls_on way) + 1))
           (λ _. and_then (pieces source.file of tree.pieces entry) (tree_call_with source (inlined_into source.file of before way) (length (calls_on way) + 1) entry tree))))

@@ -8,7 +8,7 @@ use Rattle.tree_model.specs.Pieces.{InUnit, and_then, pieces}
 use Rattle.tree_model.specs.Origin.{origin}
 use Rattle.tree_model.specs.Members.{Told, call_told, function_told, is_call, is_function}
 use Rattle.tree_model.specs.Tree.{Source, entries_of_unit, in_unit, not_too_deep}
-use Rattle.member_lists.specs.declared.frame.Frame.{Frame}
+use Rattle.member_lists.specs.declared.frame.EntryFrame.{EntryFrame}
 use Rattle.member_lists.specs.Frames.{SoFar, all_members, behind_call, behind_function, behind_other, behind_unit, frame_above, left_out, nothing, one_deeper, outside}
 
 -- A subprogram with these pieces: a function, where it has any.
@@ -24,14 +24,14 @@ next_function source of entry so_far =
     and_then (pieces source.file of so_far.pieces entry) (function_with source entry so_far)
 
 -- An inlined subroutine below a frame with these pieces: a call, where it has any.
-abbrev pub call_with : Source → Entry → Frame → SoFar Told → List (ℕ × ℕ) → Result (SoFar Told) Place
+abbrev pub call_with : Source → Entry → EntryFrame → SoFar Told → List (ℕ × ℕ) → Result (SoFar Told) Place
 call_with source entry above so_far [] = Ok (behind_other entry.depth (left_out above) 0 so_far)
 call_with source entry above so_far (piece ∷ more) =
     and_then (origin source.sections.texts source.info entry)
     (λ origin. Ok (behind_call entry.depth (one_deeper above) (call_told (above.calls + 1) entry (piece ∷ more) origin)
     (length (piece ∷ more)) so_far))
 
-unfoldable pub next_call : Source → InUnit → Entry → Frame → SoFar Told → Result (SoFar Told) Place
+unfoldable pub next_call : Source → InUnit → Entry → EntryFrame → SoFar Told → Result (SoFar Told) Place
 next_call source of entry above so_far =
     and_then (not_too_deep entry.at (above.calls + 1))
     (λ _. and_then (pieces source.file of so_far.pieces entry) (call_with source entry above so_far))

@@ -5,7 +5,7 @@ use refusal::NoMemory;
 
 /// Where an entry stands among functions and inlined calls.
 #[derive(Clone, Copy, Debug)]
-pub struct Frame {
+pub struct EntryFrame {
     /// How many inlined calls there are on its way up to the nearest function, itself included.
     pub calls: u8,
     /// The number of the function that it is or is inlined into: none where one on that way, or the
@@ -13,22 +13,22 @@ pub struct Frame {
     pub function: Option<usize>,
 }
 
-impl Frame {
+impl EntryFrame {
     /// An entry below no function and no call, or a function without pieces.
-    pub fn outside() -> Frame
+    pub fn outside() -> EntryFrame
         ensures { result ≡ outside }
     {
-        Frame {
+        EntryFrame {
             calls: 0,
             function: None,
         }
     }
 
     /// The function of a number.
-    pub(crate) fn of_function(number: usize) -> Frame
+    pub(crate) fn of_function(number: usize) -> EntryFrame
         ensures { result ≡ frame_of_function number }
     {
-        Frame {
+        EntryFrame {
             calls: 0,
             function: Some(number),
         }
@@ -37,7 +37,7 @@ impl Frame {
 
 /// Of frames with the depths of their entries, the outermost first, how many are of entries that
 /// one at a depth stands below.
-pub(crate) fn count_above(frames: &[(u32, Frame)], depth: u32) -> usize
+pub(crate) fn count_above(frames: &[(u32, EntryFrame)], depth: u32) -> usize
     ensures within { result ≤ length frames.now }
     ensures above { reverse (take result frames.now) ≡ frames_above depth (reverse frames.now) }
 {
@@ -53,18 +53,22 @@ pub(crate) fn count_above(frames: &[(u32, Frame)], depth: u32) -> usize
 }
 
 /// The frame of the entry right above one at a depth.
-pub(crate) fn frame_above(frames: &[(u32, Frame)], depth: u32) -> Frame
+pub(crate) fn frame_above(frames: &[(u32, EntryFrame)], depth: u32) -> EntryFrame
     ensures { result ≡ first_frame (frames_above depth (reverse frames.now)) }
 {
     let above = &frames[..count_above(frames, depth)];
     match above.last() {
         Some((_, frame)) => *frame,
-        None => Frame::outside(),
+        None => EntryFrame::outside(),
     }
 }
 
 /// Puts the frame of an entry at a depth behind those of the entries that it stands below.
-pub(crate) fn put(frames: &mut Vec<(u32, Frame)>, depth: u32, frame: Frame) -> Result<(), NoMemory>
+pub(crate) fn put(
+    frames: &mut Vec<(u32, EntryFrame)>,
+    depth: u32,
+    frame: EntryFrame,
+) -> Result<(), NoMemory>
     ensures { OnOk result
         (reverse frames.new.items ≡ frames_to depth frame (reverse frames.old.items)) }
 {

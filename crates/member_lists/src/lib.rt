@@ -12,6 +12,6 @@ mod functions;
 mod laws;
 mod so_far;
 
-pub use frame::Frame;
+pub use frame::EntryFrame;
 pub use laws::collected_are_members;
 pub use so_far::SoFar;

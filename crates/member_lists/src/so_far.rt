@@ -1,7 +1,7 @@
 ghost use Rattle.std.specs.Prelude.{◌≡◌, ◌+◌, ◌<◌, ◌^◌, IfOk, OnOk, length};
 ghost use Rattle.member_lists.specs.Frames.{all_members, behind_call, behind_function, behind_other, behind_unit, frame_above as above_told, nothing};
 
-use crate::frame::{self, Frame};
+use crate::frame::{self, EntryFrame};
 use crate::functions::FunctionMembers;
 use chain_model::Member;
 use refusal::NoMemory;
@@ -14,7 +14,7 @@ use std::marker::Model;
 pub struct SoFar {
     functions: FunctionMembers,
     pieces: u64,
-    frames: Vec<(u32, Frame)>,
+    frames: Vec<(u32, EntryFrame)>,
 }
 
 // Clauses see the frames from the innermost on.
@@ -52,14 +52,14 @@ impl SoFar {
     }
 
     /// The frame of the entry right above one at a depth.
-    pub fn frame_above(&self, depth: u32) -> Frame
+    pub fn frame_above(&self, depth: u32) -> EntryFrame
         ensures { result ≡ above_told depth self.now.frames }
     {
         frame::frame_above(&self.frames, depth)
     }
 
     /// Passes an entry that is no member, with its frame.
-    pub fn pass(&mut self, depth: u32, frame: Frame) -> Result<(), NoMemory>
+    pub fn pass(&mut self, depth: u32, frame: EntryFrame) -> Result<(), NoMemory>
         ensures { OnOk result (self.new ≡ behind_other depth frame 0 self.old) }
     {
         frame::put(&mut self.frames, depth, frame)
@@ -76,7 +76,7 @@ impl SoFar {
         requires { self.old.pieces + pieces < 2 ^ 64 }
         ensures { OnOk result (self.new ≡ behind_function depth function pieces self.old) }
     {
-        let frame = Frame::of_function(self.functions.len());
+        let frame = EntryFrame::of_function(self.functions.len());
         self.functions.add_function(alloc, function)?;
         frame::put(&mut self.frames, depth, frame)?;
         self.pieces += pieces;
@@ -87,7 +87,7 @@ impl SoFar {
     pub fn add_call(
         &mut self,
         depth: u32,
-        frame: Frame,
+        frame: EntryFrame,
         call: Member,
         pieces: u64,
     ) -> Result<(), NoMemory>

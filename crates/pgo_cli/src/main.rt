@@ -16,13 +16,13 @@ use std::alloc::Global;
 use std::process::ExitCode;
 
 fn main(rt: HostRuntime) -> ExitCode {
-    main_of::<Pgo, _>(&rt)
+    main_of::<Main, _>(&rt)
 }
 
 /// The program `pgo`.
-struct Pgo;
+struct Main;
 
-impl Called for Pgo {
+impl Called for Main {
     fn answer_to(words: &[Vec<u8>]) -> Option<&'static [u8]> {
         about::answer_to(words)
     }

@@ -24,7 +24,7 @@ use crate::asked::{ask_blocks, ask_samples};
 use binary_places::{Asked, Binary, Placed, places};
 use branch_counts::Counts;
 use cfg_text::Fun;
-use profile_writer::{Profile, Samples, Units};
+use profile_writer::{BranchUnits, Profile, Samples};
 use refusal::NoMemory;
 use sample_model::Pair;
 use std::alloc::Global;
@@ -122,11 +122,11 @@ pub fn profile_with_cold<'a>(
 }
 
 /// How many units of a binary were read, and how many passed over.
-fn units_of(binary: &Binary<'_>) -> Units
+fn units_of(binary: &Binary<'_>) -> BranchUnits
     ensures read { result.read ≡ binary.now.read }
     ensures passed { result.passed ≡ binary.now.passed }
 {
-    Units {
+    BranchUnits {
         read: binary.read as u64,
         passed: binary.passed as u64,
     }
@@ -161,7 +161,7 @@ fn profile_by_rows<'a>(
     branches: Vec<Pair>,
     total: u64,
     ranges: &[Pair],
-    units: Units,
+    units: BranchUnits,
     funs: &[Fun<'_>],
 ) -> Result<Profiled<'a>, NoMemory>
     requires binary { (file : List ℕ) × (base : Bool) × IsBinary file base binary }

@@ -16,14 +16,14 @@ use std::marker::Model;
 ///
 /// The targets stand in a set too, in the same order, by which a sum is found at once.
 #[derive(Drop)]
-pub(crate) struct Called {
+pub(crate) struct CalledSums {
     sums: Vec<((KeyId, NameId), u64)>,
     targets: IndexSet<(KeyId, NameId), Keyed>,
     watch: Watch,
 }
 
 // Clauses see the list of the keys and callees with their sums.
-impl Model for Called {
+impl Model for CalledSums {
     ghost use Rattle.std.specs.Prelude.{◌≡◌, ℕ, List};
     ghost use Rattle.std.specs.Map.{keys_of};
     ghost use Rattle.profile_merge.specs.Called.{Target};
@@ -35,12 +35,12 @@ impl Model for Called {
     ghost invariant = { λ a. a.targets.keys ≡ keys_of a.sums.items };
 }
 
-impl Called {
+impl CalledSums {
     /// All sums are 0, and there is room for one.
-    pub(crate) fn new(alloc: Global) -> Result<Called, AllocError>
+    pub(crate) fn new(alloc: Global) -> Result<CalledSums, AllocError>
         ensures { IfOk result (λ called. called ≡ []) }
     {
-        Ok(Called {
+        Ok(CalledSums {
             sums: Vec::with_capacity(alloc, 1)?,
             targets: IndexSet::with_capacity_and_hasher(alloc, 1, Keyed::by(0))?,
             watch: Watch::new(alloc),

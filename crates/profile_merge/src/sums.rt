@@ -8,7 +8,7 @@ ghost use Rattle.profile_tree.specs.Known.{HasNames};
 ghost use Rattle.profile_tree.specs.Told.{IsOf, told};
 ghost use Rattle.profile_merge.specs.declared.sums.MergeStop.TheVariants.{NoMemory as no_memory};
 
-use crate::called::Called;
+use crate::called::CalledSums;
 use crate::row::SumRow;
 use crate::stated::heads_of;
 use key_types::{Keys, Names};
@@ -42,7 +42,7 @@ impl From<NoMemory> for MergeStop {
 pub struct Sums {
     heads: SumRow,
     counts: SumRow,
-    called: Called,
+    called: CalledSums,
 }
 
 // Clauses see the lists of the sums.
@@ -66,7 +66,7 @@ impl Sums {
         Ok(Sums {
             heads: SumRow::new(alloc)?,
             counts: SumRow::new(alloc)?,
-            called: Called::new(alloc)?,
+            called: CalledSums::new(alloc)?,
         })
     }
 

@@ -18,7 +18,7 @@ use Rattle.report_model.specs.Ranges.{is_class}
 use Rattle.report_model.specs.Report.{Classes, Sampled, branches_text, branches_where, number_line, ranges_of_class, ranges_text, reasons, unmapped_line}
 use Rattle.report_model.specs.Report.{lines_for as told_lines_for}
 use Rattle.profile_report.specs.declared.classed.Classed.{Classed}
-use Rattle.profile_report.specs.declared.report.Units.{Units}
+use Rattle.profile_report.specs.declared.report.BranchUnits.{BranchUnits}
 use Rattle.profile_report.specs.Classed.{all_times, classed_by, line_for, lines_for, times_where}
 use Rattle.profile_report.specs.Told.{Tells}
 
@@ -69,7 +69,7 @@ times-told : {C : Type 0} (class : ℕ × ℕ → C) (pairs : List (ℕ × ℕ))
 times-told class pairs rows classed is classed_are tallied =
     ap (times_where is) classed_are ∙ where-classed (λ from to. class (from, to)) is rows ∙ tables_count_members pairs rows (λ p. is (class p)) tallied
 
-module _ (classes : Classes) (sampled : Sampled) (branches : List (Classed Class)) (ranges : List (Classed RangeClass)) (units : Units) (tells : Tells classes sampled branches ranges units) where
+module _ (classes : Classes) (sampled : Sampled) (branches : List (Classed Class)) (ranges : List (Classed RangeClass)) (units : BranchUnits) (tells : Tells classes sampled branches ranges units) where
   lines-told : (reason : Reason) → lines_for branches reason ≡ told_lines_for classes sampled reason
   unfolding told_line
   lines-told reason =

@@ -8,13 +8,13 @@ use Rattle.report_model.specs.declared.class.Class.{Class}
 use Rattle.report_model.specs.declared.class.RangeClass.{RangeClass}
 use Rattle.report_model.specs.Report.{Classes, Sampled}
 use Rattle.profile_report.specs.declared.classed.Classed.{Classed}
-use Rattle.profile_report.specs.declared.report.Units.{Units}
+use Rattle.profile_report.specs.declared.report.BranchUnits.{BranchUnits}
 use Rattle.profile_report.specs.Classed.{classed_by}
 
 -- The rows are those of the distinct branches in order, and of the distinct ranges, each with its class.
 pub record Tells
     (classes : Classes) (sampled : Sampled)
-    (branches : List (Classed Class)) (ranges : List (Classed RangeClass)) (units : Units)
+    (branches : List (Classed Class)) (ranges : List (Classed RangeClass)) (units : BranchUnits)
     : Type 0 where
   pub branch_rows : List Pair
   pub range_rows : List Pair

@@ -14,4 +14,4 @@ mod report;
 mod unmapped;
 
 pub use classed::{Classed, class_branches, class_ranges};
-pub use report::{Units, write};
+pub use report::{BranchUnits, write};

@@ -17,7 +17,7 @@ use text_scan::push_number;
 
 /// How many units of the binary were read, and how many were passed over for their version or type.
 #[derive(Clone, Copy, Debug, PartialEq, Eq)]
-pub struct Units {
+pub struct BranchUnits {
     pub read: u64,
     pub passed: u64,
 }
@@ -31,7 +31,7 @@ pub fn write(
     out: &mut Vec<u8>,
     branches: &[Classed<Class>],
     ranges: &[Classed<RangeClass>],
-    units: Units,
+    units: BranchUnits,
 ) -> Result<(), NoMemory>
     requires few_branches { all_times branches.now ≤ max_branches }
     requires few_ranges { all_times ranges.now ≤ max_branches }
@@ -50,7 +50,7 @@ pub fn write(
 fn push_branches(out: &mut Vec<u8>, branches: &[Classed<Class>]) -> Result<(), NoMemory>
     requires { all_times branches.now ≤ max_branches }
     ensures appended { OnOk result ((classes : Classes) (sampled : Sampled)
-        (ranges : List (Classed RangeClass)) (units : Units)
+        (ranges : List (Classed RangeClass)) (units : BranchUnits)
         → Tells classes sampled branches.now ranges units
         → out.new.items ≡ out.old.items ++ branches_text classes sampled) }
     ensures grows { StartsWith out.new.items out.old.items }
@@ -67,7 +67,7 @@ fn push_branches(out: &mut Vec<u8>, branches: &[Classed<Class>]) -> Result<(), N
 fn push_ranges(out: &mut Vec<u8>, ranges: &[Classed<RangeClass>]) -> Result<(), NoMemory>
     requires { all_times ranges.now ≤ max_branches }
     ensures appended { OnOk result ((classes : Classes) (sampled : Sampled)
-        (branches : List (Classed Class)) (units : Units)
+        (branches : List (Classed Class)) (units : BranchUnits)
         → Tells classes sampled branches ranges.now units
         → out.new.items ≡ out.old.items ++ ranges_text classes sampled) }
     ensures grows { StartsWith out.new.items out.old.items }
@@ -80,7 +80,7 @@ fn push_ranges(out: &mut Vec<u8>, ranges: &[Classed<RangeClass>]) -> Result<(), 
 }
 
 /// Appends what became of the units of the binary.
-fn push_units(out: &mut Vec<u8>, units: Units) -> Result<(), NoMemory>
+fn push_units(out: &mut Vec<u8>, units: BranchUnits) -> Result<(), NoMemory>
     ensures appended { OnOk result ((classes : Classes) (sampled : Sampled)
         (branches : List (Classed Class)) (ranges : List (Classed RangeClass))
         → Tells classes sampled branches ranges units

@@ -21,7 +21,7 @@ use Rattle.profile_model.specs.Profile.{lines_of}
 use Rattle.profile_model.specs.Text.{text_of_lines}
 use Rattle.profile_report.specs.Classed.{classed_by}
 use Rattle.profile_report.specs.declared.classed.Classed.{Classed}
-use Rattle.profile_report.specs.declared.report.Units.{Units}
+use Rattle.profile_report.specs.declared.report.BranchUnits.{BranchUnits}
 use Rattle.profile_tree.proofs.ListLemmas.{Among, range_among}
 use Rattle.profile_tree.proofs.StandingLemmas.{standing_lines_by_counts}
 use Rattle.profile_tree.proofs.SumLemmas.{Given}
@@ -67,7 +67,7 @@ address_inside address near = range_among 0 (2 ^ 64) address (omega arith) (belo
 
 module _ (program : Program) (sampled : Sampled) (all : List (List ℕ)) (keys : List Key) (segments : List Seg) (place : ℕ → Where) (function : ℕ → Option ℕ) (entered : ℕ → Option NameId)
     (shown : TellsProgram program all keys segments place function entered)
-    (branch_rows range_rows : List Pair) (units : Units) (rows : TellsSampled sampled branch_rows range_rows units) where
+    (branch_rows range_rows : List Pair) (units : BranchUnits) (rows : TellsSampled sampled branch_rows range_rows units) where
   abbrev branches : List (Classed Class)
   branches = map (classed_by (branch_class place entered)) branch_rows
 

@@ -21,7 +21,7 @@ use Rattle.output_model.specs.Summary.{totals_in}
 use Rattle.profile_report.specs.Classed.{all_times}
 use Rattle.profile_report.specs.Told.{Tells}
 use Rattle.profile_report.specs.declared.classed.Classed.{Classed}
-use Rattle.profile_report.specs.declared.report.Units.{Units}
+use Rattle.profile_report.specs.declared.report.BranchUnits.{BranchUnits}
 use Rattle.profile_tree.specs.Standing.{first_ways}
 use Rattle.profile_tree.specs.Told.{told}
 use Rattle.profile_tree.specs.declared.line.Line.{Line}
@@ -35,7 +35,7 @@ pub record Parts : Type 0 where
   pub counts : List ℕ
   pub branches : List (Classed Class)
   pub ranges : List (Classed RangeClass)
-  pub units : Units
+  pub units : BranchUnits
 
 -- The ranges that ran.
 abbrev pub ran : Parts → List RanRange

@@ -14,7 +14,7 @@ use Rattle.branch_counts.specs.Table.{Tallies}
 use Rattle.profile_model.specs.Ways.{Way}
 use Rattle.binary_model.specs.Places.{Place}
 use Rattle.binary_model.specs.Told.{TellsBy}
-use Rattle.profile_report.specs.declared.report.Units.{Units}
+use Rattle.profile_report.specs.declared.report.BranchUnits.{BranchUnits}
 use Rattle.profile_tree.specs.Said.{way_at}
 use Rattle.report_model.specs.Report.{Sampled}
 use Rattle.output_model.specs.Program.{Program}
@@ -51,7 +51,7 @@ pub record TellsProgram (program : Program) (names : List (List ℕ)) (keys : Li
       → IsSome (place_by segments address) → factor_by segments address ≡ program.factor address
 
 -- Rows and numbers of units tell what was sampled: the branches' rows in order, the ranges' in any.
-pub record TellsSampled (sampled : Sampled) (branches ranges : List Pair) (units : Units) : Type 0 where
+pub record TellsSampled (sampled : Sampled) (branches ranges : List Pair) (units : BranchUnits) : Type 0 where
   pub of_branches : Tallies sampled.branches branches
   pub of_ranges : Tallies sampled.ranges ranges
   pub in_order : IsSorted pair_cmp branches

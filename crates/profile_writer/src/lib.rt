@@ -13,5 +13,5 @@ mod samples;
 mod tree;
 
 pub use profile::Profile;
-pub use profile_report::Units;
+pub use profile_report::BranchUnits;
 pub use samples::Samples;

@@ -19,7 +19,7 @@ use crate::samples::Samples;
 use crate::tree::tree_of;
 use branch_class::{Class, RangeClass};
 use key_types::{Keys, Names, Places, Seg};
-use profile_report::{Classed, Units, class_branches, class_ranges};
+use profile_report::{BranchUnits, Classed, class_branches, class_ranges};
 use profile_tree::{Line, Tree};
 use range_counts::RanRange;
 use refusal::NoMemory;
@@ -33,7 +33,7 @@ pub struct Profile {
     tree: Tree,
     branches: Vec<Classed<Class>>,
     ranges: Vec<Classed<RangeClass>>,
-    units: Units,
+    units: BranchUnits,
 }
 
 impl Model for Profile {

@@ -1,5 +1,5 @@
 // What a profile is made of.
-use profile_report::Units;
+use profile_report::BranchUnits;
 use sample_model::Pair;
 
 /// What was sampled of a program, and how many units its debugging information has.
@@ -9,5 +9,5 @@ pub struct Samples<'s> {
     pub branches: &'s [Pair],
     /// The distinct sampled ranges, each with how often it stands.
     pub ranges: &'s [Pair],
-    pub units: Units,
+    pub units: BranchUnits,
 }

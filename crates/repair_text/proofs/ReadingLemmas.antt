@@ -25,8 +25,8 @@ use Rattle.repair_model.specs.Repair.{Repair, Solution, flow, cut}
 use Rattle.repair_model.specs.Text.{Course, Open as ModelOpen, begun, begun_by, closed_by, course_behind, ended_by, inside, is_end, opened_at, repairs_from, repairs_of, told_behind, untold}
 use Rattle.repair_text.specs.Reading.{Begins, HasBegun, HasFirst, TakesIn, IsGoodLine, IsLeft, Keeps, course_inside, course_of, done_of, item_of, open_of, told_more}
 use Rattle.repair_text.specs.Said.{meaning_of}
-use Rattle.repair_text.specs.declared.said.Said.{Said}
-use Rattle.repair_text.specs.declared.said.Said.TheVariants as said
+use Rattle.repair_text.specs.declared.said.RepairLine.{RepairLine}
+use Rattle.repair_text.specs.declared.said.RepairLine.TheVariants as said
 use Rattle.repair_text.specs.Repair.{numbered, repair_of}
 use Rattle.repair_text.specs.Told.{told_of, with_sums}
 use Rattle.repair_text.specs.declared.open.Told.{Told}
@@ -76,7 +76,7 @@ goes_on_inside line left opened said is good ends = record {
 }
 
 pub ends_flow_told : (t : Told) (cost : ℕ) → with_sums (told_of t) cost 0 ≡ told_behind (told_of t) (model.ends_flow cost)
-ends_flow_told (told.Counts counts) cost = refl
+ends_flow_told (told.OpenCounts counts) cost = refl
 ends_flow_told (told.Sides sides) cost = refl
 
 pub closes : (line : Line) (old new : Reading) (opened : Open) (said : model.Line) (repair : read.Repair) → old.opened ≡ None
@@ -109,7 +109,7 @@ goes_on line old opened next said is good ends told =
       sym (append-nil (done_of old)),
     )
 
-pub no_end : (s : Said) → ((cost : ℕ) → s ≡ said.EndOfFlow cost → ⊥) → ((least most : ℕ) → s ≡ said.EndOfCut least most → ⊥)
+pub no_end : (s : RepairLine) → ((cost : ℕ) → s ≡ said.EndOfFlow cost → ⊥) → ((least most : ℕ) → s ≡ said.EndOfCut least most → ⊥)
     → is_end (meaning_of s) ≡ false
 no_end (said.Flow name) no_flow no_cut = refl
 no_end (said.Cut name root) no_flow no_cut = refl
@@ -192,7 +192,7 @@ first_cut line name root t is fresh = rw fresh (record {
   fresh = refl;
 })
 
-pub no_first : (line : List ℕ) (s : Said) → ((name : Bor (List ℕ)) → s ≡ said.Flow name → ⊥) → ((name : Bor (List ℕ)) (root : Bool) → s ≡ said.Cut name root → ⊥)
+pub no_first : (line : List ℕ) (s : RepairLine) → ((name : Bor (List ℕ)) → s ≡ said.Flow name → ⊥) → ((name : Bor (List ℕ)) (root : Bool) → s ≡ said.Cut name root → ⊥)
     → Some (meaning_of s) ≡ line_of line → (left : List Function) → cause_of_begin left (line_of line) ≡ Some BadLine
 unfolding cause_of_begin
 no_first line (said.Flow name) no_flow no_cut is left = absurd (no_flow name refl)

@@ -1,10 +1,10 @@
 -- What the code has read of a line.
 use Rattle.repair_model.specs.Line.{Line, begins_flow, begins_cut, tells_count, tells_sides, tells_edge, ends_flow, ends_cut}
-use Rattle.repair_text.specs.declared.said.Said.{Said}
-use Rattle.repair_text.specs.declared.said.Said.TheVariants as said
+use Rattle.repair_text.specs.declared.said.RepairLine.{RepairLine}
+use Rattle.repair_text.specs.declared.said.RepairLine.TheVariants as said
 
 -- The line that it says.
-abbrev pub meaning_of : Said → Line
+abbrev pub meaning_of : RepairLine → Line
 meaning_of (said.Flow name) = begins_flow name.now
 meaning_of (said.Cut name root) = begins_cut name.now root
 meaning_of (said.Count number weight count enter leave) = tells_count number weight count enter leave

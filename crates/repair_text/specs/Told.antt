@@ -1,13 +1,13 @@
 -- What the code was told of a function so far.
 use Rattle.std.specs.Prelude.{ℕ, []}
 use Rattle.repair_model.specs.Repair.{Repair, flow, cut}
-use Rattle.repair_text.specs.declared.open.Counts.{Counts}
+use Rattle.repair_text.specs.declared.open.OpenCounts.{OpenCounts}
 use Rattle.repair_text.specs.declared.open.Sides.{Sides}
 use Rattle.repair_text.specs.declared.open.Told.{Told}
 use Rattle.repair_text.specs.declared.open.Told.TheVariants as told
 
 -- The counts and prices that were told.
-abbrev pub counts_told : Counts → Repair
+abbrev pub counts_told : OpenCounts → Repair
 counts_told counts = record {
   weights = counts.weights.items;
   edge_weights = counts.edge_weights.items;
@@ -28,7 +28,7 @@ sides_told sides = record {
 }
 
 abbrev pub told_of : Told → Repair
-told_of (told.Counts counts) = counts_told counts
+told_of (told.OpenCounts counts) = counts_told counts
 told_of (told.Sides sides) = sides_told sides
 
 -- The repair that ends with these numbers.

@@ -10,7 +10,7 @@ ghost use Rattle.repair_text.specs.Told.{counts_told, sides_told, told_of, with_
 ghost use Rattle.repair_text.specs.Said.{meaning_of};
 
 use crate::repair::Repair;
-use crate::said::Said;
+use crate::said::RepairLine;
 use cfg_text::{Edge, Fun, Weight};
 use flow_network::{Flow, Nodes, Prices, Solved};
 use item_lists::Items;
@@ -21,14 +21,14 @@ use std::alloc::Global;
 #[derive(Debug, Drop)]
 pub(crate) enum Told {
     /// Counts with prices.
-    Counts(Counts),
+    OpenCounts(OpenCounts),
     /// A cut.
     Sides(Sides),
 }
 
 /// Counts with prices.
 #[derive(Debug, Drop)]
-pub(crate) struct Counts {
+pub(crate) struct OpenCounts {
     weights: Vec<Weight>,
     edge_weights: Vec<Weight>,
     blocks: Vec<u64>,
@@ -51,7 +51,7 @@ impl Told {
     pub(crate) fn counts(alloc: Global) -> Told
         ensures { told_of result ≡ begun (model.flow (record { blocks = []; edges = [] }) [] []) }
     {
-        Told::Counts(Counts {
+        Told::OpenCounts(OpenCounts {
             weights: Vec::new(alloc),
             edge_weights: Vec::new(alloc),
             blocks: Vec::new(alloc),
@@ -75,18 +75,26 @@ impl Told {
 
     /// Why a line is refused behind what was told of a function.
     #[tactic(auto, unfolding(repair_model::specs::Judging::cause_inside))]
-    pub(crate) fn cause_of(&self, fun: &Fun<'_>, said: &Said<'_>) -> Option<Kind>
+    pub(crate) fn cause_of(&self, fun: &Fun<'_>, said: &RepairLine<'_>) -> Option<Kind>
         ensures { result ≡ judging.cause_inside (function_of fun.now) (told_of self.now)
             (Some (meaning_of said.now)) }
     {
         match *said {
-            Said::Count(number, _, _, _, _) => self.cause_of_block(self.has_counts(), fun, number),
-            Said::Sides(number, _, _, _) => self.cause_of_block(!self.has_counts(), fun, number),
-            Said::Edge(from, to, _, _) => self.cause_of_edge(fun, from, to),
-            Said::EndOfFlow(_) => self.cause_of_end(self.has_counts(), fun),
-            Said::EndOfCut(_, _) => self.cause_of_end(!self.has_counts(), fun),
-            Said::Flow(_) => Some(Kind::BadLine),
-            Said::Cut(_, _) => Some(Kind::BadLine),
+            RepairLine::Count(number, _, _, _, _) => self.cause_of_block(
+                self.has_counts(),
+                fun,
+                number,
+            ),
+            RepairLine::Sides(number, _, _, _) => self.cause_of_block(
+                !self.has_counts(),
+                fun,
+                number,
+            ),
+            RepairLine::Edge(from, to, _, _) => self.cause_of_edge(fun, from, to),
+            RepairLine::EndOfFlow(_) => self.cause_of_end(self.has_counts(), fun),
+            RepairLine::EndOfCut(_, _) => self.cause_of_end(!self.has_counts(), fun),
+            RepairLine::Flow(_) => Some(Kind::BadLine),
+            RepairLine::Cut(_, _) => Some(Kind::BadLine),
         }
     }
 
@@ -143,7 +151,7 @@ impl Told {
         ensures { result ≡ model.has_counts (told_of self.now).solution }
     {
         match self {
-            Told::Counts(_) => true,
+            Told::OpenCounts(_) => true,
             Told::Sides(_) => false,
         }
     }
@@ -153,7 +161,7 @@ impl Told {
         ensures { result ≡ length (told_of self.now).weights }
     {
         match self {
-            Told::Counts(counts) => counts.weights.len(),
+            Told::OpenCounts(counts) => counts.weights.len(),
             Told::Sides(sides) => sides.weights.len(),
         }
     }
@@ -170,7 +178,7 @@ impl Told {
         ensures { result ≡ judging.is_edge_due (function_of fun.now) (told_of self.now) }
     {
         match self {
-            Told::Counts(counts) => counts.edge_weights.len() < fun.edges.as_slice().len(),
+            Told::OpenCounts(counts) => counts.edge_weights.len() < fun.edges.as_slice().len(),
             Told::Sides(_) => false,
         }
     }
@@ -182,7 +190,7 @@ impl Told {
     {
         let edges = fun.edges.as_slice();
         let next = match self {
-            Told::Counts(counts) => edges.get(counts.edge_weights.len()),
+            Told::OpenCounts(counts) => edges.get(counts.edge_weights.len()),
             Told::Sides(_) => edges.first(),
         };
         match next {
@@ -192,15 +200,15 @@ impl Told {
     }
 
     /// What was told behind a line that is not the last.
-    pub(crate) fn with(self, said: &Said<'_>) -> Result<Told, NoMemory>
+    pub(crate) fn with(self, said: &RepairLine<'_>) -> Result<Told, NoMemory>
         requires { is_end (meaning_of said.now) ≡ false }
         ensures { IfOk result (λ told.
             told_of told ≡ told_behind (told_of self) (meaning_of said.now)) }
     {
         match self {
-            Told::Counts(mut counts) => {
+            Told::OpenCounts(mut counts) => {
                 counts.add(said)?;
-                Ok(Told::Counts(counts))
+                Ok(Told::OpenCounts(counts))
             }
             Told::Sides(mut sides) => {
                 sides.add(said)?;
@@ -218,9 +226,9 @@ impl Told {
         };
         let blocks = fun.blocks.as_slice().len();
         match self {
-            Told::Counts(mut counts) => {
+            Told::OpenCounts(mut counts) => {
                 counts.reserve(blocks, fun.edges.as_slice().len())?;
-                Ok(Told::Counts(counts))
+                Ok(Told::OpenCounts(counts))
             }
             Told::Sides(mut sides) => {
                 sides.reserve(blocks)?;
@@ -235,7 +243,7 @@ impl Told {
         ensures line { result.line ≡ line }
     {
         match self {
-            Told::Counts(counts) => Repair {
+            Told::OpenCounts(counts) => Repair {
                 line,
                 weights: Items::new(counts.weights),
                 edge_weights: Items::new(counts.edge_weights),
@@ -271,7 +279,7 @@ impl Told {
     }
 }
 
-impl Counts {
+impl OpenCounts {
     /// Takes room for so many blocks and edges.
     fn reserve(&mut self, blocks: usize, edges: usize) -> Result<(), NoMemory>
         ensures { counts_told self.new ≡ counts_told self.old }
@@ -286,19 +294,19 @@ impl Counts {
     }
 
     /// Adds what a line tells of a block or an edge.
-    fn add(&mut self, said: &Said<'_>) -> Result<(), NoMemory>
+    fn add(&mut self, said: &RepairLine<'_>) -> Result<(), NoMemory>
         requires { is_end (meaning_of said.now) ≡ false }
         ensures { OnOk result
             (counts_told self.new ≡ told_behind (counts_told self.old) (meaning_of said.now)) }
     {
         match *said {
-            Said::Count(_, weight, count, enter, leave) => {
+            RepairLine::Count(_, weight, count, enter, leave) => {
                 self.weights.push(weight)?;
                 self.blocks.push(count)?;
                 self.ins.push(enter)?;
                 self.outs.push(leave)?;
             }
-            Said::Edge(_, _, weight, count) => {
+            RepairLine::Edge(_, _, weight, count) => {
                 self.edge_weights.push(weight.unwrap_or(Weight::Unknown))?;
                 self.edges.push(count)?;
             }
@@ -320,12 +328,12 @@ impl Sides {
     }
 
     /// Adds what a line tells of a block.
-    fn add(&mut self, said: &Said<'_>) -> Result<(), NoMemory>
+    fn add(&mut self, said: &RepairLine<'_>) -> Result<(), NoMemory>
         requires { is_end (meaning_of said.now) ≡ false }
         ensures { OnOk result
             (sides_told self.new ≡ told_behind (sides_told self.old) (meaning_of said.now)) }
     {
-        if let Said::Sides(_, weight, enter, leave) = *said {
+        if let RepairLine::Sides(_, weight, enter, leave) = *said {
             self.weights.push(weight)?;
             self.ins.push(enter)?;
             self.outs.push(leave)?;

@@ -11,7 +11,7 @@ ghost use Rattle.repair_text.specs.Repair.{numbered};
 
 use crate::open::Told;
 use crate::repair::Repair;
-use crate::said::{Said, read_line};
+use crate::said::{RepairLine, read_line};
 use cfg_text::Fun;
 use refusal::{Kind, NoMemory, Place, Stop};
 use std::alloc::Global;
@@ -156,8 +156,8 @@ impl<'f, 'a> Reading<'f, 'a> {
             return Err(Stop::Refused(place(file, line.number, kind)));
         }
         match said {
-            Said::EndOfFlow(cost) => Ok(self.keep(opened.told.close(opened.line, cost, 0))?),
-            Said::EndOfCut(least, most) => {
+            RepairLine::EndOfFlow(cost) => Ok(self.keep(opened.told.close(opened.line, cost, 0))?),
+            RepairLine::EndOfCut(least, most) => {
                 Ok(self.keep(opened.told.close(opened.line, least, most))?)
             }
             said => Ok(self.with_open(opened.with(&said)?)),
@@ -183,7 +183,7 @@ impl<'f, 'a> Reading<'f, 'a> {
 
 impl<'f, 'a> Open<'f, 'a> {
     /// The repair behind a line that tells of a block or an edge.
-    fn with(self, said: &Said<'_>) -> Result<Self, NoMemory>
+    fn with(self, said: &RepairLine<'_>) -> Result<Self, NoMemory>
         requires { is_end (meaning_of said.now) ≡ false }
         ensures { IfOk result (λ opened.
             open_of opened ≡ told_more (open_of self.entry) (meaning_of said.now)) }
@@ -201,8 +201,8 @@ fn first_line<'t>(alloc: Global, line: &'t [u8]) -> Option<(&'t [u8], Told)>
     ensures { IsFirstLine line.now result }
 {
     match read_line(line)? {
-        Said::Flow(name) => Some((name, Told::counts(alloc))),
-        Said::Cut(name, root) => Some((name, Told::sides(alloc, root))),
+        RepairLine::Flow(name) => Some((name, Told::counts(alloc))),
+        RepairLine::Cut(name, root) => Some((name, Told::sides(alloc, root))),
         _ => None,
     }
 }

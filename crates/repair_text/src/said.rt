@@ -10,7 +10,7 @@ use text_scan::{Fields, signed, wide};
 
 /// What a line says.
 #[derive(Clone, Copy, Debug)]
-pub(crate) enum Said<'a> {
+pub(crate) enum RepairLine<'a> {
     /// Counts of the function of this name begin.
     Flow(&'a [u8]),
     /// A cut of the function of this name begins; whether the root is in it.
@@ -29,7 +29,7 @@ pub(crate) enum Said<'a> {
 
 /// What a line says, if it has the form of one.
 #[tactic(auto, unfolding(repair_model::specs::Line::line_of))]
-pub(crate) fn read_line(line: &[u8]) -> Option<Said<'_>>
+pub(crate) fn read_line(line: &[u8]) -> Option<RepairLine<'_>>
     ensures { option_map meaning_of result ≡ model.line_of line.now }
 {
     let mut fields = Fields::new(line);
@@ -42,7 +42,7 @@ pub(crate) fn read_line(line: &[u8]) -> Option<Said<'_>>
 
 /// What the fields of a line behind `#` say.
 #[tactic(auto, unfolding(repair_model::specs::Line::line_by_fields))]
-fn read_fields(mut fields: Fields<'_>) -> Option<Said<'_>>
+fn read_fields(mut fields: Fields<'_>) -> Option<RepairLine<'_>>
     ensures { option_map meaning_of result ≡ model.line_by_fields fields.entry }
 {
     let word = fields.next()?;
@@ -61,7 +61,7 @@ fn read_fields(mut fields: Fields<'_>) -> Option<Said<'_>>
 
 /// `NAME flow` or `NAME cut R`
 #[tactic(auto, unfolding(repair_model::specs::Line::function_line_of))]
-fn function_line(mut fields: Fields<'_>) -> Option<Said<'_>>
+fn function_line(mut fields: Fields<'_>) -> Option<RepairLine<'_>>
     ensures { option_map meaning_of result ≡ model.function_line_of fields.entry }
 {
     let name = fields.next()?;
@@ -76,26 +76,26 @@ fn function_line(mut fields: Fields<'_>) -> Option<Said<'_>>
 }
 
 /// `NAME flow`
-fn begin_of_flow<'a>(name: &'a [u8], word: &[u8]) -> Option<Said<'a>>
+fn begin_of_flow<'a>(name: &'a [u8], word: &[u8]) -> Option<RepairLine<'a>>
     ensures { option_map meaning_of result ≡ (if bytes_eq word.now (codes "flow")
         then Some (model.begins_flow name.now)
         else None) }
 {
     if word == b"flow".as_slice() {
-        Some(Said::Flow(name))
+        Some(RepairLine::Flow(name))
     } else {
         None
     }
 }
 
 /// `NAME cut R`
-fn begin_of_cut<'a>(name: &'a [u8], word: &[u8], root: &[u8]) -> Option<Said<'a>>
+fn begin_of_cut<'a>(name: &'a [u8], word: &[u8], root: &[u8]) -> Option<RepairLine<'a>>
     ensures { option_map meaning_of result ≡ (if bytes_eq word.now (codes "cut")
         then option_map (model.begins_cut name.now) (model.bit_of root.now)
         else None) }
 {
     if word == b"cut".as_slice() {
-        Some(Said::Cut(name, bit(root)?))
+        Some(RepairLine::Cut(name, bit(root)?))
     } else {
         None
     }
@@ -103,7 +103,7 @@ fn begin_of_cut<'a>(name: &'a [u8], word: &[u8], root: &[u8]) -> Option<Said<'a>
 
 /// `N weight W`, and what stands behind
 #[tactic(auto, unfolding(repair_model::specs::Line::block_line_of))]
-fn block_line(mut fields: Fields<'_>) -> Option<Said<'_>>
+fn block_line(mut fields: Fields<'_>) -> Option<RepairLine<'_>>
     ensures { option_map meaning_of result ≡ model.block_line_of fields.entry }
 {
     let number = fields.next()?;
@@ -115,7 +115,7 @@ fn block_line(mut fields: Fields<'_>) -> Option<Said<'_>>
 
 /// `count C` and the prices, or `in S` and the other side
 #[tactic(auto, unfolding(repair_model::specs::Line::weighed_of))]
-fn weighed_block(number: u64, weight: Weight, mut fields: Fields<'_>) -> Option<Said<'_>>
+fn weighed_block(number: u64, weight: Weight, mut fields: Fields<'_>) -> Option<RepairLine<'_>>
     ensures { option_map meaning_of result ≡ model.weighed_of number weight fields.entry }
 {
     let word = fields.next()?;
@@ -136,7 +136,7 @@ fn counted_block<'a>(
     weight: Weight,
     field: &[u8],
     mut fields: Fields<'a>,
-) -> Option<Said<'a>>
+) -> Option<RepairLine<'a>>
     ensures { option_map meaning_of result
         ≡ model.counted_of number weight field.now fields.entry }
 {
@@ -148,7 +148,7 @@ fn counted_block<'a>(
     if fields.next().is_some() {
         return None;
     }
-    Some(Said::Count(number, weight, count, enter, leave))
+    Some(RepairLine::Count(number, weight, count, enter, leave))
 }
 
 /// `out T`
@@ -158,7 +158,7 @@ fn sided_block<'a>(
     weight: Weight,
     field: &[u8],
     mut fields: Fields<'a>,
-) -> Option<Said<'a>>
+) -> Option<RepairLine<'a>>
     ensures { option_map meaning_of result
         ≡ model.sided_of number weight field.now fields.entry }
 {
@@ -168,12 +168,12 @@ fn sided_block<'a>(
     if fields.next().is_some() {
         return None;
     }
-    Some(Said::Sides(number, weight, enter, leave))
+    Some(RepairLine::Sides(number, weight, enter, leave))
 }
 
 /// `N M`, and what stands behind
 #[tactic(auto, unfolding(repair_model::specs::Line::edge_line_of))]
-fn edge_line(mut fields: Fields<'_>) -> Option<Said<'_>>
+fn edge_line(mut fields: Fields<'_>) -> Option<RepairLine<'_>>
     ensures { option_map meaning_of result ≡ model.edge_line_of fields.entry }
 {
     let from = fields.next()?;
@@ -185,7 +185,7 @@ fn edge_line(mut fields: Fields<'_>) -> Option<Said<'_>>
 
 /// `count C`, or `weight W count C`
 #[tactic(auto, unfolding(repair_model::specs::Line::joined_of))]
-fn joined_edge(from: u64, to: u64, mut fields: Fields<'_>) -> Option<Said<'_>>
+fn joined_edge(from: u64, to: u64, mut fields: Fields<'_>) -> Option<RepairLine<'_>>
     ensures { option_map meaning_of result ≡ model.joined_of from to fields.entry }
 {
     let word = fields.next()?;
@@ -209,7 +209,7 @@ fn taken_edge<'a>(
     weight: Option<Weight>,
     field: &[u8],
     mut fields: Fields<'a>,
-) -> Option<Said<'a>>
+) -> Option<RepairLine<'a>>
     ensures { option_map meaning_of result
         ≡ model.taken_of from to weight field.now fields.entry }
 {
@@ -217,24 +217,24 @@ fn taken_edge<'a>(
     if fields.next().is_some() {
         return None;
     }
-    Some(Said::Edge(from, to, weight, count))
+    Some(RepairLine::Edge(from, to, weight, count))
 }
 
 /// `COST` or `LOWER UPPER`
 #[tactic(auto, unfolding(repair_model::specs::Line::end_line_of))]
-fn end_line(mut fields: Fields<'_>) -> Option<Said<'_>>
+fn end_line(mut fields: Fields<'_>) -> Option<RepairLine<'_>>
     ensures { option_map meaning_of result ≡ model.end_line_of fields.entry }
 {
     let first = fields.next()?;
     let Some(second) = fields.next() else {
-        return Some(Said::EndOfFlow(sum(first)?));
+        return Some(RepairLine::EndOfFlow(sum(first)?));
     };
     if fields.next().is_some() {
         return None;
     }
     let least = sum(first)?;
     let most = sum(second)?;
-    Some(Said::EndOfCut(least, most))
+    Some(RepairLine::EndOfCut(least, most))
 }
 
 /// The field behind a word that comes next.

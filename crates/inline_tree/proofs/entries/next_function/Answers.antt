@@ -1,5 +1,5 @@
 use Rattle.std.proofs.Common.{◌≡◌, ◌<◌, length, ap, ◌∙◌, arith, rules}
-use Rattle.member_lists.specs.declared.frame.Frame.{Frame}
+use Rattle.member_lists.specs.declared.frame.EntryFrame.{EntryFrame}
 use Rattle.member_lists.specs.Frames.{behind_other}
 use Rattle.unit_model.specs.Entries.{Entry}
 use Rattle.entry_facts.specs.Told.{in_unit}
@@ -16,7 +16,7 @@ returns-then-is_empty-clause-read c = λ told is.
     let none : length c.in_ok-pieces.pieces.items ≡ 0 = search rules in
     function-none (source_of c.args.source.now) (in_unit c.args.of.now) c.args.entry.now _ told c.args.all.now.members _ _ _ is c.in_ok-pieces.ensures.told none
     (ap (λ (e : Entry). e.depth) c.entry.view_is)
-    (c.in_ok-pass.ensures ∙ ap (λ (f : Frame). behind_other c.entry.inside.depth f 0 c.args.all.now.members) c.outside.ensures)
+    (c.in_ok-pass.ensures ∙ ap (λ (f : EntryFrame). behind_other c.entry.inside.depth f 0 c.args.all.now.members) c.outside.ensures)
 
 pub returns-in_err-origin-clause-read : goal.returns-in_err-origin-clause-read
 returns-in_err-origin-clause-read c = λ told is.

@@ -5,7 +5,7 @@ use Rattle.indexmap.proofs.MapLemmas.{OnOk-map}
 use Rattle.report_model.specs.declared.class.RangeClass.{RangeClass}
 use Rattle.report_model.specs.Report.{Classes, Sampled, branches_text, number_line, reasons}
 use Rattle.profile_report.specs.declared.classed.Classed.{Classed}
-use Rattle.profile_report.specs.declared.report.Units.{Units}
+use Rattle.profile_report.specs.declared.report.BranchUnits.{BranchUnits}
 use Rattle.profile_report.specs.Classed.{lines_for}
 use Rattle.profile_report.specs.Told.{Tells}
 use Rattle.profile_report.proofs.JoinLemmas.{joined4}
@@ -22,7 +22,7 @@ returns-clause-appended c =
     let inside = number_line (codes "inside") taken.inside in
     let unmapped = flat_map (lines_for c.args.branches.now) reasons in
     let told : c.push_unmapped.new.out.items ≡ c.push_number_line-3.new.out.items ++ unmapped
-    → (classes : Classes) (sampled : Sampled) (ranges : List (Classed RangeClass)) (units : Units) → Tells classes sampled c.args.branches.now ranges units
+    → (classes : Classes) (sampled : Sampled) (ranges : List (Classed RangeClass)) (units : BranchUnits) → Tells classes sampled c.args.branches.now ranges units
     → c.push_unmapped.new.out.items ≡ out ++ branches_text classes sampled =
     λ last classes sampled ranges units tells.
     last

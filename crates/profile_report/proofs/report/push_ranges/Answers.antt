@@ -4,7 +4,7 @@ use Rattle.indexmap.proofs.MapLemmas.{OnOk-map}
 use Rattle.report_model.specs.declared.class.Class.{Class}
 use Rattle.report_model.specs.Report.{Classes, Sampled, number_line, ranges_text}
 use Rattle.profile_report.specs.declared.classed.Classed.{Classed}
-use Rattle.profile_report.specs.declared.report.Units.{Units}
+use Rattle.profile_report.specs.declared.report.BranchUnits.{BranchUnits}
 use Rattle.profile_report.specs.Told.{Tells}
 use Rattle.profile_report.proofs.JoinLemmas.{joined4}
 use Rattle.profile_report.proofs.ToldLemmas.{ranges_told}
@@ -20,7 +20,7 @@ returns-clause-appended c =
     let outside = number_line (codes "ranges outside") times.outside in
     let crossing = number_line (codes "ranges crossing") times.crossing in
     let told : c.push_number_line-4.new.out.items ≡ c.push_number_line-3.new.out.items ++ crossing
-    → (classes : Classes) (sampled : Sampled) (branches : List (Classed Class)) (units : Units) → Tells classes sampled branches c.args.ranges.now units
+    → (classes : Classes) (sampled : Sampled) (branches : List (Classed Class)) (units : BranchUnits) → Tells classes sampled branches c.args.ranges.now units
     → c.push_number_line-4.new.out.items ≡ out ++ ranges_text classes sampled =
     λ last classes sampled branches units tells.
     last

@@ -3,7 +3,7 @@ use Rattle.std.proofs.Common.{ap, set, subst, sym, true≢false, ◌∙◌}
 use Rattle.std.specs.Prelude.{is_some}
 use Rattle.profile_merge.specs.Called.{AreWithSum, IsCalled}
 use Rattle.profile_merge.proofs.CalledLemmas.{absent-place, at_place, keys-at, with_sum_at}
-use Rattle.profile_merge.proofs.called.Called.set.Goals as goal
+use Rattle.profile_merge.proofs.called.CalledSums.set.Goals as goal
 
 pub invariant_of-self : goal.invariant_of-self
 invariant_of-self c =

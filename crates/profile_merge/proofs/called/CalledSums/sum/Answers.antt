@@ -2,7 +2,7 @@ use Rattle.std.proofs.Common.{ap, subst, sym, ◌≡◌}
 use Rattle.std.specs.Option.{unwrap_or}
 use Rattle.profile_merge.specs.Called.{called_sum}
 use Rattle.profile_merge.proofs.CalledLemmas.{absent-place, at_place, lookup-at}
-use Rattle.profile_merge.proofs.called.Called.sum.Goals as goal
+use Rattle.profile_merge.proofs.called.CalledSums.sum.Goals as goal
 
 pub returns-in-Some : goal.returns-in-Some
 returns-in-Some c =

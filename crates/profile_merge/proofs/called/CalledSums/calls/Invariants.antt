@@ -1,6 +1,6 @@
 use Rattle.std.proofs.Common.{◌≡◌, map, take}
 use Rattle.profile_merge.specs.Stated.{call_of}
-use Rattle.profile_merge.proofs.called.Called.calls.Given as goal
+use Rattle.profile_merge.proofs.called.CalledSums.calls.Given as goal
 
 -- There are calls for the sums so far.
 abbrev pub invariant-loop-key : goal.invariant-loop-key

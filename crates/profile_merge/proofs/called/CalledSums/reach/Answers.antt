@@ -3,7 +3,7 @@ use Rattle.std.proofs.Common.{ap, subst, sym, ◌∙◌}
 use Rattle.std.specs.List.{list_any}
 use Rattle.profile_merge.specs.Called.{AreReached, IsCalled, same_target}
 use Rattle.profile_merge.proofs.CalledLemmas.{called_push, has_sum, reached_push}
-use Rattle.profile_merge.proofs.called.Called.reach.Goals as goal
+use Rattle.profile_merge.proofs.called.CalledSums.reach.Goals as goal
 
 pub returns-in_ok-insert-clause-same : goal.returns-in_ok-insert-clause-same
 returns-in_ok-insert-clause-same c =

@@ -1,7 +1,7 @@
 use Rattle.std.proofs.Common.{◌≡◌, length, refl, rules, arith}
 use Rattle.unit_model.specs.Table.{abbrev_of}
 use Rattle.dwarf_abbrev.proofs.RowLemmas.{AddsAbbrev-row}
-use Rattle.dwarf_abbrev.proofs.rows.Rows.read_abbrev.Goals as goal
+use Rattle.dwarf_abbrev.proofs.rows.AbbrevRows.read_abbrev.Goals as goal
 
 pub returns-clause-read : goal.returns-clause-read
 unfolding abbrev_of

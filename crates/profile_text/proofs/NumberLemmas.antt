@@ -21,7 +21,7 @@ use Rattle.profile_tree.specs.Stated.{AreStated, AreSummed}
 use Rattle.profile_tree.specs.Steps.{name_at}
 use Rattle.profile_tree.specs.declared.head.Head.{Head as Entries}
 use Rattle.profile_tree.specs.declared.key_count.KeyCount.{KeyCount}
-use Rattle.profile_text.specs.Numbers.{AreNumbersOf, HasKey, call_by, call_in, count_by, count_in, counted, head_by, head_in, root_at, root_of, root_of_given}
+use Rattle.profile_text.specs.Numbers.{AreNumbersOf, call_by, call_in, count_by, count_in, counted, head_by, head_in, root_at, root_of_given}
 pub use Rattle.list_lemmas.proofs.Each.{all_then as all_weaker}
 
 -- ---- what is kept of a list
@@ -223,18 +223,8 @@ item_there [] k low = absurd (omega (arith, low))
 item_there (x ∷ xs) zero low = (x, refl)
 item_there (x ∷ xs) (suc k) low = item_there xs k (omega (arith, low))
 
-pub has_key : (names keys : ℕ) (w : What) → IsGivenWhat names keys w → HasKey keys w
-has_key names keys (Head n) given = tt
-has_key names keys (Count k) given = given
-has_key names keys (Target k n) given = given.0
-
 pub root_within : (names : ℕ) (keys : List Key) → All (HasNames names) keys → (k : ℕ) → k < length keys → root_at keys k < names
 root_within names keys key_names k low =
     let there = item_there keys k low in
     let named = all_to_each (HasNames names) there.0 keys key_names (given_among keys k there.0 there.1) in
     subst (λ o. root_of_given o < names) (sym there.1) named.0
-
-pub root_low : (names : ℕ) (keys : List Key) → All (HasNames names) keys → (w : What) → IsGivenWhat names (length keys) w → root_of keys w < names
-root_low names keys key_names (Head n) given = given
-root_low names keys key_names (Count k) given = root_within names keys key_names k.0 given
-root_low names keys key_names (Target k n) given = root_within names keys key_names k.0 given.0

@@ -260,10 +260,6 @@ module _ (names : List (List ℕ)) (keys : List Key) (counts : List ℕ) (calls 
       (λ id h. let low = among_range 0 known id h in sym (stands_by_number id (omega (arith, low.1, few))))))
       ∙ sym (kept_map (stands_in (said names keys counts calls heads)) (way_at names keys) (range_with_len 0 known))
 
-  pub standing_lines_are : (ids : List KeyId) → map (λ key. key.0) ids ≡ standing_ids keys counts calls heads (length keys)
-      → lines_with (ways_said names keys ids) (said names keys counts calls heads) ≡ standing_lines_of (first_ways names keys (length keys)) (said names keys counts calls heads)
-  standing_lines_are ids is = ap (λ ways. lines_with ways (said names keys counts calls heads)) (standing_are (length keys) ids (omega arith) is)
-
 -- ---- profiles that count the same
 
 any_inside : {T : Type 0} (f : T → Bool) (xs ys : List T) → Inside xs ys → list_any f xs ≡ true → list_any f ys ≡ true

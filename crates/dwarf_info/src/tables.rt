@@ -141,7 +141,7 @@ impl<'b> Tables<'b> {
     }
 
     /// Notes the tails of the table that stands at the start of a piece, behind one and more of its
-    /// first abbreviations, up to `count`.
+    /// first abbreviations, up to `count` or to one that is noted with all behind it.
     fn note_tails(&mut self, alloc: Global, piece: Part<'_>, count: usize) -> Result<(), NoMemory>
         requires { start_of piece ≡ from_offset self.old piece.at }
         ensures { self.new ≡ self.old }
@@ -152,8 +152,12 @@ impl<'b> Tables<'b> {
             let Ok(Some(_)) = read_first(alloc, &mut cur) else {
                 return Ok(());
             };
+            let at = cur.at();
+            if noted(&self.tails, at).is_some() {
+                return Ok(());
+            }
             let skip = before + 1;
-            self.note(cur.at(), Within { home, skip })?;
+            self.note(at, Within { home, skip })?;
         }
         Ok(())
     }

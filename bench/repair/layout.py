@@ -1,7 +1,8 @@
 #!/usr/bin/env python3
 """layout.py BIN TEXT: prints the list of contrib/layout by the samples themselves, in place of repaired counts.
 
-An edge of blocks was gone along by a branch from the one to the start of the other, or by a stretch between two branches.
+An edge of blocks was gone along by a branch from the one to the start of the other, or by a stretch between two branches. Where a
+call that can throw ends a block, the return from it leads to the one behind.
 """
 import bisect
 import collections
@@ -35,7 +36,9 @@ def counts_of(path, places):
     for (source, target), times in branches.items():
         head = places.at(target)
         if head and head.low == target:
-            step(places.at(source), head, times)
+            tail = places.at(source)
+            is_return = not tail or tail.entry != head.entry
+            step(places.at(target - 1) if is_return else tail, head, times)
     for (first, last), times in ranges.items():
         row, end = places.at(first), places.at(last)
         if row and end:

@@ -22,6 +22,7 @@ class Definition(NamedTuple):
     lines: int  # with its comment, without empty lines
     comment: str
     text: str  # without comments
+    source: str  # as it stands
 
 
 class File(NamedTuple):
@@ -84,7 +85,7 @@ def blocks(lines: List[str]) -> "Iterator[Tuple[str, List[str]]]":
 def definition(block: List[str]) -> Definition:
     comment = " ".join(line.strip()[2:].strip() for line in block if line.strip().startswith("--"))
     text = "\n".join(line for line in block if not line.strip().startswith("--"))
-    return Definition(sum(bool(line.strip()) for line in block), comment, text)
+    return Definition(sum(bool(line.strip()) for line in block), comment, text, "\n".join(block).strip("\n"))
 
 
 def rust_types(text: str) -> Dict[str, Definition]:
@@ -93,7 +94,7 @@ def rust_types(text: str) -> Dict[str, Definition]:
     for match in re.finditer(r"((?:^///.*\n)*)(?:^#\[.*\n)*^pub (?:struct|enum) (\w+)[^;{]*(?:;|\{\n(?:.*\n)*?^\}$)", text, re.M):
         block = match[0].splitlines()
         comment = " ".join(line[3:].strip() for line in match[1].splitlines())
-        found[match[2]] = Definition(sum(bool(line.strip()) for line in block), comment, "")
+        found[match[2]] = Definition(sum(bool(line.strip()) for line in block), comment, "", match[0])
     return found
 
 
@@ -156,10 +157,30 @@ def definition_of(name: Name) -> Definition:
     return found
 
 
-def named_by(name: Name) -> List[Name]:
-    """The definitions that a definition names."""
+def is_made(name: Name) -> bool:
+    """Whether a name is a constructor, which patterns use, and no definition, whose name a pattern binds anew."""
     file = file_of(name.path)
-    return [other for other in mentioned(definition_of(name).text, file.names, file.modules) if other != name]
+    if name.path.endswith(".rt") or name.name in file.owners:
+        return True
+    handed_on = file.names.get(name.name, name)
+    return name.name not in file.definitions and handed_on != name and is_made(handed_on)
+
+
+def bound_in(equation: str, names: Dict[str, Name]) -> Set[str]:
+    """The parameters of an equation that have the name of a definition."""
+    left = re.split(r"\s=\s", equation, maxsplit=1)[0]
+    return {word for word in NAME.findall(left)[1:] if word in names and not is_made(names[word])}
+
+
+def named_by(name: Name) -> List[Name]:
+    """The definitions that a definition names, in its type and in each of its equations."""
+    file = file_of(name.path)
+    found: Dict[Name, None] = {}
+    for part in re.split(rf"\n(?={re.escape(name.name)}\b)", definition_of(name).text):
+        bound = bound_in(part, file.names) if part.startswith(name.name) else set()
+        names = {word: other for word, other in file.names.items() if word not in bound}
+        found.update(dict.fromkeys(mentioned(part, names, file.modules)))
+    return [other for other in found if other != name]
 
 
 def reached(roots: Iterable[Name], stops: Container[Name]) -> List[Name]:

@@ -49,6 +49,9 @@ class Documents(Case):
 
     def test_reading(self):
         self.passes(python(TOP / "checks" / "reading"))
+        shown = python(TOP / "checks" / "reading", "--print", "3")
+        self.passes(shown)
+        self.assertIn(b"-- Counts that conserve within bounds and cost at most what all others cost that do.\npub record AreLeast ", shown.out)
 
     def test_limits(self):
         self.passes(python(TOP / "checks" / "limits"))

@@ -72,15 +72,15 @@ class Solvers:
         calls, costs, told = self.calls(network), {}, {}
         keys = list(calls)
 
-        def hear(turn, at, cost):
+        def hear(turn, at, said):
             who, call = keys[at][0], calls[keys[at]]
-            tell(turn, call.who, cost)
+            tell(turn, call.who, said)
             with open(call.out, "rb") as file:
-                said = (LEMON_COST if who in LEMON else COST).search(file.read())
-            if said:
-                costs[who] = int(said[1])
-            if said and who in LEMON:
-                told[who] = min(float(said[2]), told.get(who, float("inf")))
+                printed = (LEMON_COST if who in LEMON else COST).search(file.read())
+            if printed:
+                costs[who] = int(printed[1])
+            if printed and who in LEMON:
+                told[who] = min(float(printed[2]), told.get(who, float("inf")))
 
         measured = dict(zip(keys, turns.by_turns(list(calls.values()), count, self.scratch, hear)))
         failed = {who: held.failed for (who, _), held in measured.items() if held.failed}

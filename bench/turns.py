@@ -88,15 +88,15 @@ def sum_of(path):
 
 
 def take(call, held, scratch):
-    """One turn of a call."""
+    """One turn of a call: what is to be said of it."""
     out, err = call.out or os.path.join(scratch, "out"), os.path.join(scratch, "err")
     status, cost = run(call.words, out, err)
     if status:
         held.failed = reason(status, err)
-    else:
-        held.costs.append(cost)
-        held.sums.add(sum_of(out) if call.is_same else None)
-    return cost
+        return held.failed
+    held.costs.append(cost)
+    held.sums.add(sum_of(out) if call.is_same else None)
+    return shown(cost)
 
 
 def by_turns(calls, turns, scratch, told):

@@ -72,7 +72,9 @@ class Peers(Case):
 
     def test_what_fails_is_named(self):
         self.programs("before", "echo no such word >&2; exit 2")
-        table = self.table("--small", "--only=make", "--before=before")
+        ran = self.peers("--small", "--only=make", "--before=before")
+        self.tells(ran, DONE, "turn 1: pgo: [0-9.]+ s, .* turn 1: before: it ended with 2: no such word")
+        table = ran.out.decode()
         self.assertIn("\nLeft out:\n\n- `make 64 sum` by before: it ended with 2: no such word\n", table)
         self.assertEqual(rows_of(table)["`make 64 sum`"][2], "")
         # It is pgo itself.

@@ -18,7 +18,7 @@ use Rattle.placed_view.proofs.StepLemmas.{GoesOn, GoesOn-start, GoesOn-more, Goe
 use Rattle.unit_model.specs.Header.{unit_length}
 use Rattle.unit_model.specs.Units as model
 use Rattle.dwarf_info.specs.declared.rows.Entries.{Entries}
-use Rattle.dwarf_info.specs.declared.rows.UnitsSoFar.{UnitsSoFar}
+use Rattle.dwarf_info.specs.declared.rows.UnitsRead.{UnitsRead}
 use Rattle.dwarf_info.specs.declared.units.Extent.{Extent}
 use Rattle.dwarf_info.specs.Entries.{all_of, IsWhole}
 use Rattle.dwarf_info.specs.Units.{units_of, extent_of, IsRead, IsReadTo, ReadsUnit, ReadsNext, SkipsUnit}
@@ -26,14 +26,14 @@ use Rattle.entry_model.proofs.OrderLemmas.{entries-in_order, units-share_entries
 use Rattle.dwarf_info.specs.Kept.{AreKept}
 use Rattle.dwarf_info.proofs.EntryLemmas.{stopped}
 
-skipped-is : (old new : UnitsSoFar) (extent : Extent) → SkipsUnit old new extent → units_of new ≡ model.with_skipped (extent_of extent) (units_of old)
+skipped-is : (old new : UnitsRead) (extent : Extent) → SkipsUnit old new extent → units_of new ≡ model.with_skipped (extent_of extent) (units_of old)
 skipped-is old new extent skips =
     ap (λ (us : List model.Unit). record { units = us; entries = all_of new.entries; skipped = new.skipped.items }) skips.units
     ∙ ap (λ (e : Entries). record { units = old.units.items; entries = all_of e; skipped = new.skipped.items }) skips.entries
     ∙ ap (λ (s : List (ℕ × ℕ)). record { units = old.units.items; entries = all_of old.entries; skipped = s }) skips.skipped
 
 -- a unit that was passed over
-pub IsRead-skipped : (old new : UnitsSoFar) (extent : Extent) (cur : Cursor) → IsWhole old.entries → SkipsUnit old new extent
+pub IsRead-skipped : (old new : UnitsRead) (extent : Extent) (cur : Cursor) → IsWhole old.entries → SkipsUnit old new extent
     → IsRead old new (Ok (model.with_skipped (extent_of extent) (units_of old), cur))
 IsRead-skipped old new extent cur whole skips = record {
   whole = subst IsWhole (sym skips.entries) whole;
@@ -69,7 +69,7 @@ next_unit-is : (section : Option Cursor) (before : model.Units) (cur mid : Curso
 unfolding model.next_unit
 next_unit-is section before cur mid wide size e = rw e refl
 
-within-read : (reader : Reader model.Units) (size : ℕ) (mid : Cursor) (old new : UnitsSoFar) (r : Result (Unit {0}) Stop) → ReadsUnit r old new (reader (piece_of size mid))
+within-read : (reader : Reader model.Units) (size : ℕ) (mid : Cursor) (old new : UnitsRead) (r : Result (Unit {0}) Stop) → ReadsUnit r old new (reader (piece_of size mid))
     → ReadsNext r old new (cursor_behind size mid) (within size reader mid)
 within-read reader size mid old new (Ok done) read = record {
   whole = read.whole;
@@ -80,7 +80,7 @@ within-read reader size mid old new (Err (Refused place)) read = ap (λ (x : Rea
 within-read reader size mid old new (Err NoMemory) read = tt
 
 -- the next unit, in a piece of its own
-pub ReadsNext-body : (section : Option Cursor) (old new : UnitsSoFar) (cur mid body next : Cursor) (extent : Extent) (size : ℕ) (r : Result (Unit {0}) Stop)
+pub ReadsNext-body : (section : Option Cursor) (old new : UnitsRead) (cur mid body next : Cursor) (extent : Extent) (size : ℕ) (r : Result (Unit {0}) Stop)
     → unit_length cur ≡ Ok ((extent.shape.wide, size), mid) → size ≤ length mid.left → extent.at ≡ cur.at → extent.end ≡ mid.at + size
     → body.at ≡ mid.at → run_at size mid.left ≡ Ok (body.left, next.left) → Reads (SpellsRun size) mid next body.left
     → ReadsUnit r old new (model.unit_body section (extent_of extent) size (units_of old) body)
@@ -104,12 +104,12 @@ shorter-piece size mid next run passes = omega (arith, ap length passes.passed.l
 
 -- ---- the units so far
 
-pub record UnitsSoFar (section : Option Cursor) (start : Cursor) (so_far : UnitsSoFar) (cur : Cursor) : Type 0 where
+pub record UnitsSoFar (section : Option Cursor) (start : Cursor) (so_far : UnitsRead) (cur : Cursor) : Type 0 where
   pub whole : IsWhole so_far.entries
   pub few : length so_far.units.items + length cur.left ≤ length start.left
   pub on : GoesOn (step_if_left (model.next_unit section)) (while_left (model.next_unit section) model.no_units start) (units_of so_far) cur
 
-pub UnitsSoFar-none : (section : Option Cursor) (part : Part) (so_far : UnitsSoFar) (cur : Cursor) → IsWhole so_far.entries → units_of so_far ≡ model.no_units → length so_far.units.items ≡ 0
+pub UnitsSoFar-none : (section : Option Cursor) (part : Part) (so_far : UnitsRead) (cur : Cursor) → IsWhole so_far.entries → units_of so_far ≡ model.no_units → length so_far.units.items ≡ 0
     → cur.at ≡ part.at → cur.left ≡ bytes_of_part part → UnitsSoFar section (start_of part) so_far cur
 UnitsSoFar-none section part so_far cur whole none zero_units at left =
     let here : start_of part ≡ cur = ap (λ (n : ℕ). record { at = n; left = bytes_of_part part }) (sym at) ∙ ap (λ (l : List ℕ). record { at = cur.at; left = l }) (sym left) in
@@ -121,7 +121,7 @@ UnitsSoFar-none section part so_far cur whole none zero_units at left =
           (GoesOn-start (step_if_left (model.next_unit section)) model.no_units (start_of part)));
     }
 
-pub UnitsSoFar-more : (section tables : Option Cursor) (start : Cursor) (old new : UnitsSoFar) (cur next : Cursor) → tables ≡ section → UnitsSoFar section start old cur → 0 < length cur.left
+pub UnitsSoFar-more : (section tables : Option Cursor) (start : Cursor) (old new : UnitsRead) (cur next : Cursor) → tables ≡ section → UnitsSoFar section start old cur → 0 < length cur.left
     → IsReadTo old new next (model.next_unit tables (units_of old) cur) → length next.left < length cur.left → UnitsSoFar section start new next
 UnitsSoFar-more section tables start old new cur next same so_far some is less =
     let read : IsReadTo old new next (model.next_unit section (units_of old) cur) = subst (λ (s : Option Cursor). IsReadTo old new next (model.next_unit s (units_of old) cur)) same is in
@@ -131,7 +131,7 @@ UnitsSoFar-more section tables start old new cur next same so_far some is less =
       on = GoesOn-more (step_if_left (model.next_unit section)) _ _ _ cur next so_far.on (step_if_left-some (model.next_unit section) _ _ cur next some read.is) less;
     }
 
-pub UnitsSoFar-end : (section : Option Cursor) (start : Cursor) (so_far : UnitsSoFar) (cur : Cursor) → UnitsSoFar section start so_far cur → length cur.left ≡ 0
+pub UnitsSoFar-end : (section : Option Cursor) (start : Cursor) (so_far : UnitsRead) (cur : Cursor) → UnitsSoFar section start so_far cur → length cur.left ≡ 0
     → (refused_at (model.units section start) ≡ None) × IsReadValue (model.units section start) (units_of so_far)
 unfolding model.units
 UnitsSoFar-end section start so_far cur on none =
@@ -139,7 +139,7 @@ UnitsSoFar-end section start so_far cur on none =
     (ap refused_at is, (cur, is))
 
 -- what holds of all units
-pub UnitsSoFar-kept : (section : Option Cursor) (part : Part) (so_far : UnitsSoFar) (cur : Cursor) → part.len ≤ 2 ^ 30 → part.at + part.len ≤ 2 ^ 64
+pub UnitsSoFar-kept : (section : Option Cursor) (part : Part) (so_far : UnitsRead) (cur : Cursor) → part.len ≤ 2 ^ 30 → part.at + part.len ≤ 2 ^ 64
     → UnitsSoFar section (start_of part) so_far cur → length cur.left ≡ 0 → AreKept (units_of so_far)
 UnitsSoFar-kept section part so_far cur short fits on none =
     let end = UnitsSoFar-end section (start_of part) so_far cur on none in
@@ -168,7 +168,7 @@ kept-none = record {
   shared = refl;
 }
 
-bad : (section : Option Cursor) (start : Cursor) (old new : UnitsSoFar) (cur next : Cursor) (why : Stop) → UnitsSoFar section start old cur → 0 < length cur.left
+bad : (section : Option Cursor) (start : Cursor) (old new : UnitsRead) (cur next : Cursor) (why : Stop) → UnitsSoFar section start old cur → 0 < length cur.left
     → ReadsNext (Err why) old new next (model.next_unit section (units_of old) cur)
     → JudgesUnlessNoMemory {T = model.Units} (refused_at (model.units section start)) (Err why) (IsReadValue (model.units section start))
 unfolding model.units
@@ -176,7 +176,7 @@ bad section start old new cur next (Refused place) on some read =
     ap refused_at (GoesOn-bad (step_if_left (model.next_unit section)) _ _ cur place on.on (step_if_left-bad (model.next_unit section) _ cur place some read))
 bad section start old new cur next NoMemory on some read = tt
 
-pub UnitsSoFar-stop : (section tables : Option Cursor) (start : Cursor) (old new : UnitsSoFar) (cur next : Cursor) (why : Stop) (r : Result model.Units Stop) → tables ≡ section → UnitsSoFar section start old cur
+pub UnitsSoFar-stop : (section tables : Option Cursor) (start : Cursor) (old new : UnitsRead) (cur next : Cursor) (why : Stop) (r : Result model.Units Stop) → tables ≡ section → UnitsSoFar section start old cur
     → 0 < length cur.left → ReadsNext (Err why) old new next (model.next_unit tables (units_of old) cur) → IsErrAnd r (λ s. s ≡ why)
     → JudgesUnlessNoMemory (refused_at (model.units section start)) r (IsReadValue (model.units section start))
 UnitsSoFar-stop section tables start old new cur next why r same on some read is =

@@ -8,11 +8,11 @@ use Rattle.unit_model.specs.Abbrev.{Abbrev}
 use Rattle.unit_model.specs.Entries.{entries}
 use Rattle.unit_model.specs.Units as model
 use Rattle.dwarf_info.specs.Entries.{all_of, IsWhole}
-use Rattle.dwarf_info.specs.declared.rows.UnitsSoFar.{UnitsSoFar}
+use Rattle.dwarf_info.specs.declared.rows.UnitsRead.{UnitsRead}
 use Rattle.dwarf_info.specs.declared.units.Extent.{Extent}
 
 -- The units in memory.
-abbrev pub units_of : UnitsSoFar → model.Units
+abbrev pub units_of : UnitsRead → model.Units
 units_of so_far = record { units = so_far.units.items; entries = all_of so_far.entries; skipped = so_far.skipped.items }
 
 -- Where a unit stands, as the model says it.
@@ -26,30 +26,30 @@ unit_by_table extent version table before = do
   gives (model.with_unit extent version all before)
 
 -- A unit is read or passed over; at most one more is there then.
-pub record IsRead (old new : UnitsSoFar) (read : Read model.Units) : Type 0 where
+pub record IsRead (old new : UnitsRead) (read : Read model.Units) : Type 0 where
   pub whole : IsWhole new.entries
   pub one_more : length new.units.items ≤ length old.units.items + 1
   pub cur : Cursor
   pub is : read ≡ Ok (units_of new, cur)
 
-abbrev pub ReadsUnit : Result (Unit {0}) Stop → UnitsSoFar → UnitsSoFar → Read model.Units → Type 0
+abbrev pub ReadsUnit : Result (Unit {0}) Stop → UnitsRead → UnitsRead → Read model.Units → Type 0
 ReadsUnit (Ok done) old new read = IsRead old new read
 ReadsUnit (Err (Refused place)) old new read = read ≡ Err place
 ReadsUnit (Err NoMemory) old new read = ⊤
 
 -- The same, with the cursor behind it.
-pub record IsReadTo (old new : UnitsSoFar) (cur : Cursor) (read : Read model.Units) : Type 0 where
+pub record IsReadTo (old new : UnitsRead) (cur : Cursor) (read : Read model.Units) : Type 0 where
   pub whole : IsWhole new.entries
   pub one_more : length new.units.items ≤ length old.units.items + 1
   pub is : read ≡ Ok (units_of new, cur)
 
-abbrev pub ReadsNext : Result (Unit {0}) Stop → UnitsSoFar → UnitsSoFar → Cursor → Read model.Units → Type 0
+abbrev pub ReadsNext : Result (Unit {0}) Stop → UnitsRead → UnitsRead → Cursor → Read model.Units → Type 0
 ReadsNext (Ok done) old new cur read = IsReadTo old new cur read
 ReadsNext (Err (Refused place)) old new cur read = read ≡ Err place
 ReadsNext (Err NoMemory) old new cur read = ⊤
 
 -- A unit more is passed over, and nothing else has changed.
-pub record SkipsUnit (old new : UnitsSoFar) (extent : Extent) : Type 0 where
+pub record SkipsUnit (old new : UnitsRead) (extent : Extent) : Type 0 where
   pub units : new.units.items ≡ old.units.items
   pub entries : new.entries ≡ old.entries
   pub skipped : new.skipped.items ≡ old.skipped.items ++ (extent.at, extent.end) ∷ []

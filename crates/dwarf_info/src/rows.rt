@@ -118,24 +118,24 @@ pub(crate) struct Entries<'a> {
 /// The units that are read so far, with the entries of all, and where each unit that is passed over
 /// begins and ends.
 #[derive(Debug, Drop)]
-pub(crate) struct UnitsSoFar<'a> {
+pub(crate) struct UnitsRead<'a> {
     pub units: Vec<Unit>,
     pub entries: Entries<'a>,
     pub skipped: Vec<(u64, u64)>,
 }
 
-impl<'a> UnitsSoFar<'a> {
+impl<'a> UnitsRead<'a> {
     ghost use Rattle.dwarf_info.specs.Entries.{IsWhole};
     ghost use Rattle.dwarf_info.specs.Units.{units_of};
     ghost use Rattle.unit_model.specs.Units.{no_units};
 
     /// No units.
-    pub fn new(alloc: Global) -> UnitsSoFar<'a>
+    pub fn new(alloc: Global) -> UnitsRead<'a>
         ensures whole { IsWhole result.entries }
         ensures none { units_of result ≡ no_units }
         ensures few { length result.units.items ≡ 0 }
     {
-        UnitsSoFar {
+        UnitsRead {
             units: Vec::new(alloc),
             entries: Entries {
                 rows: Vec::new(alloc),
@@ -153,7 +153,7 @@ impl<'a> UnitsSoFar<'a> {
 /// is lent, as a value that borrows its attributes.
 #[derive(Debug, Drop)]
 pub struct Units<'a> {
-    pub(crate) so_far: UnitsSoFar<'a>,
+    pub(crate) so_far: UnitsRead<'a>,
 }
 
 impl<'a> Model for Units<'a> {

@@ -13,7 +13,7 @@ ghost use Rattle.dwarf_info.specs.Units.{ReadsNext, ReadsUnit, SkipsUnit, extent
 
 use crate::entries::{OpenUnit, read_entries};
 use crate::header::{Header, read_header, read_length};
-use crate::rows::{Unit, Units, UnitsSoFar};
+use crate::rows::{Unit, Units, UnitsRead};
 use crate::tables::{Table, Tables};
 use byte_view::{Cur, Part};
 use dwarf_forms::UnitShape;
@@ -30,7 +30,7 @@ pub(crate) struct Extent {
 }
 
 /// Adds a unit that is passed over.
-fn skip(so_far: &mut UnitsSoFar<'_>, extent: Extent) -> Result<(), NoMemory>
+fn skip(so_far: &mut UnitsRead<'_>, extent: Extent) -> Result<(), NoMemory>
     ensures { OnOk result (SkipsUnit so_far.old so_far.new extent) }
 {
     so_far.skipped.push((extent.at, extent.end))?;
@@ -51,7 +51,7 @@ fn read_by_table<'a>(
     extent: Extent,
     version: u16,
     table: &Table,
-    so_far: &mut UnitsSoFar<'a>,
+    so_far: &mut UnitsRead<'a>,
 ) -> Result<(), Stop>
     requires whole { IsWhole so_far.old.entries }
     requires few { length so_far.old.units.items < 2 ^ 32 }
@@ -86,7 +86,7 @@ fn read_unit<'a>(
     extent: Extent,
     head: &Header<'_>,
     tables: &mut Tables<'_>,
-    so_far: &mut UnitsSoFar<'a>,
+    so_far: &mut UnitsRead<'a>,
 ) -> Result<(), Stop>
     requires whole { IsWhole so_far.old.entries }
     requires few { length so_far.old.units.items < 2 ^ 32 }
@@ -109,7 +109,7 @@ fn read_body<'a>(
     extent: Extent,
     size: u64,
     tables: &mut Tables<'_>,
-    so_far: &mut UnitsSoFar<'a>,
+    so_far: &mut UnitsRead<'a>,
 ) -> Result<(), Stop>
     requires whole { IsWhole so_far.old.entries }
     requires few { length so_far.old.units.items < 2 ^ 32 }
@@ -134,7 +134,7 @@ pub(crate) fn read_next<'a>(
     alloc: Global,
     cur: &mut Cur<'a>,
     tables: &mut Tables<'_>,
-    so_far: &mut UnitsSoFar<'a>,
+    so_far: &mut UnitsRead<'a>,
 ) -> Result<(), Stop>
     requires whole { IsWhole so_far.old.entries }
     requires few { length so_far.old.units.items < 2 ^ 32 }
@@ -169,7 +169,7 @@ fn read_section<'a>(
         result (IsRead (units_told_in (option_map start_of abbrev.entry) (start_of part.entry))) }
 {
     let mut tables = Tables::new(alloc, abbrev);
-    let mut so_far = UnitsSoFar::new(alloc);
+    let mut so_far = UnitsRead::new(alloc);
     let mut cur = Cur::new(part);
     while cur.left() > 0 {
         read_next(alloc, &mut cur, &mut tables, &mut so_far)?;
@@ -200,7 +200,7 @@ pub fn read_units<'a>(
     match info {
         Some(part) => read_section(alloc, part, abbrev),
         None => Ok(Units {
-            so_far: UnitsSoFar::new(alloc),
+            so_far: UnitsRead::new(alloc),
         }),
     }
 }

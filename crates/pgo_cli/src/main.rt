@@ -16,13 +16,13 @@ use std::alloc::Global;
 use std::process::ExitCode;
 
 fn main(rt: HostRuntime) -> ExitCode {
-    main_of::<Main, _>(&rt)
+    main_of::<PgoProgram, _>(&rt)
 }
 
 /// The program `pgo`.
-struct Main;
+struct PgoProgram;
 
-impl Called for Main {
+impl Called for PgoProgram {
     fn answer_to(words: &[Vec<u8>]) -> Option<&'static [u8]> {
         about::answer_to(words)
     }

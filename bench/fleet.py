@@ -54,6 +54,9 @@ def profile(functions, names, machine):
 
 
 def main():
+    if sys.argv[1:2] in (["-h"], ["--help"]):
+        print(__doc__.strip())
+        return
     profiles, count, folder = int(sys.argv[1]), int(sys.argv[2]), sys.argv[3]
     draw = random.Random(0)
     functions = [Function(draw, number) for number in range(count)]

@@ -71,4 +71,6 @@ def repaired(text, binary, blocks, built):
 
 
 if __name__ == "__main__":
+    if sys.argv[1:2] in (["-h"], ["--help"]):
+        sys.exit(print(__doc__.strip()))
     print("\n".join(told(*(samples_of(*sys.argv[1:]) if len(sys.argv) == 2 else repaired(*sys.argv[1:])))))

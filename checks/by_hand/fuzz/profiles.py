@@ -22,6 +22,8 @@ import make
 import sums
 from drawn import Text, damaged
 
+if sys.argv[1:2] in (["-h"], ["--help"]):
+    sys.exit(print(__doc__.strip()))
 PROGRAM, COLD, SEED, RUNS, FINDS = *map(os.path.abspath, sys.argv[1:3]), *map(int, sys.argv[3:5]), os.path.abspath(sys.argv[5])
 BINARY, ADDRESSES = make.small(2), range(make.CODE, make.CODE + 128)
 # What is put into a text: numbers at the borders of their kinds, and what lines are made of.

@@ -67,7 +67,7 @@ class Peers(Case):
         self.assertIn("Other bytes than pgo's:\n\n- `make 64 sum` by before\n", table)
 
     def test_alone(self):
-        rows = rows_of(self.table("--small", "--alone", "--only=merge", "--only=counts"))
+        rows = rows_of(self.table("--small", "--alone", "--only=merge", "--only=make"))
         self.assertEqual([cells[-1] for cells in rows.values()], ["Beside it", "---", "", ""])
 
     def test_what_fails_is_named(self):

@@ -1,4 +1,4 @@
-//! Solves made-up networks, to be timed by `bench/solver` and `bench/peers`.
+//! Solves made-up networks, to be timed by `bench/peers`.
 //!
 //! `solver_bench chain BLOCKS TIMES` solves a chain of so many blocks, of which the first was
 //! sampled once; `solver_bench diamonds BLOCKS TIMES` a row of choices of two ways, whose weights

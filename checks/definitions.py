@@ -82,8 +82,17 @@ def blocks(lines: List[str]) -> "Iterator[Tuple[str, List[str]]]":
         yield name, block
 
 
+def without_why(block: List[str]) -> List[str]:
+    """The lines without those of a decision, which checks/decisions collects."""
+    kept, why = [], False
+    for line in block:
+        why = line.startswith("-- Why: ") or (why and line.startswith("-- "))
+        kept += [] if why else [line]
+    return kept
+
+
 def definition(block: List[str]) -> Definition:
-    comment = " ".join(line.strip()[2:].strip() for line in block if line.strip().startswith("--"))
+    comment = " ".join(line.strip()[2:].strip() for line in without_why(block) if line.strip().startswith("--"))
     text = "\n".join(line for line in block if not line.strip().startswith("--"))
     return Definition(sum(bool(line.strip()) for line in block), comment, text, "\n".join(block).strip("\n"))
 
@@ -91,7 +100,7 @@ def definition(block: List[str]) -> Definition:
 def rust_types(text: str) -> Dict[str, Definition]:
     """The types of a Rust file, without what stands on them."""
     found = {}
-    for match in re.finditer(r"((?:^///.*\n)*)(?:^#\[.*\n)*^pub (?:struct|enum) (\w+)[^;{]*(?:;|\{\n(?:.*\n)*?^\}$)", text, re.M):
+    for match in re.finditer(r"((?:^///.*\n)*)(?:^// .*\n)*(?:^#\[.*\n)*^pub (?:struct|enum) (\w+)[^;{]*(?:;|\{\n(?:.*\n)*?^\}$)", text, re.M):
         block = match[0].splitlines()
         comment = " ".join(line[3:].strip() for line in match[1].splitlines())
         found[match[2]] = Definition(sum(bool(line.strip()) for line in block), comment, "", match[0])

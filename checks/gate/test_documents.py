@@ -56,6 +56,9 @@ class Documents(Case):
     def test_limits(self):
         self.passes(python(TOP / "checks" / "limits"))
 
+    def test_decisions(self):
+        self.passes(python(TOP / "checks" / "decisions"))
+
     def test_pages_are_there(self):
         """Each page that a text names, and each file to which a page links."""
         for path, text in texts():

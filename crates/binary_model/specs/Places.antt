@@ -38,6 +38,8 @@ in_names names by_number.no_line = no_line
 in_names names (by_number.has_key key) = at_way (way_of names key)
 
 -- Functions and inlined calls whose names are numbered by their own places in the list.
+-- Why: Here members are numbered by their own place, and in the code names one to one: two numberings tell the same
+-- places.
 abbrev pub numbered_from : ℕ → List Told → List Member
 numbered_from n [] = []
 numbered_from n (told ∷ rest) =
@@ -57,6 +59,8 @@ abbrev pub names_of : List Told → List (List ℕ)
 names_of members = map (λ told. unwrap_or told.name []) members
 
 -- Line and discriminator of an address, by the sequences of its unit.
+-- Why: The row of an address is a function of unit and address, which knows no row table. A unit without a table has no
+-- rows.
 abbrev pub row_in : List (Option (List Sequence)) → ℕ → ℕ → Option LineAndDisc
 row_in tables unit address =
     option_map (λ row. (row.line, row.disc))

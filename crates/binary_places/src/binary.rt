@@ -98,6 +98,8 @@ pub fn read(alloc: Global, file: &[u8], base: bool) -> Result<Binary<'_>, Stop>
 ///
 /// # Errors
 /// `NoMemory`.
+// Why: The whole binary is judged before the text is opened, and which functions are asked for is
+// known behind it. So `read` and this are two calls.
 pub fn places<'a>(alloc: Global, binary: Binary<'a>, asked: &Asked) -> Result<Placed<'a>, NoMemory>
     requires { (file : List ℕ) × (base : Bool) × IsBinary file base binary }
     ensures { IfOk result (λ placed. (file : List ℕ) (base : Bool)

@@ -18,6 +18,8 @@ use std::collections::BTreeMap;
 const MAX_ROWS_OF_ALL: u64 = 1 << 26;
 
 /// A line program that was read for a unit before.
+// Why: A line program that several units name is read for the first of them, and its rows count for
+// each. Past the limit it is read again, which tells the place.
 #[derive(Clone, Copy, Debug)]
 pub(crate) struct Known {
     /// The index of that unit among the units.

@@ -18,6 +18,8 @@ const NEAR: usize = 16;
 
 /// The segments of a program, which tell the key of each address, and the count of each key at its
 /// number; keys behind the end of the counts count 0.
+// Why: The largest count in a block is found by two searches and a tree over runs of 16 segments,
+// made once for all functions, however many the block spans.
 #[derive(Debug, Drop)]
 pub struct SegmentCounts<'s> {
     segments: &'s [Seg],

@@ -14,6 +14,8 @@ use std::alloc::Global;
 use std::marker::Model;
 
 /// Sampled branches by their ranks, and how often ranges ran past each address.
+// Why: All branches are ordered once, by target and then by source. A search finds those of an
+// edge, however many edges a block has.
 #[derive(Debug, Drop)]
 pub struct EdgeSamples {
     branches: Vec<Pair>,

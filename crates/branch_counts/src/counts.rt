@@ -91,6 +91,7 @@ impl Counts {
     ///
     /// # Errors
     /// `NoMemory`.
+    // Why: `counts` prints no ranges.
     pub fn of_branches(alloc: Global) -> Result<Counts, NoMemory>
         ensures { IfOk result (λ counts. (counts.branches ≡ []) × (counts.ranges ≡ [])
             × (counts.with_ranges ≡ false)) }

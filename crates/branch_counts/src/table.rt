@@ -12,6 +12,8 @@ use std::marker::Model;
 
 /// Rows in the order in which their pairs came first, and the pairs in the same order, by which a
 /// row is found at once.
+// Why: Pairs are a list of rows with an index beside it, so that rows stay a slice. Room in both is
+// taken first: refused memory leaves both as they were. No clause promises the order of rows.
 #[derive(Debug, Drop)]
 pub(crate) struct Table {
     rows: Vec<Pair>,

@@ -36,6 +36,8 @@ const MAX_HELD: usize = MAX_LINE_BYTES + 1;
 /// with a foreign end as one from 0 to 0.
 ///
 /// Once a call has answered a `Stop`, each later call answers it again and counts nothing.
+// Why: Behind `new` the counts alone grow. A reader with loads keeps more: the loads, spans made of
+// them, and two lists for one sample's moved branches and ranges.
 #[derive(Debug, Drop)]
 pub struct Reader {
     file: u8,

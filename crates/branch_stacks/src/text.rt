@@ -29,6 +29,7 @@ use text_scan::Line;
 /// `NoMemory` they hold the lines before some line, none of them bad.
 ///
 /// Source: perf-script(1), "brstack".
+// Why: Room for a line's entries comes from the counts' allocator, so none is asked for.
 pub fn read_text(text: &[u8], file: u8, counts: &mut Counts) -> Result<(), Stop>
     requires { total_of counts.old ≡ 0 }
     ensures judged { JudgesUnlessNoMemory (first_bad_of_text file text.now) result

@@ -3,6 +3,7 @@
 //!
 //! Both stand on the profile that `profile_maker` makes, of the places that the samples and the
 //! blocks ask for.
+// Why: It is a crate of its own so that a profile does not wait for the proofs of the solver.
 #![tactic(auto)]
 
 mod builder;

@@ -10,6 +10,8 @@ use std::marker::Model;
 /// A cursor over a piece of a file. Its place is an offset in the file.
 ///
 /// What it hands out are slices of the file's bytes, which live as long as the file's buffer.
+// Why: A cursor keeps its piece's end and what is left, so that no sum can overflow. It is no
+// `Clone`, as a type with a model and a lifetime cannot be `Copy`: to read ahead there is `fork`.
 #[derive(Debug, Drop)]
 pub struct Cur<'a> {
     end: usize,

@@ -40,6 +40,7 @@ first_at depth address (member ∷ behind) =
 
 -- The chain of an address among members, no longer than a bound, from a depth on: the first that stands at the depth
 -- and holds the address, then the chain among those below it, from the next depth on. It ends where there is none.
+-- Why: The bound is there since a definition has to recur on something that gets smaller.
 abbrev pub chain_among : ℕ → ℕ → ℕ → List (ℕ × Member) → List (ℕ × Member)
 chain_among zero depth address members = []
 chain_among (suc most) depth address members =

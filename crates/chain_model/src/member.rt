@@ -5,6 +5,8 @@ use key_types::NameId;
 ///
 /// Members stand in a list in pre-order: a member stands below the last one before it that is less
 /// deep by one. One of depth 0 is a function and stands below none.
+// Why: Members are one flat list in pre-order with depths, so that nothing recurs over depth. A
+// member more than one deeper than the one before stands below none, so clauses hold of every list.
 #[derive(Debug, Drop)]
 pub struct Member {
     /// How many members it stands below: 0 for a function, at most 255 for an inlined call.

@@ -24,6 +24,7 @@ abbrev pub stands_in : Profile → Way → Bool
 stands_in p way = list_any (same_function way) (recorded p ++ entered p)
 
 -- The keys of which a profile tells the count 0.
+-- Why: Lines of count 0 in the text stay, those of an older build too; a merge before leaves them out.
 abbrev pub told_cold : Profile → List Way
 told_cold p = map (λ c. c.0) (filter (λ c. c.1 == 0) p.counts)
 

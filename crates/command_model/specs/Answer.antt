@@ -6,6 +6,7 @@ use Rattle.command_model.specs.Command.{Command, command_of}
 use Rattle.command_model.specs.Files.{Asked, Source, named, made, files_of, failed_line}
 
 -- What a command comes to.
+-- Why: The line of a failed check is an answer for every command, so that the clauses of `run` stay as they are.
 pub data Answer : Type 0 where
   -- The words spell no command.
   usage : Answer

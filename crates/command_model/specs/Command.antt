@@ -108,6 +108,8 @@ abbrev pub max_weight : ℕ
 max_weight = 65535
 
 -- A weight: decimal digits of a number that is not 0.
+-- Why: A weight of 0 is `Usage`: a file that counts for nothing is left out. An empty text adds nothing, and is no
+-- mistake: a machine that slept is no fault of the fleet's.
 unfoldable pub weight_of : List ℕ → Option ℕ
 weight_of word =
     option_and_then (λ n. if nat_le 1 n && nat_le n max_weight then Some n else None) (decimal_of word)

@@ -49,6 +49,8 @@ first_bad_of_repair_text file funs text =
 
 -- The first bad place of what was built with these functions: its size first, then its lines as those of a profile
 -- text, and then as those of a repair text.
+-- Why: It is judged as a profile text, then as a repair text: each reader goes over the whole text and knows nothing of
+-- the other. So a bad line of the profile comes before a bad repair above it.
 unfoldable pub first_bad_of_built : ℕ → List Function → List ℕ → Option Place
 first_bad_of_built file funs text =
     first_bad
@@ -69,6 +71,8 @@ first_bad_of_part file weight before text =
     first_bad (size_item file max_profile_bytes text ∷ first_bad_of_summed file weight before text ∷ [])
 
 -- Where the bytes of a file come from.
+-- Why: `make` makes its files in memory. A file of a command has a source, a name or the bytes that the program makes,
+-- so `answer_of` folds over both.
 pub data Source : Type 0 where
   -- The store's file of this name.
   named : List ℕ → Source
@@ -141,6 +145,8 @@ failed_line (lift options bin cfg out) contents = first_failing (functions_in 1 
 failed_line command contents = None
 
 -- The texts that a command may write, all files being good, with these bytes, and no line failing a check.
+-- Why: A relation, over the command and the bytes of its files: a command may be free in what it writes, and a text of
+-- a thousand pages need not be part of an answer.
 abbrev pub IsOutput : Command → List (List ℕ) → List ℕ → Type 0
 IsOutput (counts perf) contents text = text ≡ counts_text (branches_of (file_at 0 contents))
 IsOutput (where_ options bin address) contents text =

@@ -4,6 +4,8 @@ use Rattle.std.specs.List.{filter_map, list_all, starts_with}
 use Rattle.std.specs.Str.{bytes_eq}
 
 -- A word that begins with `--`, in front of the other words of a command, is an option.
+-- Why: Each word in front that begins with `--` is one, for every command, so `counts --x` is `Usage` and `merge 1 --x`
+-- reads a file.
 abbrev pub is_option : List ℕ → Bool
 is_option word = starts_with nat_eq word (codes "--")
 

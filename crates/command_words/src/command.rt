@@ -18,6 +18,7 @@ const MAX_DIGITS: usize = 16;
 const MAX_WEIGHT: u64 = 65_535;
 
 /// The most files of a merge.
+// Why: Texts, from which names are borrowed, and sums have to fit one machine. Trees are for more.
 pub const MAX_PARTS: usize = 8;
 
 /// The options of `where`, of `lift` and of `pgo-cold`.

@@ -112,6 +112,8 @@ entry_told shown address = entry_of shown.entrances address (stretches.function_
 
 -- A map of members: at each address it tells the place, the function and the name of what is entered, and its segments
 -- hold exactly the addresses with a key, each with the number of its key and its factor.
+-- Why: This and `ArePartsOf` say three things twice. Each is a contract between layers; one record inside the others
+-- would lengthen the way to each field in the proofs above.
 pub record IsMap (rows : ℕ → ℕ → Option LineAndDisc) (base : Bool) (members : List Member) (keys : List Key)
     (shown : Shown) : Type 0 where
   pub place : (address : ℕ) → Tells keys (places.place_at rows base members address) (place_told shown address)

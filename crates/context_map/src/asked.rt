@@ -10,6 +10,9 @@ use std::alloc::Global;
 use std::marker::Model;
 
 /// The functions of a binary whose places are asked for.
+// Why: The map is made behind the last text, of the functions that samples, blocks or an address
+// ask for: others have no places. A function without a mark is asked for, so no marks ask for
+// everything.
 #[derive(Debug, Drop)]
 pub struct Asked {
     marks: Vec<bool>,

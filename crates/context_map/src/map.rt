@@ -19,6 +19,9 @@ use std::marker::Model;
 const MOST_ADDED: u32 = 1 << 28;
 
 /// The place of every address of a binary, and the function that is entered there.
+// Why: Kept are segments, spans of chains with a nameless member, stretches, and entrances;
+// `NoLine` is what is left. The limits (2^28 new keys, 2^32 stretches) are kept by counting, and
+// what passes them is `NoMemory`.
 #[derive(Drop)]
 pub struct Map {
     segments: Vec<Seg>,

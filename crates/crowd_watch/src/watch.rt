@@ -16,6 +16,10 @@ const PARTS: u64 = 1024;
 const TO_A_GROUP: u64 = 9;
 
 /// How many values lie in each part of a table, by their hashes.
+// Why: A fixed hash can be aimed at, and `run` has no source of chance, so the next key is made of
+// the hashes of all values so far. Who aims at each key in turn gains little: a table of n values
+// takes another only behind 4 √n new ones. A digest of the whole text would have to come to each
+// table from above, and an ordered table takes memory at each insert.
 #[derive(Debug, Drop)]
 pub struct Watch {
     counts: Vec<u32>,

@@ -27,6 +27,7 @@ fn read_offset(cur: &mut Cur<'_>, shape: UnitShape) -> Result<u64, ViewFault>
 }
 
 /// The value of a form that needs no abbreviation.
+// Why: One `match` reads all forms, an arm a form; forms of one shape share a macro.
 #[tactic(auto, using(crate::proofs::ReadLemmas::end_kept), unfolding(value_model::specs::Forms::operand_of))]
 #[inline(always)]
 fn read_direct<'a>(

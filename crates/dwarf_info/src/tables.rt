@@ -18,6 +18,10 @@ use std::marker::Model;
 
 /// How many abbreviations, attributes and ends of tables there is room for, beyond as many as the
 /// section has bytes.
+// Why: Tables that do not overlap have no more abbreviations, attributes and ends than the section
+// has bytes. The room is for those that do: that begin within an abbreviation of another one, or
+// are a tail that comes before the whole. Each of these is read and kept by itself, and what passes
+// the room is want of memory, after less than a second.
 const SPARE: usize = 1 << 22;
 
 /// Where a table is: in that of an offset in the file, behind its first abbreviations.
@@ -142,6 +146,10 @@ impl<'b> Tables<'b> {
 
     /// Notes the tails of the table that stands at the start of a piece, behind one and more of its
     /// first abbreviations, up to `count` or to one that is noted with all behind it.
+    // Why: A tail of a kept table is not read again: it is the kept one behind its first
+    // abbreviations. No code stands twice in it, so a look-up in the whole serves where it finds a
+    // place that is not among the first. Tails are noted only once more is kept than the section
+    // has bytes.
     fn note_tails(&mut self, alloc: Global, piece: Part<'_>, count: usize) -> Result<(), NoMemory>
         requires { start_of piece ≡ from_offset self.old piece.at }
         ensures { self.new ≡ self.old }

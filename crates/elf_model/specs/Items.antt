@@ -51,6 +51,8 @@ program_table_items file =
     ∷ []
 
 -- Where the section headers are, and which of them has the names.
+-- Why: `e_shstrndx` and `e_shentsize` of a file without a table of section headers are not judged: nothing rests on
+-- them.
 abbrev pub section_table_items : List ℕ → List (Option Place)
 section_table_items file =
     fails (has_table file && not (e_shentsize file == 64)) 58 BadHeader

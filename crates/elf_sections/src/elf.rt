@@ -49,6 +49,9 @@ impl<'a> Model for Elf<'a> {
 /// the file breaks a rule of docs/FORMATS.md ("ELF files"); or `NoMemory`.
 ///
 /// Source: System V gABI, "ELF Header", "Sections", "String Table", "Program Header".
+// Why: A live range is found by one search in the segments of code in order: a walk over 65,535
+// headers for each of millions of ranges would take hours. That list is made behind all that can be
+// refused, so want of memory takes no refusal's place.
 #[tactic(auto, using(crate::proofs::Items::first_bad_items))]
 pub fn read(alloc: Global, file: &[u8]) -> Result<Elf<'_>, Stop>
     ensures { JudgesUnlessNoMemory (first_bad (items file.now)) result

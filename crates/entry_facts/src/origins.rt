@@ -31,6 +31,9 @@ const MAX_STEPS: u32 = 16;
 ///
 /// One abstract function is shared by all its inlined calls: its way is gone for the first of them.
 /// What is kept belongs to one file and to one list of names.
+// Why: Kept is the origin of a target, where what leads there has no name and line of its own. It
+// is worked out with one step fewer, so errors and the limit are those of the entry that asks. It
+// goes by offsets, no freer than the file is long, and so needs no hash by a key.
 #[derive(Drop)]
 pub struct Origins {
     known: IndexMap<u64, Origin>,

@@ -39,6 +39,8 @@ pub(crate) struct EntryNumber {
 /// The numbers of names by where their texts stand, so that a text that many entries refer to is
 /// judged once. A text that can be no name has none. Of an entry that has several texts one is
 /// kept: a way that leads to it takes its name from one of them alone.
+// Why: A long text that many entries refer to would be judged once for each. An entry that was not
+// found by its offset keeps nothing.
 #[derive(Drop)]
 pub(crate) struct TextNumbers {
     str: IndexMap<u64, Option<NameId>>,

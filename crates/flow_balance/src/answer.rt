@@ -29,6 +29,8 @@ pub fn flow_of(alloc: Global, net: &Net, counts: &[u64]) -> Result<Flow, NoMemor
 }
 
 /// The prices of the blocks' sides, above that of the root.
+// Why: A node that lacks counts keeps its price, 0 in a plain run, so a moved price is the
+// difference of what two ways cost, 40 a step, and leaves no type.
 pub fn prices_of(alloc: Global, net: &Net, prices: &[i64]) -> Result<Prices, NoMemory>
     requires priced { length prices.now ≡ sides_of net.now }
     requires small { AreSmall prices.now }

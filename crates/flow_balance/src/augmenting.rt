@@ -45,6 +45,10 @@ impl Workspace {
 
 /// Takes excess from a source to sides that lack counts, the nearest first, for as long as one
 /// search serves and augmentations may be made; false exactly where no such side can be reached.
+// Why: A search goes on where the push left each step of the way open at the same cost. Where a
+// step is full, the next search begins anew: to keep the nodes whose ways are whole was tried, and
+// was no quicker (2026-11-29). An augmentation moves all that its way takes, and lowers the excess
+// by at least 1, so no budget is needed.
 pub(crate) fn augment(
     net: &Net,
     counts: &mut [u64],

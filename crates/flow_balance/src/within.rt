@@ -19,6 +19,8 @@ use std::alloc::Global;
 /// are left. Those that were made are taken from what is left.
 ///
 /// 2^63 augmentations are enough for any network.
+// Why: Augmentations are counted down, so that each network begins in the plain way and goes on in
+// phases where so many are spent. Which least counts are told then is free: those of the phases.
 pub fn solve_within(alloc: Global, net: &Net, left: &mut u64) -> Result<Option<Solved>, NoMemory>
     ensures solved { IfOk result (λ solved. IfSome solved (Solves net.now)) }
     ensures none { IfOk result (λ solved. solved ≡ None → left.old < 2 ^ 63) }

@@ -40,6 +40,8 @@ pub record IsLeft (net : Network) (counts : Counts) (price : ℕ → ℤ) (arc :
   pub returned : OnTrue (is_exit net arc) (FitsOn price (free_arc arc.head root 0) (n - went_by_edges net counts arc))
 
 -- The test of a block: its count is within its bounds and balances at both sides, and the prices fit it.
+-- Why: Tests of lines are said twice: here as what they ask, and in `Checking` of `repair_model` as what can be
+-- computed, since an answer is a function of the files' bytes. The law `passing_lines_repair` ties the two.
 pub record PassesBlock (net : Network) (counts : Counts) (price : ℕ → ℤ) (arc : Arc) (n : ℕ) : Type 0 where
   pub within : IsWithin arc n
   pub fits : FitsOn price arc n

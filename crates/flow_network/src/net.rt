@@ -22,6 +22,8 @@ use std::marker::Model;
 /// Side 0 is the root; block `b` is entered at side `1 + 2 * b` and left at side `2 + 2 * b`. There
 /// are fewer than 2^19 arcs, bounds and weights are below 2^44, a unit costs at most 40, and no
 /// lower bound is above its upper bound.
+// Why: It is the network of some sound function, and callers take the limits from the law. Arcs are
+// found by node in compressed rows.
 #[derive(Debug, Drop)]
 pub struct Net {
     arcs: Vec<Arc>,
@@ -133,6 +135,8 @@ impl Net {
 }
 
 /// The network of a function, with a weight for each block and each edge.
+// Why: Asked for are a block, the limits, edges between blocks, and bounds in order and below 2^44;
+// overlaps and repeated edges do not matter.
 pub fn net_of(
     alloc: Global,
     fun: &Fun<'_>,

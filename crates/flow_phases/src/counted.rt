@@ -34,6 +34,8 @@ pub fn solve_counted(alloc: Global, net: &Net, augmentations: &mut u64) -> Resul
 }
 
 /// Solves a network without units, if few augmentations are enough. They are for most functions.
+// Why: 16 augmentations for each block and edge, as real repairs are local: those of lua took 3,444
+// in all, and no function of a program that was tried spends them.
 fn solve_plainly(
     alloc: Global,
     net: &Net,

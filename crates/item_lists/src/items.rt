@@ -11,6 +11,8 @@ use std::marker::Model;
 /// and hashed.
 ///
 /// It is made from a `Vec` and lends its items; neither takes memory.
+// Why: A list in a field of a public type has to be read alone, and compared and hashed as its
+// items are, which a `Vec` of the kit is not.
 #[derive(Debug, Drop)]
 pub struct Items<T> {
     list: Vec<T>,

@@ -14,6 +14,7 @@ pub struct Frame {
 }
 
 /// A place in a program: a function, the calls inlined into it, and a line of the innermost.
+// Why: Names are numbered one to one, so keys hold numbers and compare them.
 #[derive(Debug, PartialEq, Eq, Hash, Drop)]
 pub struct Key {
     /// The function that was compiled.

@@ -59,6 +59,8 @@ fn push_counted(spans: &mut Vec<Span>, fun: &Fun<'_>, flow: &Flow) -> Result<(),
 
 /// Disjoint spans, which have at each address the largest owner that one of the given spans has
 /// there.
+// Why: Blocks are laid over one another, the largest count first: to search each block's segments
+// is quadratic where functions share places.
 pub(crate) fn largest_first(alloc: Global, mut spans: Vec<Span>) -> Result<Vec<Span>, NoMemory>
     ensures disjoint { IfOk result (λ made. AreDisjoint made.items) }
     ensures largest { IfOk result (λ made. (address : ℕ) →

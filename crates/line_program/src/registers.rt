@@ -114,6 +114,7 @@ impl Registers {
     }
 
     /// Moves the address as special opcode 255 does.
+    // Why: There is no table of advances: division is fast enough.
     fn const_add_pc(&mut self, header: &LineHeader<'_>)
         ensures { self.new ≡ model.instructions_on header.now
             (model.special_instructions header.now (255 - header.now.opcode_base)) self.old }

@@ -1,6 +1,8 @@
 /// A segment of a program as its header says that it is loaded.
 ///
 /// Source: System V gABI, "Program Header", Elf64_Phdr.
+// Why: It stands here and not with the ELF reader, since readers of branch texts should not stand
+// on ELF.
 #[derive(Clone, Copy, Debug, PartialEq, Eq)]
 pub struct LoadSegment {
     /// Where it begins in the file, in bytes from the file's start (`p_offset`).

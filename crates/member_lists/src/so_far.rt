@@ -10,6 +10,8 @@ use std::marker::Model;
 
 /// The functions so far, each with the calls inlined into it, the number of pieces of the entries,
 /// and the frames of the entries down to the last one of the unit, each with its entry's depth.
+// Why: Frames that are as deep as the next one are dropped, and so the lists agree with the
+// definition on any depths.
 #[derive(Debug, Drop)]
 pub struct SoFar {
     functions: FunctionMembers,

@@ -16,6 +16,7 @@ abbrev pub cold_lines_among : List ℕ → Program → Profile → List Line
 cold_lines_among addresses program p = cold_lines_of (filter_map (way_at program) addresses) p
 
 -- The same for all addresses of a program.
+-- Why: Each place of some address of the binary is a key: removed code has no line to be cold on.
 unfoldable pub cold_lines : Program → Profile → List Line
 cold_lines program p = cold_lines_among all_addresses program p
 

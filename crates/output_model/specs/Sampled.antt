@@ -96,6 +96,7 @@ profile_among addresses program sampled = record {
 }
 
 -- All addresses.
+-- Why: A count is the largest over these. No one computes it so: segments and a sweep give it.
 unfoldable pub all_addresses : List ℕ
 all_addresses = range_with_len 0 (2 ^ 64)
 

@@ -30,6 +30,8 @@ pub record AreAugmentationsOf {K : Type 0} (key : ℕ → Option K) (count : K �
       (network_of fun.blocks fun.edges weights (weighed_edges edges fun.blocks fun.edges weights)) augmentations
 
 -- The augmentations of some functions, together.
+-- Why: The number of `--scaled` is bound by a relation, since which augmentations are made is free, as which least
+-- counts are. A block text has at most as many functions as bytes, so the number stays below 2^63.
 abbrev pub AreAllAugmentations : {K : Type 0} → (ℕ → Option K) → (K → ℕ) → Option EdgeTold → List Function → ℕ → Type 0
 AreAllAugmentations key count edges [] augmentations = augmentations ≡ 0
 AreAllAugmentations key count edges (fun ∷ funs) augmentations =

@@ -21,6 +21,7 @@ use Rattle.output_model.specs.Sampled.{profile_of}
 
 -- ---- what a summary says
 
+-- Why: The total has no limit: it is no number of a profile's line.
 pub record Summary : Type 0 where
   -- How many functions the block text has, and how many branches the branch text.
   pub functions : ℕ

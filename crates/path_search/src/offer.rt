@@ -6,6 +6,7 @@ use reached_sides::{Frontier, Mark, Marks, Way};
 use refusal::NoMemory;
 
 /// Marks a side as reached over an arc at a distance, where no way as near is known.
+// Why: A step to a node that is marked as near already is not looked at.
 pub(crate) fn offer(
     marks: &mut Marks,
     frontier: &mut Frontier,

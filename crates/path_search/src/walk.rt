@@ -43,6 +43,8 @@ impl Search {
     /// Afterwards the marks tell the distances of the sides that the search has reached, from 0 at
     /// the source on, and, where a side is found, ways back from them to the source. The settled
     /// ones are listed in their order.
+    // Why: A search ends at the first node that lacks counts, which it does not settle: real
+    // repairs are local.
     pub fn find(&mut self, ground: Ground<'_>, source: u32) -> Result<Option<u32>, NoMemory>
         requires ground { IsGround ground.net.now ground.counts.now ground.prices.now }
         requires told { length ground.excess.now ≡ length ground.prices.now }

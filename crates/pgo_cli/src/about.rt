@@ -86,6 +86,8 @@ exit status:
 const VERSION: &[u8] = b"pgo 0.1.0\n";
 
 /// The answer to words that ask for one, where they are the only ones.
+// Why: `--help` and `--version` are `main`'s: the top call knows neither, and any other word beside
+// them is `Usage`.
 pub(crate) fn answer_to(words: &[Vec<u8>]) -> Option<&'static [u8]> {
     match words {
         [word] if word.as_slice() == b"--help".as_slice() => Some(HELP),

@@ -4,6 +4,8 @@
 //! `main` hands its words, the system's files and the standard output to the top call, `run_as`,
 //! prints the status on the error output, and ends with the status's code. `--help` (or `-h`) and
 //! `--version`, as the only word, are answered here.
+// Why: It is a second program, since what `profile`, `build` and `merge` write is fixed. Its lines
+// are for the compiler, and add nothing to sums.
 #![tactic(auto)]
 
 mod about;

@@ -25,6 +25,9 @@ use std::alloc::Global;
 ///
 /// `words` are those behind the program's name. The clauses on content hold where `inputs` tells
 /// its files and `out` its bytes; `answer_of` says what the words come to over those files.
+// Why: No clause says that each file was read to its end. Content says so: where inputs tell their
+// files, a byte more can make a good file bad. Where they do not, a clause on what is left would
+// say nothing.
 pub fn run<I: Inputs, O: Sink>(
     alloc: Global,
     words: &[Vec<u8>],

@@ -5,6 +5,7 @@ ghost use Rattle.pgo_run.specs.Status.{text_of};
 use program_edge::{LINE_ROOM, Status};
 
 /// The line for words that spell no command.
+// Why: The line does not say what was wrong with the words: its text is fixed for scripts.
 const USAGE: &[u8] =
     b"usage: pgo counts, where, profile, build, check, make, merge, summary or lift\n";
 

@@ -16,6 +16,8 @@ use std::alloc::Global;
 ///
 /// # Errors
 /// `NoMemory`.
+// Why: Counts of keys go by key number, 0 behind the end, so that weights need no tree and a merge
+// no list of keys.
 pub fn counts_of(
     alloc: Global,
     segments: &[Seg],

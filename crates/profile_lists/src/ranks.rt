@@ -11,6 +11,7 @@ use refusal::NoMemory;
 use std::alloc::{AllocError, Global};
 
 /// Names in an order: by weight, then by their bytes.
+// Why: Names are compared by the ranks of one sort.
 #[derive(Debug, Drop)]
 pub struct Ranks {
     /// The rank of each name: how many stand before it.

@@ -247,6 +247,9 @@ fn profile_over_all(
 }
 
 /// All places of a binary.
+// Why: `pgo-cold` asks for all functions: to ask for those of the profile it would have to read it
+// twice. Of samples the functions are known before, but each one that has the name of one of them
+// has lines too, so marks would have to go by names.
 fn all_places<'a>(alloc: Global, binary: Binary<'a>) -> Result<Placed<'a>, NoMemory>
     requires { (file : List ℕ) × (base : Bool) × IsBinary file base binary }
     ensures { IfOk result (λ placed. (file : List ℕ) (base : Bool)

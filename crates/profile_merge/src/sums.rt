@@ -38,6 +38,8 @@ impl From<NoMemory> for MergeStop {
 
 /// The sums of the numbers of profile texts, each with its weight: one for each head, each key and
 /// each target of a key, and 0 for those of which nothing was told.
+// Why: Heads and counts stand in lists by number, 8 bytes each; only calls have an index. A file is
+// judged before a sum moves.
 #[derive(Drop)]
 pub struct Sums {
     heads: SumRow,

@@ -12,6 +12,8 @@ use Rattle.profile_model.specs.Reading.{is_passed, line_of}
 use Rattle.profile_model.specs.Standing.{depth_of, can_stand, tells_again}
 
 -- The most spaces that a line may begin with.
+-- Why: At most 255 inlined calls make 257 steps and 256 spaces, so no key is too deep for its line, and the law on
+-- `merge` needs no premise on depth.
 abbrev pub max_depth : ℕ
 max_depth = 256
 

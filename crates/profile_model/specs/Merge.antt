@@ -48,6 +48,9 @@ sum_items file weight before numbers =
     (record { file = file; at = number.line; kind = CountTooLarge })) numbers
 
 -- The first bad place of a text that is summed, its size aside: first the lines by themselves, then their numbers.
+-- Why: A number that stands still would make a merge depend on its order, so a sum that does not fit is refused. It is
+-- judged behind all other causes of its file and in front of the next file: a text that is bad by itself is bad in
+-- every merge, at the same place.
 abbrev pub first_bad_of_summed : ℕ → ℕ → Profile → List ℕ → Option Place
 first_bad_of_summed file weight before text =
     first_bad (items_from file [] (kept_lines_of text) ++ sum_items file weight before (numbers_of text))

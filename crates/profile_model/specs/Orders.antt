@@ -26,6 +26,7 @@ step_cmp total =
     (then_cmp (on (λ s. s.disc) nat_cmp) (on (λ s. s.name) name_cmp))))
 
 -- Ways go by their first step that differs. A way comes before those that begin with it.
+-- Why: Lines are ordered by their ways, the steps that lead to them, so that one order gives the whole text.
 abbrev pub way_cmp : (List ℕ → ℕ) → Way → Way → Ordering
 way_cmp total = slice_cmp (step_cmp total)
 

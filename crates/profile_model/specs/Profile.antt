@@ -24,10 +24,13 @@ abbrev pub head_of : Profile → List ℕ → ℕ
 head_of p name = sum_by (λ h. h.1) (filter (λ h. same_name name h.0) p.heads)
 
 -- A total stands still at the end of 64 bits.
+-- Why: A total refuses nothing, and the totals of a text are not read.
 abbrev pub capped : ℕ → ℕ
 capped n = min n (2 ^ 64 - 1)
 
 -- The total of a function or a call is the sum of the counts of all keys whose ways lead through it.
+-- Why: A total is the counts of all keys whose ways lead through a line, so that functions can be ordered by it, as it
+-- is printed, without a tree. That it is the sum of what stands below is a law.
 abbrev pub total_of : Profile → Way → ℕ
 total_of p way = capped (sum_by (λ c. c.1) (filter (λ c. leads_to way c.0) p.counts))
 
@@ -52,6 +55,8 @@ entered p = map (λ h. to_function h.0 ∷ []) (filter (λ h. nat_lt 0 h.1) p.he
 
 -- The ways that are written, in order: those of recorded keys and of functions that were entered, and of all calls and
 -- functions that these lead through.
+-- Why: Lines of count 0 are left out: a sum of sums cannot tell who looked. `pgo-cold` adds a binary's behind the last
+-- merge.
 abbrev pub written : Profile → List Way
 written p = ordered (way_cmp (total_of_function p)) (flat_map beginnings (recorded p ++ entered p))
 

@@ -101,6 +101,7 @@ unfoldable pub is_passed : List ℕ → Bool
 is_passed line = is_blank_line line || starts_with nat_eq (behind_spaces line) (codes "#")
 
 -- What a line says, if it has the form of one. Its depth is the number of its first spaces.
+-- Why: A text is read as LLVM writes it, literally: what is written otherwise is by no tool that is known.
 unfoldable pub line_of : List ℕ → Option Line
 line_of line =
     if spaces_of line == 0 then function_of (parts_at colon line)

@@ -65,6 +65,8 @@ abbrev pub has_twice : List (List ℕ) → Bool
 has_twice names = again_among [] names
 
 -- A line tells of what was told before, where its way is that of a line before, or a target stands twice on it.
+-- Why: Of what stands twice llvm-profdata adds up some and silently takes the last of others. A text that was joined by
+-- `cat` should be merged.
 unfoldable pub tells_again : List Line → Line → Bool
 tells_again before line =
     list_any (same_way (way_of before line)) (ways_of before) || has_twice (map (λ target. target.0) (targets_on line))

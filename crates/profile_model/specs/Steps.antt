@@ -16,5 +16,6 @@ abbrev pub hits_on : List Step → ℕ → ℕ
 hits_on steps address = (last_of ground (filter (λ step. nat_le step.at address) steps)).hits
 
 -- The hits of an address. There is none above 2^64 - 1.
+-- Why: A model's value may not be a function, so clauses see of `Hits` a list of steps, which this reads.
 abbrev pub hits_by : List Step → ℕ → ℕ
 hits_by steps address = if nat_lt address (2 ^ 64) then hits_on steps address else 0

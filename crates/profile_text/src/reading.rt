@@ -16,6 +16,9 @@ use text_scan::{Line, Lines};
 
 /// So many names or keys before a text are taken for want of memory: 32 bits number those of the
 /// text as well.
+// Why: So 32 bits number what binary and texts name together. More is want of memory; no binary
+// within 2^30 bytes is known to have it. Room for another text is this, and not the limit of the
+// command.
 const MOST_BEFORE: u32 = 1 << 31;
 
 /// The numbers of a profile text, which is the command's file `file`, in the order of the text.

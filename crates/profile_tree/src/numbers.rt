@@ -24,6 +24,8 @@ use std::marker::Model;
 ///
 /// Several calls of one function from one key add up, to less than 2^64, and so do several heads of
 /// one function.
+// Why: A value keeps this, so that no caller of `tree_of` says it again. Calls and heads may stand
+// several times, as branches give them, and are added up where lines are made.
 #[derive(Debug, Drop)]
 pub struct Numbers {
     counts: Vec<u64>,

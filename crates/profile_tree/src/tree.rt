@@ -7,6 +7,8 @@ use item_lists::Items;
 use key_types::KeyId;
 
 /// A profile: its lines in the order in which they are written, and the count of each key.
+// Why: It is one flat list of lines in written order, with depths. Nodes that hold nodes would
+// recur, and a chain of 255 calls would be as deep on the stack.
 #[derive(Debug, Drop)]
 pub struct Tree {
     pub lines: Items<Line>,

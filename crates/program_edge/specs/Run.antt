@@ -14,6 +14,8 @@ IsCutShort NoMemory = ⊤
 IsCutShort _ = ⊥
 
 -- The status comes exactly where the cause holds, as far as the call was not cut short.
+-- Why: The second direction follows from the first ones of all statuses, but "exactly where" is what a reader looks
+-- for.
 abbrev pub ComesExactly : Status → Status → Type 0 → Type 0
 ComesExactly result status cause = (result ≡ status → cause) × (cause → (result ≡ status) ⊎ IsCutShort result)
 

@@ -46,6 +46,8 @@ impl From<Halt> for Status {
 ///
 /// # Errors
 /// `Refused` at the bad place in the k-th file, and `NoMemory`.
+// Why: A bad place is told as one of the file that was judged, whatever number the judge gave it.
+// So `Refused` names its file by what was opened, without a law over all items of a binary.
 pub fn in_file<T>(k: u8, judged: Result<T, Stop>) -> Result<T, Halt>
     ensures { result ≡ judged_in k judged }
 {

@@ -43,6 +43,9 @@ pub fn open_file<I: Inputs>(inputs: &mut I, k: u8, name: &[u8]) -> Result<(), Ha
 ///
 /// # Errors
 /// `NoSuchFile`, `Refused` with `FileTooLarge` at the limit, `ReadFault` and `NoMemory`.
+// Why: A walk over files is a relation of proofs, not a value of the code: that would have to know
+// its command and what was read before, which no field of it holds. This says what taking one file
+// comes to, and the lemmas of `WalkLemmas` lead from there to the command's exits.
 pub fn read_file<I: Inputs>(
     alloc: Global,
     inputs: &mut I,

@@ -42,6 +42,8 @@ pub trait Program {
 /// `words` are those behind the program's name. The clauses on content hold where `inputs` tells
 /// its files and `out` its bytes; `answer_of_words` says what the command comes to over those
 /// files.
+// Why: All output is held before any of it is written, so that want of memory at the last of ten
+// thousand functions leaves no half output. It costs the output's size in memory.
 pub fn run_as<P: Program, I: Inputs, O: Sink>(
     alloc: Global,
     words: &[Vec<u8>],

@@ -31,6 +31,8 @@ impl<T: Drop> From<AllocFailed<T>> for WordsStop {
 ///
 /// # Errors
 /// `TooLong` for a word with more bytes than the system says that it can have, and `NoMemory`.
+// Why: A word longer than the system hands over (128 KiB) is `Usage`: it cannot be had, and names
+// no file.
 pub(crate) fn read_words(env: &impl Env, alloc: Global) -> Result<Vec<Vec<u8>>, WordsStop> {
     let mut room = vec![in alloc; 0; MAX_WORD_BYTES]?;
     let mut words = Vec::new(alloc);

@@ -10,6 +10,8 @@ use std::marker::Model;
 /// A way up the addresses, on which parts of the program are asked one behind the other.
 ///
 /// All answers together take as long as there are parts and steps.
+// Why: A walk may be asked from the last step passed, so that ascending segments meet the
+// condition.
 #[derive(Debug, Drop)]
 pub struct Walk<'h> {
     steps: &'h [Step],

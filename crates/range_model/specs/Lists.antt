@@ -47,6 +47,8 @@ list_behind base section (Ok from) = list_in false section (option_map_or (λ b.
 list_behind base section (Err kind) = Err kind
 
 -- The list that a value of the attribute for ranges leads to.
+-- Why: A range list by index in version 4 leads into `.debug_rnglists` too. A value of another class is `BadClass` at
+-- the value, so nothing is asked of it.
 abbrev pub list_of : ℕ → RangeSections → Bases → Value → Result Start Kind
 list_of version sections bases (offset from) = list_by_version version sections from
 list_of version sections bases (const from) = list_by_version version sections from

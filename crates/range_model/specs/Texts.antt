@@ -27,6 +27,7 @@ whole_field (Ok (n, rest)) = Ok n
 whole_field (Err fault) = Err PastSection
 
 -- The number at an index of a table of a section, which begins at the base. All places are whole numbers.
+-- Why: A text or address by index is judged where the index stands before where it leads.
 abbrev pub slot : Option ℕ → Option (List ℕ) → ℕ → ℕ → Result ℕ Kind
 slot None section size index = Err NoBase
 slot (Some base) None size index = Err NoSection

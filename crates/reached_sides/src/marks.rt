@@ -68,6 +68,8 @@ impl Stamped {
 }
 
 /// The marks of sides, of which each has one or none.
+// Why: Marks carry their round in 24 bytes, so a new search costs nothing for nodes that it does
+// not touch.
 #[derive(Debug, Drop)]
 pub struct Marks {
     sides: Vec<Stamped>,

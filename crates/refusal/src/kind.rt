@@ -4,6 +4,9 @@ ghost use Rattle.refusal.specs.Kind.{word_of};
 /// Why an input is refused: one name for each cause, the same in the program's messages.
 ///
 /// docs/FORMATS.md says of each file that is read which of them it can have, and where each stands.
+// Why: All kinds stand here from the start, since a new one has all crates proved again, and since
+// callers match on them: bad lines have four. A kind has no number, and the order of variants means
+// nothing.
 #[derive(Clone, Copy, Debug, PartialEq, Eq)]
 pub enum Kind {
     // The file and its headers.

@@ -4,6 +4,8 @@
 //! An input is judged item by item, in a fixed order. `Place` is where the first bad item stands,
 //! `Kind` why it is bad, and `refuse_if` judges one item. `Stop` and `NoMemory` are the answers of
 //! a reading that ended early.
+// Why: Every reader cites places and kinds, and none of these has to do with opening files. So this
+// crate stands below all of them, and `io_edge` hands on none of it.
 #![tactic(auto)]
 
 mod kind;

@@ -16,6 +16,7 @@ IsSmallIfTold None = ⊤
 IsSmallIfTold (Some weight) = IsSmall weight
 
 -- Each number in a line is within the bits in which it is read.
+-- Why: Without it `build` might write texts that `check` refuses. Prices of any size fit.
 abbrev pub FitsBits : Line → Type 0
 FitsBits (begins_flow name) = ⊤
 FitsBits (begins_cut name root) = ⊤

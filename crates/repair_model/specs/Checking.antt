@@ -77,11 +77,14 @@ each_test passes _ _ = []
 
 -- The test of a cut's last line: the sums are those of the set, all arcs that leave it are bounded, and more has to
 -- flow in than can flow out.
+-- Why: A cut that was read needs no weights of edges: its sums go by bounds, and by whether a block was sampled.
 abbrev pub is_cut_of : Option ℕ → ℕ → ℕ → ℕ → Bool
 is_cut_of None least first second = false
 is_cut_of (Some most) least first second = first == least && (second == most && nat_lt second first)
 
 -- The tests of the lines behind the first, in their order. The line of a block in a cut says nothing that could fail.
+-- Why: Prices count by their differences, so the outside has the price 0 in a text. Those differences are whole
+-- numbers, past 64 bits too.
 abbrev pub tests_of : Network → Solution → ℕ → ℕ → List Bool
 tests_of net (flow counts ins outs) first second =
     let price = at_side (pos 0) ins outs in
@@ -113,6 +116,7 @@ failed_in fun line repair =
     first_failing (line + 1) (tests_of (network_by fun repair) repair.solution repair.first repair.second)
 
 -- The first line of these repairs of functions that fails its test.
+-- Why: Repairs are tested behind both texts: a bad line further down is told before a line that fails.
 abbrev pub failed_line : List Function → List (ℕ × Repair) → Option ℕ
 failed_line (fun ∷ funs) ((line, repair) ∷ repairs) = option_or (failed_in fun line repair) (failed_line funs repairs)
 failed_line _ _ = None

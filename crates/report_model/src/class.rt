@@ -1,6 +1,8 @@
 use key_types::NameId;
 
 /// What a branch is to a profile.
+// Why: To a report all ways are one, and all functions. Code and report share the type, so it has
+// the number of a name; the number 0 stands for each name there.
 #[derive(Clone, Copy, Debug, PartialEq, Eq)]
 pub enum Class {
     /// It enters the function of this name.

@@ -16,5 +16,6 @@ pub record AsksAtMost (upper : Option ℕ) (n : ℕ) : Type 0 where
   pub sound : IsSoundUpper n upper → IsAtMost upper n
 
 -- Each form asks the one thing.
+-- Why: Upper bounds are asked in the form that the code has; all of them mean `IsAtMost`.
 abbrev pub UpperBoundsAgree : Type 0
 UpperBoundsAgree = (upper : Option ℕ) (n : ℕ) → AsksAtMost upper n

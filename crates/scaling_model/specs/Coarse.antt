@@ -14,6 +14,9 @@ abbrev pub begun_units : ℕ → ℕ → ℕ
 begun_units shift n = div_ceil n (2 ^ shift)
 
 -- An arc in such units: its lower bound rounded down, its upper bound and its weight rounded up.
+-- Why: Augmentations are bounded by scaling the network, not the steps: a coarse network is again one of a function
+-- with the same arcs, and a cut of it is a cut. So no dear arcs are added, and nothing has to be read behind the last
+-- phase.
 abbrev pub coarse_arc : ℕ → Arc → Arc
 coarse_arc shift arc = record arc {
   lower = whole_units shift arc.lower;

@@ -8,6 +8,8 @@
 //! sizes that compiled functions have. It prints how many times each was solved and what the counts
 //! cost. With `scaled` as the last word those whose counts are small enough are solved within a
 //! stated number of augmentations, and it prints how many there were, too.
+// Why: The solver is timed on functions of the sizes of a compiled program, and on evenly drawn
+// sizes as well.
 #![tactic(auto)]
 
 mod shapes;

@@ -10,6 +10,8 @@ use std::alloc::Global;
 use std::marker::Model;
 
 /// The stretches of functions, ascending. Each has a number, from 0 on, and a function.
+// Why: It is a list that carries a proof: `Places` asks its law of every value, and an invariant is
+// not seen there.
 #[derive(Debug, Drop)]
 pub struct Stretches {
     spans: Vec<Span>,

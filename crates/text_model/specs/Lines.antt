@@ -3,6 +3,8 @@ use Rattle.std.specs.Prelude.{ℕ, ◌==◌, Bool, List, [], ◌∷◌, length, 
 use Rattle.std.specs.List.{slice_split}
 
 -- The byte that ends a line.
+-- Why: A CR is a byte of its field, and a text with CRLF ends is refused, not repaired: a build farm should learn of
+-- such a text rather than get a profile of half of it.
 abbrev pub is_line_feed : ℕ → Bool
 is_line_feed b = b == 10
 

@@ -41,6 +41,7 @@ abbrev pub is_wide : model.Units → ℕ → Bool
 is_wide units number = option_map_or (λ unit. unit.wide) (slice_get units.units number) false
 
 -- The place in a section that the value of a base means. Units with a base of another class are refused.
+-- Why: `DW_AT_stmt_list` of class constant is an offset, as the bases are.
 abbrev pub section_place : Value → Option ℕ
 section_place (offset n) = Some n
 section_place (const n) = Some n

@@ -68,6 +68,8 @@ function_with source entry tree (piece ∷ more) = do
   origin ← origin source.sections.texts source.info entry
   Ok (with_function (function_told entry (piece ∷ more) origin) tree)
 
+-- Why: A function inside another one is a function of its own, behind all members of the outer one: functions stay in
+-- the order of `.debug_info`.
 unfoldable pub next_function : Source → InUnit → Entry → Tree → Result Tree Place
 next_function source of entry tree = do
   pieces ← pieces source.file of tree.pieces entry
@@ -85,6 +87,7 @@ call_with source number calls entry tree (piece ∷ more) = do
   })
 
 -- The next inlined subroutine, which has a way up, behind so many functions in the units before.
+-- Why: Inlined calls below one without live code are judged and count toward the limit, but are no members.
 unfoldable pub next_call : Source → InUnit → ℕ → List Standing → Entry → Tree → Result Tree Place
 next_call source of before way entry tree = do
   not_too_deep entry.at (length (calls_on way) + 1)

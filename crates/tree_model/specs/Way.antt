@@ -27,6 +27,8 @@ abbrev pub start_of_unit : Units → ℕ → ℕ
 start_of_unit units number = option_map_or (λ unit. unit.at) (slice_get units.units number) 0
 
 -- The offset in the file that a value of an entry in a unit leads to. A signature leads to none.
+-- Why: References are whole numbers, as offsets are: no sum wraps, and what passes the section's end does so by its
+-- true size.
 abbrev pub target_of : Info → ℕ → Value → Option ℕ
 target_of info unit (ref offset) = Some (start_of_unit info.units unit + offset)
 target_of info unit (ref_info offset) = Some (info.start + offset)
@@ -52,6 +54,8 @@ led_to units place None = Ok None
 led_to units place (Some at) = met place (is_passed_over units.skipped at) (entry_beginning_at units.entries at)
 
 -- The entry behind one on a way, where the way does not end.
+-- Why: A signature, or a unit that was passed over, ends a way, also beside a specification. An entry on the way with a
+-- tag that is not asked for has no attributes.
 abbrev pub next_by : Info → ℕ → Option Found → Result (Option Entry) Place
 next_by info unit None = Ok None
 next_by info unit (Some found) = led_to info.units found.at (target_of info unit found.value)

@@ -41,6 +41,8 @@ use_of name =
     else unused))))))
 
 -- A value is of a class that an attribute can have, by what it is wanted for.
+-- Why: A wanted attribute of a bad class is `BadClass` wherever it stands, though of two with one name the first
+-- counts.
 abbrev pub accepts : Use → Value → Bool
 accepts as_text (text run) = true
 accepts as_text (str_at n) = true

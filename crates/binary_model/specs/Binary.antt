@@ -24,6 +24,7 @@ abbrev pub units_by : Option Cursor → Option Cursor → Read Units
 units_by None abbrevs = Ok (no_units, record { at = 0; left = [] })
 units_by (Some info) abbrevs = units abbrevs info
 
+-- The units of a binary, or its first bad place among them.
 unfoldable pub units_read : List ℕ → Read Units
 units_read file = units_by (section_at file (codes ".debug_info")) (section_at file (codes ".debug_abbrev"))
 
@@ -32,6 +33,7 @@ abbrev pub units_or_none : Read Units → Units
 units_or_none (Ok (told, cur)) = told
 units_or_none (Err place) = no_units
 
+-- A list that was read, where it is good.
 abbrev pub list_or_none : {X : Type 0} → Result (List X) Place → List X
 list_or_none (Ok list) = list
 list_or_none (Err place) = []
@@ -75,9 +77,10 @@ binary_items file = size_item 1 max_binary_bytes file ∷ items_behind_size file
 unfoldable pub first_bad_of_binary : List ℕ → Option Place
 first_bad_of_binary file = first_bad (binary_items file)
 
--- The members of a good binary, and the live sequences of each unit that has a line program.
+-- The members of a good binary.
 abbrev pub members_in : List ℕ → List Told
 members_in file = list_or_none (members_read file)
 
+-- The live sequences of each unit of a good binary that has a line program.
 abbrev pub tables_in : List ℕ → List (Option (List Sequence))
 tables_in file = map (option_map (live_sequences file)) (list_or_none (rows_read file))

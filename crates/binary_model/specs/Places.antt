@@ -54,7 +54,7 @@ numbered_from n (told ∷ rest) =
     }
     ∷ numbered_from (n + 1) rest
 
--- Their names, at these numbers.
+-- The names of members, at the numbers of their places.
 abbrev pub names_of : List Told → List (List ℕ)
 names_of members = map (λ told. unwrap_or told.name []) members
 

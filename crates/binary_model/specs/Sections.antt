@@ -24,11 +24,11 @@ unfoldable pub section_at : List ℕ → List ℕ → Option Cursor
 section_at file name =
     option_map (λ header. record { at = start file header; left = bytes_of file header }) (section file name)
 
--- The same, as range lists are read.
+-- A section with its place, as range lists are read.
 abbrev pub piece_of : Option Cursor → Option Piece
 piece_of place = option_map (λ cur. record { at = cur.at; bytes = cur.left }) place
 
--- Its bytes alone, as texts and addresses are read.
+-- The bytes of a section alone, as texts and addresses are read.
 abbrev pub bytes_in : Option Cursor → Option (List ℕ)
 bytes_in place = option_map (λ cur. cur.left) place
 

@@ -20,11 +20,12 @@ abbrev pub closed_by : Option Function → Line → List Function
 closed_by (Some fun) ends = fun ∷ []
 closed_by _ _ = []
 
--- The same for a line in bytes; a line that says nothing readable changes nothing.
+-- The function that is open behind a line as it was read; one that says nothing readable changes nothing.
 abbrev pub open_behind_line : Option Function → Option Line → Option Function
 open_behind_line opened None = opened
 open_behind_line opened (Some line) = open_behind opened line
 
+-- The function that a line as it was read closes.
 abbrev pub closed_by_line : Option Function → Option Line → List Function
 closed_by_line opened None = []
 closed_by_line opened (Some line) = closed_by opened line

@@ -22,7 +22,7 @@ uleb_digits (suc more) n = if nat_lt n 128 then n ∷ [] else (n % 128 + 128) �
 abbrev pub uleb : ℕ → List ℕ
 uleb n = uleb_digits 10 n
 
--- The same of a number below 64, with a sign or without: one byte.
+-- LEB128 of a number below 64, with a sign or without: one byte.
 abbrev pub small_leb : ℕ → List ℕ
 small_leb n = n ∷ []
 

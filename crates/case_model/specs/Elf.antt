@@ -15,7 +15,7 @@ names = [] ∷ codes ".debug_abbrev" ∷ codes ".debug_info" ∷ codes ".debug_l
 abbrev pub shstrtab : List ℕ
 shstrtab = flat_map with_nul names
 
--- Where the name of a section begins there.
+-- Where the name of a section begins in `.shstrtab`.
 abbrev pub name_at : ℕ → ℕ
 name_at i = length (flat_map with_nul (take i names))
 

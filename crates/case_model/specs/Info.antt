@@ -16,7 +16,7 @@ unit_entry = uleb unit_code ++ u32_bytes 0
 abbrev pub abstract_entry : List ℕ
 abstract_entry = uleb abstract_code ++ with_nul (codes "g") ++ 5 ∷ []
 
--- Where that entry stands, counted from the start of the unit.
+-- Where the entry of the function that is inlined stands, counted from the start of the unit.
 abbrev pub abstract_at : ℕ
 abstract_at = 16
 

@@ -20,8 +20,8 @@ opcode_base = 13
 abbrev pub standard_opcode_lengths : List ℕ
 standard_opcode_lengths = 0 ∷ 1 ∷ 1 ∷ 1 ∷ 1 ∷ 0 ∷ 0 ∷ 0 ∷ 1 ∷ 0 ∷ 0 ∷ 1 ∷ []
 
--- Behind the header's length: instructions of 1 byte, one operation each, each row a statement; the numbers above; no
--- folders and no files.
+-- Behind the header's length: instructions of 1 byte, one operation each, each row a statement; then what special
+-- opcodes go by; no folders and no files.
 unfoldable pub header_fields : List ℕ
 header_fields =
     1 ∷ 1 ∷ 1 ∷ cast_unsigned w8 line_base ∷ line_range ∷ opcode_base ∷ [] ++ standard_opcode_lengths ++ 0 ∷ 0 ∷ []

@@ -24,7 +24,7 @@ numbered members = enumerate_from 0 members
 abbrev pub function_of : List Member → ℕ → Option (ℕ × Member)
 function_of members address = find (λ member. holds_at 0 address member.1) (numbered members)
 
--- Its number.
+-- The number of the function of an address.
 abbrev pub function_at : List Member → ℕ → Option ℕ
 function_at members address = option_map (λ function. function.0) (function_of members address)
 

@@ -50,6 +50,7 @@ abbrev pub unless_failed : Option ℕ → Answer → Answer
 unless_failed None next = next
 unless_failed (Some line) next = fails_check line
 
+-- What a command comes to where all its files are good and have these bytes.
 abbrev pub answer_of_good : Command → List (List ℕ) → Answer
 answer_of_good command contents = unless_failed (failed_line command contents) (writes command contents)
 
@@ -57,7 +58,7 @@ answer_of_good command contents = unless_failed (failed_line command contents) (
 abbrev pub answer_of_command : Store → Command → Answer
 answer_of_command files command = answer_behind files (answer_of_good command) [] (files_of command)
 
--- The same where the words may spell no command.
+-- The answer where the words may spell no command.
 abbrev pub answer_of_words : Store → Option Command → Answer
 answer_of_words files None = usage
 answer_of_words files (Some command) = answer_of_command files command

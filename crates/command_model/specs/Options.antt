@@ -4,15 +4,16 @@ use Rattle.std.specs.List.{filter_map, list_all, starts_with}
 use Rattle.std.specs.Str.{bytes_eq}
 
 -- A word that begins with `--`, in front of the other words of a command, is an option.
--- Why: Each word in front that begins with `--` is one, for every command, so `counts --x` is `Usage` and `merge 1 --x`
--- reads a file.
+-- Why: It is one for every command, so `counts --x` is `Usage` and `merge 1 --x` reads a file.
 abbrev pub is_option : List ℕ → Bool
 is_option word = starts_with nat_eq word (codes "--")
 
+-- How many words in front begin with `--`.
 abbrev pub option_count : List (List ℕ) → ℕ
 option_count [] = 0
 option_count (word ∷ words) = if is_option word then 1 + option_count words else 0
 
+-- The options: the words in front that begin with `--`.
 abbrev pub options_in : List (List ℕ) → List (List ℕ)
 options_in words = take (option_count words) words
 
@@ -54,15 +55,19 @@ build_has = record { map = true; base = true; edges = true; scaled = true }
 unfoldable pub map_name : List ℕ → Option (List ℕ)
 map_name word = if starts_with nat_eq word (codes "--map=") && nat_lt 6 (length word) then Some (drop 6 word) else None
 
+-- Whether a word is the option `--map=NAME`.
 abbrev pub is_map : List ℕ → Bool
 is_map word = is_some (map_name word)
 
+-- Whether a word is the option `--base`.
 abbrev pub is_base : List ℕ → Bool
 is_base word = bytes_eq word (codes "--base")
 
+-- Whether a word is the option `--edges`.
 abbrev pub is_edges : List ℕ → Bool
 is_edges word = bytes_eq word (codes "--edges")
 
+-- Whether a word is the option `--scaled`.
 abbrev pub is_scaled : List ℕ → Bool
 is_scaled word = bytes_eq word (codes "--scaled")
 

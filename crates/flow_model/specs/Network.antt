@@ -8,7 +8,6 @@ use Rattle.flow_model.specs.declared.arc.Arc.{Arc}
 use Rattle.flow_model.specs.Circulation.{root, inflow, outflow}
 
 -- The side at which a block is entered: the sides follow the root, two for each block.
--- Why: Nodes are numbers: the root is 0, block b is entered at 1 + 2 b and left at 2 + 2 b.
 abbrev pub in_side : ℕ → ℕ
 in_side block = 1 + 2 * block
 

@@ -77,7 +77,7 @@ behind_sizes cur = do
   selector ← field 1 size.1
   Ok selector.1
 
--- They stand in version 5 alone.
+-- The sizes of an address and of a segment selector, which stand in version 5 alone.
 unfoldable pub sizes_at : ℕ → Cursor → Judged Cursor
 sizes_at version cur = if version == 5 then behind_sizes cur else Ok cur
 
@@ -95,7 +95,7 @@ behind_most cur = do
   most ← byte_but (λ most. nat_lt 1 most) ManyOperations cur
   Ok most.1
 
--- It stands from version 4 on.
+-- The most operations of an instruction, which stand from version 4 on.
 unfoldable pub operations_at : ℕ → Cursor → Judged Cursor
 operations_at version cur = if nat_lt version 4 then Ok cur else behind_most cur
 

@@ -36,10 +36,11 @@ pub record AreRowsOf (start_of : Cursor) (rows : List Row) : Type 0 where
   pub read : program_at start_of ≡ Ok program
   pub rows_are : AreRows program rows
 
--- The rows that are read of one program, and of all programs of a file.
+-- The most rows that are read of one program.
 abbrev pub max_rows : ℕ
 max_rows = 2 ^ 24
 
+-- The most rows that are read of all programs of a file.
 abbrev pub max_rows_of_all : ℕ
 max_rows_of_all = 2 ^ 26
 

@@ -54,11 +54,11 @@ line_of (negsuc below) = None
 abbrev pub lines_on : ℤ → Registers → Option Registers
 lines_on lines r = option_map (λ line. record r { line = line }) (line_of (pos r.line +ℤ lines))
 
--- A special opcode, counted from the first one, moves the address by so many instructions,
+-- By how many instructions a special opcode, counted from the first one, moves the address.
 abbrev pub special_instructions : Header → ℕ → ℕ
 special_instructions header adjusted = adjusted / header.line_range
 
--- and the line by so many.
+-- By how many lines a special opcode, counted from the first one, moves the line.
 abbrev pub special_lines : Header → ℕ → ℤ
 special_lines header adjusted = header.line_base +ℤ pos (adjusted % header.line_range)
 

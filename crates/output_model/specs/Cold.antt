@@ -15,7 +15,7 @@ use Rattle.output_model.specs.Sampled.{all_addresses, classes_of, profile_of}
 abbrev pub cold_lines_among : List ℕ → Program → Profile → List Line
 cold_lines_among addresses program p = cold_lines_of (filter_map (way_at program) addresses) p
 
--- The same for all addresses of a program.
+-- The lines of a profile with one for each way of an address of a program, where its function stands there.
 -- Why: Each place of some address of the binary is a key: removed code has no line to be cold on.
 unfoldable pub cold_lines : Program → Profile → List Line
 cold_lines program p = cold_lines_among all_addresses program p
@@ -30,7 +30,7 @@ unfoldable pub sampled_lines : Program → Sampled → List Line
 sampled_lines program sampled =
     standing_lines_of (filter_map (way_at program) all_addresses) (profile_of program sampled)
 
--- Their text, then the report on the samples.
+-- The text of such lines of a program and its samples, then the report on the samples.
 unfoldable pub sampled_text : Program → Sampled → List ℕ
 sampled_text program sampled =
     text_of_lines (sampled_lines program sampled) ++ report_text (classes_of program) sampled

@@ -28,5 +28,6 @@ way_of_place nameless = None
 way_of_place no_line = None
 way_of_place (at_way way) = Some way
 
+-- The way of an address, where its place is one.
 abbrev pub way_at : Program → ℕ → Option Way
 way_at program address = way_of_place (program.place address)

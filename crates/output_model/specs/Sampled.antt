@@ -43,6 +43,7 @@ class_of_branch program (from, to) = class_of_places (program.entered to) (progr
 abbrev pub class_of_range : Program → ℕ × ℕ → RangeClass
 class_of_range program (first, last) = range_class program.function first last
 
+-- The classes that a program gives to branches and ranges.
 abbrev pub classes_of : Program → Classes
 classes_of program = record { of_branch = class_of_branch program; of_range = class_of_range program }
 

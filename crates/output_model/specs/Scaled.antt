@@ -21,7 +21,7 @@ pub record AreAugmentations (net : Network) (count : ℕ) : Type 0 where
   pub few : (digits : ℕ) → StartWithin digits net → count ≤ (digits + 1) * phase_bound net
   pub none : (StartWithin most_digits net → ⊥) → count ≡ 0
 
--- The same of the network of a function, by the weights of its blocks and edges.
+-- The augmentations of one function: within the bound of its network, by the weights of its blocks and edges.
 pub record AreAugmentationsOf {K : Type 0} (key : ℕ → Option K) (count : K → ℕ) (edges : Option EdgeTold)
     (fun : Function) (augmentations : ℕ) : Type 0 where
   pub weights : List Weight

@@ -53,11 +53,12 @@ refuse at kind cur = Err (in_binary at kind)
 abbrev pub refuse_if : Bool → ℕ → Kind → Reader (Unit {0})
 refuse_if cause at kind cur = if cause then Err (in_binary at kind) else Ok (tt, cur)
 
--- The same reader, and whatever it is refused for is told as this at this place.
+-- What was read, and whatever it is refused for is told as this at this place.
 abbrev pub told_as : {X : Type 0} → ℕ → Kind → Read X → Read X
 told_as at kind (Ok x) = Ok x
 told_as at kind (Err other) = Err (in_binary at kind)
 
+-- A reader, and whatever it is refused for is told as this at this place.
 abbrev pub refused_as : {X : Type 0} → ℕ → Kind → Reader X → Reader X
 refused_as at kind reader cur = told_as at kind (reader cur)
 
@@ -69,7 +70,7 @@ elsewhere start reader cur = behind (reader start) (λ x _. Ok (x, cur))
 abbrev pub piece_of : ℕ → Cursor → Cursor
 piece_of size cur = record { at = cur.at; left = take size cur.left }
 
--- The cursor behind them.
+-- The cursor behind so many bytes.
 abbrev pub cursor_behind : ℕ → Cursor → Cursor
 cursor_behind size cur = record { at = cur.at + size; left = drop size cur.left }
 
@@ -88,13 +89,15 @@ abbrev pub placed : {X : Type 0} → Cursor → Reading X → Read X
 placed cur (Ok (x, left)) = Ok (x, record { at = cur.at + (length cur.left - length left); left = left })
 placed cur (Err fault) = Err (in_binary cur.at (kind_of fault))
 
--- An unsigned LEB128 number, a signed one, and a field of so many bytes, the lowest first.
+-- An unsigned LEB128 number.
 unfoldable pub uleb : Reader ℕ
 uleb cur = placed cur (uleb_at cur.left)
 
+-- A signed LEB128 number.
 unfoldable pub sleb : Reader ℤ
 sleb cur = placed cur (sleb_at cur.left)
 
+-- A field of so many bytes, the lowest first.
 unfoldable pub field : ℕ → Reader ℕ
 field size cur = placed cur (field_at size cur.left)
 

@@ -22,6 +22,7 @@ abbrev pub if_left : {S : Type 0} → List ℕ → Read S → Cursor → Read (O
 if_left [] step cur = Ok (None, cur)
 if_left (byte ∷ rest) step cur = behind step (λ state. gives (Some state))
 
+-- A step, which ends the reading where no byte is left.
 abbrev pub step_if_left : {S : Type 0} → (S → Reader S) → S → Reader (Option S)
 step_if_left step state cur = if_left cur.left (step state cur) cur
 

@@ -32,6 +32,7 @@ cause_of before line = first_cause (
     ∷ (tells_again before line, KeyTwice)
     ∷ [])
 
+-- Why a line is refused behind these lines, or none.
 abbrev pub cause_of_line : List Line → Option Line → Option Kind
 cause_of_line before None = Some BadLine
 cause_of_line before (Some line) = cause_of before line

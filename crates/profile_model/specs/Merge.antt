@@ -33,7 +33,7 @@ sum_of (part ∷ parts) = both (weighed part.0 part.1) (sum_of parts)
 abbrev pub merged : List (ℕ × List ℕ) → Profile
 merged texts = sum_of (map (λ text. (text.0, spelled text.1)) texts)
 
--- What is written of it.
+-- What is written of a merge.
 abbrev pub merge_text : List (ℕ × List ℕ) → List ℕ
 merge_text texts = profile_text (merged texts)
 

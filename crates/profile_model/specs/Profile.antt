@@ -29,8 +29,8 @@ abbrev pub capped : ℕ → ℕ
 capped n = min n (2 ^ 64 - 1)
 
 -- The total of a function or a call is the sum of the counts of all keys whose ways lead through it.
--- Why: A total is the counts of all keys whose ways lead through a line, so that functions can be ordered by it, as it
--- is printed, without a tree. That it is the sum of what stands below is a law.
+-- Why: So functions can be ordered by it, as it is printed, without a tree. That it is the sum of what stands below is
+-- a law.
 abbrev pub total_of : Profile → Way → ℕ
 total_of p way = capped (sum_by (λ c. c.1) (filter (λ c. leads_to way c.0) p.counts))
 

@@ -43,7 +43,7 @@ located_by (offset ∷ disc ∷ []) = do
   Some (offset, disc)
 located_by _ = None
 
--- The same with a colon behind it.
+-- OFFSET or OFFSET.DISC, with a colon behind it.
 abbrev pub location_by : List (List ℕ) → Option (ℕ × ℕ)
 location_by (location ∷ [] ∷ []) = located_by (parts_at dot location)
 location_by _ = None

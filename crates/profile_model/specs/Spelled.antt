@@ -27,6 +27,7 @@ numbers_on at way (body_line depth offset disc n targets) =
     ∷ map (λ called. record { line = at; what = target way called.0; times = called.1 }) targets
 numbers_on at way (call_line depth offset disc name total) = []
 
+-- The numbers on a line, where it has the form of one.
 abbrev pub numbers_of_line : ℕ → List Line → Option Line → List Number
 numbers_of_line at before None = []
 numbers_of_line at before (Some line) = numbers_on at (way_of before line) line

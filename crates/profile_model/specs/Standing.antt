@@ -5,11 +5,13 @@ use Rattle.std.specs.List.{list_any}
 use Rattle.profile_model.specs.Profile.{Line, function_line, body_line, call_line}
 use Rattle.profile_model.specs.Ways.{Step, Way, to_function, to_body, to_call, same_name, same_way}
 
+-- The depth of a line.
 abbrev pub depth_of : Line → ℕ
 depth_of (function_line name total head) = 0
 depth_of (body_line depth offset disc count targets) = depth
 depth_of (call_line depth offset disc name total) = depth
 
+-- The step that a line stands for.
 abbrev pub step_of : Line → Step
 step_of (function_line name total head) = to_function name
 step_of (body_line depth offset disc count targets) = to_body offset disc

@@ -18,6 +18,7 @@ abbrev pub is_named : Source → Bool
 is_named (named name) = true
 is_named (made bytes) = false
 
+-- How many of these files are opened.
 abbrev pub opens_of : List Asked → ℕ
 opens_of asked = count_by (λ file. is_named file.source) asked
 
@@ -31,7 +32,8 @@ pub record Reaches (command : Command) (k opens opens_after : ℕ) : Type 0 wher
   pub last : k ≤ length (files_of command)
   pub opened : opens_after ≡ opens_behind opens (opens_of (take k (files_of command)))
 
--- The same of a file that the command names. The program never opens one that it makes.
+-- k is the number of a file that the command names, and the files up to it were opened. The program never opens one
+-- that it makes.
 pub record ReachesNamed (command : Command) (k opens opens_after : ℕ) : Type 0 where
   pub reached : Reaches command k opens opens_after
   pub is_named : IsSomeAnd (slice_get (files_of command) (k - 1)) (λ file. is_named file.source ≡ true)

@@ -11,6 +11,7 @@ abbrev pub IsSmall : Weight → Type 0
 IsSmall Unknown = ⊤
 IsSmall (Known weight) = weight < 2 ^ bound_bits
 
+-- A weight that may be missing, within its bits.
 abbrev pub IsSmallIfTold : Option Weight → Type 0
 IsSmallIfTold None = ⊤
 IsSmallIfTold (Some weight) = IsSmall weight

@@ -48,11 +48,12 @@ abbrev pub numbers : ℕ → ℕ → List ℕ
 numbers from zero = []
 numbers from (suc count) = from ∷ numbers (from + 1) count
 
--- The lines of so many blocks, and those of edges.
+-- The lines of so many blocks.
 abbrev pub lines_of_blocks : ℕ → List Weight → Solution → List Line
 lines_of_blocks count weights solution =
     map (λ number. line_of_block number (slice_index_or weights number Unknown) solution) (numbers 0 count)
 
+-- The lines of edges, with their weights or without.
 abbrev pub lines_of_edges : Bool → List Edge → List Weight → Solution → List Line
 lines_of_edges weighed edges weights solution = map (line_of_edge weighed weights solution) (enumerate_from 0 edges)
 

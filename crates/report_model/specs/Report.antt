@@ -58,7 +58,7 @@ abbrev pub unmapped_for : Classes → Sampled → Reason → List (ℕ × ℕ)
 unmapped_for classes sampled reason =
     filter (λ branch. is_unmapped reason (classes.of_branch branch)) (distinct_pairs sampled.branches)
 
--- Their lines.
+-- The lines of the branches that are unmapped for a reason.
 abbrev pub lines_for : Classes → Sampled → Reason → List ℕ
 lines_for classes sampled reason =
     flat_map (λ branch. unmapped_line reason branch (times_of branch sampled.branches))

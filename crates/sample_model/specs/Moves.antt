@@ -35,6 +35,7 @@ move_of segments loads address = last_load loads address >>= address_in_load seg
 abbrev pub MovedBranch : Type 0
 MovedBranch = Option ℕ × Option ℕ
 
+-- A branch with both its addresses moved.
 abbrev pub moved_branch : List LoadSegment → List Load → ℕ × ℕ → MovedBranch
 moved_branch segments loads branch = (move_of segments loads branch.0, move_of segments loads branch.1)
 

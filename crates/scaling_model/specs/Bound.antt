@@ -15,7 +15,7 @@ most_digits = 36
 abbrev pub StartWithin : ℕ → Network → Type 0
 StartWithin digits net = All (λ arc. starting arc < 2 ^ digits) (arcs_of net)
 
--- The size by which the augmentations of a network are bounded. It has at most twice as many arcs.
+-- The size by which the augmentations of a network are bounded. A network has at most twice as many arcs.
 abbrev pub size_of : Network → ℕ
 size_of net = length net.blocks + length net.edges + 1
 

@@ -69,7 +69,7 @@ at_value at (Err kind) = Err (in_binary at kind)
 abbrev pub address_at : Sections → Bases → Found → Result ℕ Place
 address_at sections bases found = at_value found.at (address_of sections bases found.value)
 
--- The same, and 0 without an attribute.
+-- The address that an attribute means, and 0 without an attribute.
 abbrev pub address_or_0 : Sections → Bases → Option Found → Result ℕ Place
 address_or_0 sections bases None = Ok 0
 address_or_0 sections bases (Some found) = address_at sections bases found

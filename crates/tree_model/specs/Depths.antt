@@ -28,6 +28,7 @@ calls_on way = filter (λ on. is_call on.entry) (before_first (λ on. is_functio
 abbrev pub pieces_of : List ℕ → InUnit → Entry → List (ℕ × ℕ)
 pieces_of file of entry = live_ranges file (result_unwrap_or (spelled_ranges of entry) [])
 
+-- An entry has pieces.
 abbrev pub has_pieces : List ℕ → InUnit → Entry → Bool
 has_pieces file of entry = nat_lt 0 (length (pieces_of file of entry))
 

@@ -49,7 +49,7 @@ with_member number call [] = []
 with_member zero call (function ∷ rest) = (function ++ call ∷ []) ∷ rest
 with_member (suc number) call (function ∷ rest) = function ∷ with_member number call rest
 
--- The same, where the call is of a function.
+-- The functions with a call more, where it is inlined into one of them.
 abbrev pub with_call : {T : Type 0} → Option ℕ → T → List (List T) → List (List T)
 with_call None call functions = functions
 with_call (Some number) call functions = with_member number call functions
@@ -58,6 +58,7 @@ with_call (Some number) call functions = with_member number call functions
 abbrev pub max_calls : ℕ
 max_calls = 255
 
+-- So many inlined calls may stand in one another, and no more.
 abbrev pub not_too_deep : ℕ → ℕ → Result (Unit {0}) Place
 not_too_deep at calls = if nat_lt max_calls calls then Err (in_binary at InlineTooDeep) else Ok tt
 
@@ -68,6 +69,7 @@ function_with source entry tree (piece ∷ more) = do
   origin ← origin source.sections.texts source.info entry
   Ok (with_function (function_told entry (piece ∷ more) origin) tree)
 
+-- The next subprogram: a function, where it has pieces.
 -- Why: A function inside another one is a function of its own, behind all members of the outer one: functions stay in
 -- the order of `.debug_info`.
 unfoldable pub next_function : Source → InUnit → Entry → Tree → Result Tree Place

@@ -60,6 +60,7 @@ abbrev pub next_by : Info → ℕ → Option Found → Result (Option Entry) Pla
 next_by info unit None = Ok None
 next_by info unit (Some found) = led_to info.units found.at (target_of info unit found.value)
 
+-- The entry behind one on a way, by the entry's own reference.
 unfoldable pub next_on_way : Info → Entry → Result (Option Entry) Place
 next_on_way info entry = next_by info entry.unit (reference_of entry)
 

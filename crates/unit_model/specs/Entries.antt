@@ -25,10 +25,11 @@ pub record SoFar : Type 0 where
   pub depth : ℕ
   pub entries : List Entry
 
--- The deepest that an entry can stand, and the most entries of a file.
+-- The deepest that an entry can stand.
 abbrev pub max_depth : ℕ
 max_depth = 1024
 
+-- The most entries of a file.
 abbrev pub max_entries : ℕ
 max_entries = 2 ^ 24
 

@@ -10,13 +10,13 @@ pub record Header : Type 0 where
   pub version : ℕ
   pub abbrevs : Cursor
 
--- The length of a unit, behind the 32-bit one: 0xffffffff says that it follows in 64 bits, for 64-bit DWARF. The other
--- values from 0xfffffff0 on are reserved (DWARF 5, section 7.4).
+-- A length in 64 bits, behind the 32-bit 0xffffffff: that says 64-bit DWARF (DWARF 5, section 7.4).
 abbrev pub long_length : ℕ → Reader (Bool × ℕ)
 long_length at = do
   size ← refused_as at BadUnitLength (field 8)
   gives (true, size)
 
+-- A length in 32 bits. The values from 0xfffffff0 on are reserved (DWARF 5, section 7.4).
 abbrev pub short_length : ℕ → ℕ → Reader (Bool × ℕ)
 short_length at first = do
   refuse_if (nat_le 0xfffffff0 first) at BadUnitLength
@@ -76,6 +76,7 @@ header_5_behind wide section = do
   start ← abbrevs_at wide section
   gives (Some (record { version = 5; abbrevs = start }))
 
+-- DWARF 5: first the type of the unit.
 unfoldable pub header_5 : Bool → Option Cursor → Reader (Option Header)
 header_5 wide section = do
   type ← field 1

@@ -23,6 +23,7 @@ pub record Units : Type 0 where
   pub entries : List Entry
   pub skipped : List (ℕ × ℕ)
 
+-- No unit yet.
 abbrev pub no_units : Units
 no_units = record { units = []; entries = []; skipped = [] }
 

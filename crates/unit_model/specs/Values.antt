@@ -56,5 +56,6 @@ abbrev pub values_from : Bool → ℕ → List Attr → List Found → Reader (L
 values_from wide tag [] found = gives found
 values_from wide tag (attr ∷ attrs) found = next_value wide tag attr found >>= values_from wide tag attrs
 
+-- What is found among the values of an entry's attributes.
 unfoldable pub values : Bool → ℕ → List Attr → Reader (List Found)
 values wide tag attrs = values_from wide tag attrs []

@@ -3,11 +3,13 @@ use Rattle.std.proofs.Common.{◌≡◌, ℕ, ◌<◌, ◌+◌, ◌^◌, Bool, t
 use Rattle.std.specs.Prelude.{◌==◌, is_some, Result, Ok, Err}
 use Rattle.std.proofs.lemmas.List.{append-nil, map-append}
 use Rattle.refusal.specs.declared.kind.Kind.TheVariants.{NoEndLine, BadLine, NoBlocks}
+use Rattle.refusal.specs.declared.place.ItemStop.{ItemStop}
+use Rattle.refusal.specs.declared.place.ItemStop.TheVariants as item_stops
 use Rattle.refusal.specs.declared.place.Place.{Place}
 use Rattle.refusal.specs.declared.kind.Kind.{Kind}
 use Rattle.refusal.specs.declared.place.Stop.{Stop}
 use Rattle.refusal.specs.declared.place.Stop.TheVariants.{Refused, NoMemory}
-use Rattle.refusal.specs.Place.{first_bad, fails_at, JudgesUnlessNoMemory}
+use Rattle.refusal.specs.Place.{first_bad, fails_at, JudgesItem, JudgesUnlessNoMemory}
 use Rattle.text_model.specs.Lines.{lines_of}
 use Rattle.text_model.proofs.LawLemmas.{lines_fewer}
 use Rattle.text_scan.specs.declared.lines.Line.{Line}
@@ -19,11 +21,8 @@ use Rattle.block_model.specs.Function.{Function, named, with_block, with_edge}
 use Rattle.block_model.specs.Judging.{cause_of_line, cause_of_block, cause_of_edge, item, items_from, first_bad_of_text}
 use Rattle.block_model.specs.Line as model
 use Rattle.block_model.specs.Text.{open_behind, closed_by, open_behind_line, closed_by_line, functions_from, functions_of}
-use Rattle.cfg_text.specs.Draft.{JudgesLine}
 use Rattle.cfg_text.specs.Fun.{function_of}
-use Rattle.cfg_text.specs.Reading.{IsLeft, IsNumbered, IsGoodLine, item_of, TakesIn, ReadsFunction, stop_at}
-use Rattle.cfg_text.specs.declared.draft.DraftStop.{DraftStop}
-use Rattle.cfg_text.specs.declared.draft.DraftStop.TheVariants as draft
+use Rattle.cfg_text.specs.Reading.{IsLeft, IsNumbered, IsGoodLine, item_of, TakesIn, ReadsFunction, goes_on_at}
 use Rattle.cfg_text.specs.declared.fun.Fun.{Fun}
 
 -- ---- the definitions, one line at a time
@@ -180,26 +179,26 @@ pub ends_here : (line : Line) (fun : Function) → Some model.ends ≡ model.lin
 unfolding cause_of_line
 ends_here line fun told some = good_said line (Some fun) model.ends told (rw (sym some))
 
-pub block_taken : (file : ℕ) (line : Line) (old new : Function) (number : ℕ) (block : Block) (added : Result (Unit {0}) DraftStop) (r : Result Bool Stop)
-    → Some (model.tells_block number block) ≡ model.line_of line.bytes.now → JudgesLine (cause_of_block old number block) added (new ≡ with_block old block)
-    → r ≡ stop_at file line.number added → TakesIn file line old r new
+pub block_taken : (file : ℕ) (line : Line) (old new : Function) (number : ℕ) (block : Block) (added : Result (Unit {0}) ItemStop) (r : Result Bool Stop)
+    → Some (model.tells_block number block) ≡ model.line_of line.bytes.now → JudgesItem (cause_of_block old number block) added (new ≡ with_block old block)
+    → r ≡ goes_on_at file line.number added → TakesIn file line old r new
 unfolding cause_of_line
 block_taken file line old new number block (Ok done) r told judged is =
     rw is (subst (λ (f : Function). IsGoodLine line (Some old) (Some f) []) (sym judged.1) (good_said line (Some old) (model.tells_block number block) told judged.0))
-block_taken file line old new number block (Err (draft.Refused kind)) r told judged is =
+block_taken file line old new number block (Err (item_stops.Refused kind)) r told judged is =
     rw is (bad_said file line (Some old) (Some (model.tells_block number block)) kind told judged)
-block_taken file line old new number block (Err draft.NoMemory) r told judged is = rw is tt
+block_taken file line old new number block (Err item_stops.NoMemory) r told judged is = rw is tt
 
-pub edge_taken : (file : ℕ) (line : Line) (old new : Function) (from to : ℕ) (bound : Bound) (added : Result (Unit {0}) DraftStop) (r : Result Bool Stop)
+pub edge_taken : (file : ℕ) (line : Line) (old new : Function) (from to : ℕ) (bound : Bound) (added : Result (Unit {0}) ItemStop) (r : Result Bool Stop)
     → Some (model.tells_edge from to bound) ≡ model.line_of line.bytes.now
-    → JudgesLine (cause_of_edge old from to bound) added (new ≡ with_edge old (record { from = from; to = to; bound = bound }))
-    → r ≡ stop_at file line.number added → TakesIn file line old r new
+    → JudgesItem (cause_of_edge old from to bound) added (new ≡ with_edge old (record { from = from; to = to; bound = bound }))
+    → r ≡ goes_on_at file line.number added → TakesIn file line old r new
 unfolding cause_of_line
 edge_taken file line old new from to bound (Ok done) r told judged is =
     rw is (subst (λ (f : Function). IsGoodLine line (Some old) (Some f) []) (sym judged.1) (good_said line (Some old) (model.tells_edge from to bound) told judged.0))
-edge_taken file line old new from to bound (Err (draft.Refused kind)) r told judged is =
+edge_taken file line old new from to bound (Err (item_stops.Refused kind)) r told judged is =
     rw is (bad_said file line (Some old) (Some (model.tells_edge from to bound)) kind told judged)
-edge_taken file line old new from to bound (Err draft.NoMemory) r told judged is = rw is tt
+edge_taken file line old new from to bound (Err item_stops.NoMemory) r told judged is = rw is tt
 
 -- ---- a function
 

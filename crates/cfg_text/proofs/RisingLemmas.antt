@@ -2,13 +2,14 @@
 use Rattle.std.proofs.Common.{◌≡◌, ◌≢◌, ℕ, zero, suc, ◌<◌, ◌≤◌, ◌-◌, Bool, true, false, ◌&&◌, ◌||◌, nat_eq, nat_lt, List, [], ◌∷◌, ◌++◌, length, map, take, drop, slice_get, slice_index_or, Some, refl, arith, inl, inr, sym, ◌∙◌, ap}
 use Rattle.std.specs.List.{AllByRecursion, AllWithin, list_any}
 use Rattle.std.specs.List.Sorted.{IsNonDecreasingBy}
-use Rattle.std.proofs.lemmas.Bool.{eq-eqb, ne_eqb, lt-ltb, le-ltb, cases_lt}
+use Rattle.std.proofs.lemmas.Bool.{and_right, eq-eqb, ne_eqb, lt-ltb, le-ltb, cases_lt}
 use Rattle.std.proofs.lemmas.List.{take-append-drop}
 use Rattle.std.proofs.lemmas.List.Folds.{list_any-append}
 use Rattle.block_model.specs.declared.parts.Block.{Block}
 use Rattle.block_model.specs.declared.parts.Edge.{Edge}
 use Rattle.cfg_text.specs.Draft.{way_by}
 use Rattle.cfg_text.specs.Taken.{AreApart, meets, span_of}
+use Rattle.cfg_text.proofs.TakenLemmas.{later_end}
 
 -- ---- the order of blocks
 
@@ -49,23 +50,12 @@ none_after lo hi (block ∷ blocks) all = rw (le-ltb lo block.hi all.0, none_aft
 
 -- ---- the last block that begins before an address decides what meets
 
-and_no : (b : Bool) → (b && false) ≡ false
-and_no true = refl
-and_no false = refl
-
 pub none_begun : (lo hi : ℕ) (blocks : List Block) → ((k : ℕ) (d : Block) → k < length blocks → hi ≤ (slice_index_or blocks k d).lo)
     → list_any (λ block. meets lo hi (span_of block)) blocks ≡ false
 none_begun lo hi [] others = refl
 none_begun lo hi (block ∷ blocks) others =
     let none = none_begun lo hi blocks (λ k d inside. others (suc k) d (omega arith)) in
-    rw (le-ltb block.lo hi (others 0 block (omega arith)), and_no (nat_lt lo block.hi), none)
-
-later : (lo a b : ℕ) (v : Bool) → a < b → nat_lt lo b ≡ v → nat_lt lo b ≡ ((nat_lt lo a && true) || v)
-later lo a b v order is =
-    elim (cases_lt lo a) [
-      | inl below ↦ rw (lt-ltb lo a below, lt-ltb lo b (omega (arith, below, order)))
-      | inr past ↦ rw (le-ltb lo a past) is
-    ]
+    rw (le-ltb block.lo hi (others 0 block (omega arith)), and_right (nat_lt lo block.hi) false refl, none)
 
 alone : (b : Bool) → b ≡ ((b && true) || false)
 alone true = refl
@@ -83,7 +73,7 @@ meet_at lo hi from (suc i) (block ∷ blocks) d apart inside begun others =
     let more = meet_at lo hi block.hi i blocks d apart.2 (omega arith) (λ k e within. begun (suc k) e (omega arith)) (λ k e past within. others (suc k) e (omega arith) (omega arith)) in
     let ends = (least block.hi blocks i d apart.2 (omega arith)).1 in
     rw (lt-ltb block.lo hi (begun 0 d (omega arith)))
-    (later lo block.hi (slice_index_or blocks i d).hi (list_any (λ b. meets lo hi (span_of b)) blocks) ends more)
+    (later_end lo block.hi (slice_index_or blocks i d).hi (list_any (λ b. meets lo hi (span_of b)) blocks) ends more)
 
 pub meet_last : (lo hi end : ℕ) (blocks : List Block) (d : Block) → AreApart 0 (map span_of blocks) → end ≢ 0 → end ≤ length blocks
     → AllWithin (λ (block : Block). block.lo < hi) blocks 0 end → AllWithin (λ (block : Block). hi ≤ block.lo) blocks end (length blocks)

@@ -8,7 +8,7 @@ use Rattle.std.specs.declared.ops.Bound.TheVariants.{Excluded, Unbounded}
 use Rattle.std.specs.Cmp.{nat_cmp_is}
 use Rattle.std.specs.declared.cmp.Ordering.TheVariants.{Less, Equal, Greater}
 use Rattle.std.specs.BTreeMap.{insert_entry}
-use Rattle.std.proofs.lemmas.Bool.{lt-ltb, le-ltb, cases_lt, or_parts}
+use Rattle.std.proofs.lemmas.Bool.{and_right, lt-ltb, le-ltb, cases_lt, or_parts}
 use Rattle.cfg_text.specs.Taken.{meets, AreApart}
 
 -- the spans that begin before hi
@@ -21,15 +21,11 @@ none_before hi from [] apart past = refl
 none_before hi from (span ∷ spans) apart past =
     rw (le-ltb span.0 hi (omega (arith, apart.0))) (none_before hi span.1 spans apart.2 (omega (arith, apart.0, apart.1)))
 
-and_no : (b : Bool) → (b && false) ≡ false
-and_no true = refl
-and_no false = refl
-
 none_meet : (lo hi from : ℕ) (spans : List (ℕ × ℕ)) → AreApart from spans → hi ≤ from → list_any (meets lo hi) spans ≡ false
 none_meet lo hi from [] apart past = refl
 none_meet lo hi from (span ∷ spans) apart past =
     let none = none_meet lo hi span.1 spans apart.2 (omega (arith, apart.0, apart.1)) in
-    rw (le-ltb span.0 hi (omega (arith, apart.0)), and_no (nat_lt lo span.1), none)
+    rw (le-ltb span.0 hi (omega (arith, apart.0)), and_right (nat_lt lo span.1) false refl, none)
 
 pub meet_none : (lo hi from : ℕ) (spans : List (ℕ × ℕ)) → AreApart from spans → before hi spans ≡ [] → list_any (meets lo hi) spans ≡ false
 meet_none lo hi from [] apart is = refl
@@ -38,11 +34,11 @@ meet_none lo hi from (span ∷ spans) apart is =
       | inl begins ↦ let at = rw (lt-ltb span.0 hi begins) at is in absurd (cc)
       | inr past ↦
           let none = none_meet lo hi span.1 spans apart.2 (omega (arith, past, apart.1)) in
-          rw (le-ltb span.0 hi past, and_no (nat_lt lo span.1), none)
+          rw (le-ltb span.0 hi past, and_right (nat_lt lo span.1) false refl, none)
     ]
 
 -- a later end decides
-later_end : (lo a b : ℕ) (v : Bool) → a < b → nat_lt lo b ≡ v → nat_lt lo b ≡ ((nat_lt lo a && true) || v)
+pub later_end : (lo a b : ℕ) (v : Bool) → a < b → nat_lt lo b ≡ v → nat_lt lo b ≡ ((nat_lt lo a && true) || v)
 later_end lo a b v order is =
     elim (cases_lt lo a) [
       | inl below ↦ rw (lt-ltb lo a below, lt-ltb lo b (omega (arith, below, order)))

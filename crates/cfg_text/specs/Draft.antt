@@ -1,16 +1,13 @@
 -- A function that is being read.
-use Rattle.std.specs.Prelude.{◌≡◌, ℕ, ◌+◌, ◌*◌, ◌<◌, ◌≤◌, nat_eq, ⊤, List, length, take, drop, map, Option, None, Some, Result, Ok, Err}
+use Rattle.std.specs.Prelude.{◌≡◌, ℕ, ◌+◌, ◌*◌, ◌<◌, ◌≤◌, nat_eq, List, length, take, drop, map}
 use Rattle.std.specs.BTreeSet.{BTreeSet, contains}
 use Rattle.std.specs.List.{AllByRecursion, list_any}
 use Rattle.std.specs.List.Sorted.{IsNonDecreasingBy}
 use Rattle.std.specs.Ordering.{nat_cmp}
-use Rattle.refusal.specs.declared.kind.Kind.{Kind}
 use Rattle.block_model.specs.declared.parts.Block.{Block}
 use Rattle.block_model.specs.declared.parts.Edge.{Edge}
 use Rattle.block_model.specs.Limits.{max_blocks}
 use Rattle.cfg_text.specs.Taken.{AreApart, meets, span_of}
-use Rattle.cfg_text.specs.declared.draft.DraftStop.{DraftStop}
-use Rattle.cfg_text.specs.declared.draft.DraftStop.TheVariants.{Refused, NoMemory}
 
 -- An edge as one number: its two ends are below 65536.
 abbrev pub way_of : ℕ → ℕ → ℕ
@@ -34,9 +31,3 @@ pub record IsDraft
   pub inside : sorted ≤ length edges
   pub ascend : IsNonDecreasingBy way_by (take sorted edges)
   pub joined : (way : ℕ) → contains nat_cmp ways way ≡ list_any (λ edge. nat_eq way (way_by edge)) (drop sorted edges)
-
--- A line is refused for its cause; without one, P holds. Where memory was refused nothing is told.
-abbrev pub JudgesLine : Option Kind → Result (Unit {0}) DraftStop → Type 0 → Type 0
-JudgesLine cause (Ok done) P = (cause ≡ None) × P
-JudgesLine cause (Err (Refused kind)) P = cause ≡ Some kind
-JudgesLine cause (Err NoMemory) P = ⊤

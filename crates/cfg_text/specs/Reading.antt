@@ -2,17 +2,16 @@
 use Rattle.std.specs.Prelude.{◌≡◌, ℕ, ◌+◌, ◌<◌, ◌^◌, ⊤, Bool, true, false, List, [], ◌∷◌, ◌++◌, length, Option, None, Some, Result, Ok, Err}
 use Rattle.std.specs.Borrow.{Bor}
 use Rattle.std.specs.List.{enumerate_from}
+use Rattle.refusal.specs.declared.place.ItemStop.{ItemStop}
 use Rattle.refusal.specs.declared.place.Place.{Place}
 use Rattle.refusal.specs.declared.place.Stop.{Stop}
 use Rattle.refusal.specs.declared.place.Stop.TheVariants.{Refused, NoMemory}
-use Rattle.refusal.specs.Place.{first_bad}
+use Rattle.refusal.specs.Place.{first_bad, stop_on_line}
 use Rattle.text_scan.specs.declared.lines.Line.{Line}
 use Rattle.block_model.specs.Function.{Function, named}
 use Rattle.block_model.specs.Judging.{cause_of_line, item, items_from}
 use Rattle.block_model.specs.Line as model
 use Rattle.block_model.specs.Text.{open_behind_line, closed_by_line, functions_from}
-use Rattle.cfg_text.specs.declared.draft.DraftStop.{DraftStop}
-use Rattle.cfg_text.specs.declared.draft.DraftStop.TheVariants as draft
 use Rattle.cfg_text.specs.declared.fun.Fun.{Fun}
 use Rattle.cfg_text.specs.Fun.{function_of}
 
@@ -67,7 +66,6 @@ ReadsFunction file opened at old (Err (Refused place)) new =
 ReadsFunction file opened at old (Err NoMemory) new = ⊤
 
 -- What a line that was added, or was not, means for the text.
-abbrev pub stop_at : ℕ → ℕ → Result (Unit {0}) DraftStop → Result Bool Stop
-stop_at file at (Ok done) = Ok false
-stop_at file at (Err (draft.Refused kind)) = Err (Refused (record { file = file; at = at; kind = kind }))
-stop_at file at (Err draft.NoMemory) = Err NoMemory
+abbrev pub goes_on_at : ℕ → ℕ → Result (Unit {0}) ItemStop → Result Bool Stop
+goes_on_at file at (Ok done) = Ok false
+goes_on_at file at (Err stop) = Err (stop_on_line file at stop)

@@ -3,10 +3,9 @@ ghost use Rattle.std.specs.Prelude.{◌≡◌, ◌<◌, ◌==◌, length, None, 
 ghost use Rattle.std.specs.List.{list_any};
 ghost use Rattle.block_model.specs.Function.{joins, named, overlap, with_block, with_edge};
 ghost use Rattle.block_model.specs.Judging as judging;
-ghost use Rattle.cfg_text.specs.Draft.{JudgesLine};
 ghost use Rattle.cfg_text.specs.Fun.{function_of};
+ghost use Rattle.refusal.specs.Place.{JudgesItem};
 ghost use Rattle.refusal.specs.declared.kind.Kind.TheVariants.{BadBound};
-ghost use Rattle.cfg_text.specs.declared.draft.DraftStop.TheVariants.{NoMemory as no_memory};
 
 use crate::fun::Fun;
 use crate::rising::{all_end_by, meet};
@@ -14,8 +13,8 @@ use crate::taken::Taken;
 use crate::ways::{all_go_by, has_way, way};
 use block_model::{Block, Bound, Edge};
 use item_lists::Items;
-use refusal::{Kind, NoMemory};
-use std::alloc::{AllocError, AllocFailed, Global};
+use refusal::{ItemStop, Kind};
+use std::alloc::Global;
 use std::collections::BTreeSet;
 use std::marker::Model;
 
@@ -24,39 +23,6 @@ const MAX_BLOCKS: usize = 65_536;
 
 /// The most edges of a function.
 const MAX_EDGES: usize = 262_144;
-
-/// Why a line was not taken in.
-#[derive(Clone, Copy, Debug, PartialEq, Eq)]
-pub(crate) enum DraftStop {
-    /// The line breaks the format, for this cause.
-    Refused(Kind),
-    /// Memory was refused.
-    NoMemory,
-}
-
-impl From<NoMemory> for DraftStop {
-    ghost from_gives = { λ _ stop. stop ≡ no_memory };
-
-    fn from(_: NoMemory) -> Self {
-        DraftStop::NoMemory
-    }
-}
-
-impl From<AllocError> for DraftStop {
-    ghost from_gives = { λ _ stop. stop ≡ no_memory };
-
-    fn from(_: AllocError) -> Self {
-        DraftStop::NoMemory
-    }
-}
-
-impl<T: Drop> From<AllocFailed<T>> for DraftStop {
-    ghost from_gives = { λ _ stop. stop ≡ no_memory };
-
-    fn from(_: AllocFailed<T>) -> Self {
-        DraftStop::NoMemory
-    }
-}
 
 /// A function so far. Beside its blocks and edges it keeps, in order, the addresses that blocks
 /// hold and the ways that edges go, so that a line is judged without looking through them. Most
@@ -109,12 +75,12 @@ impl<'a> Draft<'a> {
     }
 
     /// Adds the next block, of which the line says that it has this number.
-    pub(crate) fn add_block(&mut self, number: u64, block: Block) -> Result<(), DraftStop>
-        ensures { JudgesLine (judging.cause_of_block self.old number block) result
+    pub(crate) fn add_block(&mut self, number: u64, block: Block) -> Result<(), ItemStop>
+        ensures { JudgesItem (judging.cause_of_block self.old number block) result
             (self.new ≡ with_block self.old block) }
     {
         if let Some(kind) = self.cause_of_block(number, &block) {
-            return Err(DraftStop::Refused(kind));
+            return Err(ItemStop::Refused(kind));
         }
         self.blocks.try_reserve(1)?;
         if all_end_by(&self.blocks, self.rising, block.lo) {
@@ -158,12 +124,12 @@ impl<'a> Draft<'a> {
     }
 
     /// Adds an edge between the blocks that the line says.
-    pub(crate) fn add_edge(&mut self, from: u64, to: u64, bound: Bound) -> Result<(), DraftStop>
-        ensures { JudgesLine (judging.cause_of_edge self.old from to bound) result
+    pub(crate) fn add_edge(&mut self, from: u64, to: u64, bound: Bound) -> Result<(), ItemStop>
+        ensures { JudgesItem (judging.cause_of_edge self.old from to bound) result
             (self.new ≡ with_edge self.old (record { from = from; to = to; bound = bound })) }
     {
         if let Some(kind) = self.cause_of_edge(from, to, &bound) {
-            return Err(DraftStop::Refused(kind));
+            return Err(ItemStop::Refused(kind));
         }
         self.edges.try_reserve(1)?;
         let way = way(from, to);

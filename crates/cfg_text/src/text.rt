@@ -4,12 +4,12 @@ ghost use Rattle.refusal.specs.Place.{JudgesUnlessNoMemory};
 ghost use Rattle.block_model.specs.Judging.{first_bad_of_text};
 ghost use Rattle.block_model.specs.Text.{functions_of};
 ghost use Rattle.cfg_text.specs.Fun.{function_of};
-ghost use Rattle.cfg_text.specs.Reading.{Begins, IsNumbered, ReadsFunction, TakesIn, stop_at};
+ghost use Rattle.cfg_text.specs.Reading.{Begins, IsNumbered, ReadsFunction, TakesIn, goes_on_at};
 
-use crate::draft::{Draft, DraftStop};
+use crate::draft::Draft;
 use crate::fun::Fun;
 use crate::said::{BlockLine, read_line};
-use refusal::{Kind, NoMemory, Place, Stop};
+use refusal::{ItemStop, Kind, NoMemory, Place, Stop};
 use std::alloc::Global;
 use text_scan::{Line, Lines};
 
@@ -53,14 +53,14 @@ fn begun<'a>(line: Line<'a>, file: u8) -> Result<Option<&'a [u8]>, Place>
     ensures { Begins file line.entry result }
 {
     let Some(said) = read_line(line.bytes) else {
-        return Err(place(file, line.number, Kind::BadLine));
+        return Err(Place::on_line(file, line.number, Kind::BadLine));
     };
     match said {
         BlockLine::Nothing => Ok(None),
         BlockLine::Begins(name) => Ok(Some(name)),
-        BlockLine::Block(_, _) => Err(place(file, line.number, Kind::BadLine)),
-        BlockLine::Edge(_, _, _) => Err(place(file, line.number, Kind::BadLine)),
-        BlockLine::Ends => Err(place(file, line.number, Kind::BadLine)),
+        BlockLine::Block(_, _) => Err(Place::on_line(file, line.number, Kind::BadLine)),
+        BlockLine::Edge(_, _, _) => Err(Place::on_line(file, line.number, Kind::BadLine)),
+        BlockLine::Ends => Err(Place::on_line(file, line.number, Kind::BadLine)),
     }
 }
 
@@ -82,7 +82,7 @@ fn read_function<'a>(
             return Ok(draft.close());
         }
     }
-    Err(Stop::Refused(place(file, last + 1, Kind::NoEndLine)))
+    Err(Stop::Refused(Place::on_line(file, last + 1, Kind::NoEndLine)))
 }
 
 /// Takes in a line inside a function, and says whether it ends the function.
@@ -91,32 +91,28 @@ fn take_in<'a>(draft: &mut Draft<'a>, line: Line<'a>, file: u8) -> Result<bool, 
 {
     let at = line.number;
     let Some(said) = read_line(line.bytes) else {
-        return Err(Stop::Refused(place(file, at, Kind::BadLine)));
+        return Err(Stop::Refused(Place::on_line(file, at, Kind::BadLine)));
     };
     match said {
         BlockLine::Nothing => Ok(false),
         BlockLine::Block(number, block) => goes_on(draft.add_block(number, block), file, at),
         BlockLine::Edge(from, to, bound) => goes_on(draft.add_edge(from, to, bound), file, at),
-        BlockLine::Ends if draft.is_empty() => Err(Stop::Refused(place(file, at, Kind::NoBlocks))),
+        BlockLine::Ends if draft.is_empty() => Err(Stop::Refused(Place::on_line(
+            file,
+            at,
+            Kind::NoBlocks,
+        ))),
         BlockLine::Ends => Ok(true),
-        BlockLine::Begins(_) => Err(Stop::Refused(place(file, at, Kind::BadLine))),
+        BlockLine::Begins(_) => Err(Stop::Refused(Place::on_line(file, at, Kind::BadLine))),
     }
 }
 
 /// What a line that was added, or was not, means for the text.
-fn goes_on(added: Result<(), DraftStop>, file: u8, at: u64) -> Result<bool, Stop>
-    ensures { result ≡ stop_at file at added }
+fn goes_on(added: Result<(), ItemStop>, file: u8, at: u64) -> Result<bool, Stop>
+    ensures { result ≡ goes_on_at file at added }
 {
     match added {
         Ok(()) => Ok(false),
-        Err(DraftStop::Refused(kind)) => Err(Stop::Refused(place(file, at, kind))),
-        Err(DraftStop::NoMemory) => Err(Stop::NoMemory),
+        Err(stop) => Err(stop.on_line(file, at)),
     }
-}
-
-/// The place of a line.
-fn place(file: u8, at: u64, kind: Kind) -> Place
-    ensures { result ≡ record { file = file; at = at; kind = kind } }
-{
-    Place { file, at, kind }
 }

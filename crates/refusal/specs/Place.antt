@@ -2,6 +2,8 @@
 use Rattle.std.specs.Prelude.{◌≡◌, ℕ, nat_lt, Bool, ⊤, List, [], ◌∷◌, length, Option, None, Some, Result, Ok, Err, if◌then◌else◌}
 use Rattle.refusal.specs.declared.kind.Kind.{Kind}
 use Rattle.refusal.specs.declared.kind.Kind.TheVariants.{FileTooLarge}
+use Rattle.refusal.specs.declared.place.ItemStop.{ItemStop}
+use Rattle.refusal.specs.declared.place.ItemStop.TheVariants as item_stops
 use Rattle.refusal.specs.declared.place.Place.{Place}
 use Rattle.refusal.specs.declared.place.Stop.{Stop}
 use Rattle.refusal.specs.declared.place.Stop.TheVariants.{Refused, NoMemory}
@@ -41,3 +43,19 @@ abbrev pub JudgesUnlessNoMemory : {T : Type 0} → Option Place → Result T Sto
 JudgesUnlessNoMemory bad (Ok x) P = (bad ≡ None) × P x
 JudgesUnlessNoMemory bad (Err (Refused place)) P = bad ≡ Some place
 JudgesUnlessNoMemory bad (Err NoMemory) P = ⊤
+
+-- What ends a reading where this is why a line of a text was not taken in.
+abbrev pub stop_on_line : ℕ → ℕ → ItemStop → Stop
+stop_on_line file at (item_stops.Refused kind) = Refused (record { file = file; at = at; kind = kind })
+stop_on_line file at item_stops.NoMemory = NoMemory
+
+-- The same for the item so many bytes from the start of a binary.
+abbrev pub stop_in_binary : ℕ → ItemStop → Stop
+stop_in_binary at (item_stops.Refused kind) = Refused (in_binary at kind)
+stop_in_binary at item_stops.NoMemory = NoMemory
+
+-- An item is refused for its cause; without one, P holds. Where memory was refused nothing is told.
+abbrev pub JudgesItem : Option Kind → Result (Unit {0}) ItemStop → Type 0 → Type 0
+JudgesItem cause (Ok done) P = (cause ≡ None) × P
+JudgesItem cause (Err (item_stops.Refused kind)) P = cause ≡ Some kind
+JudgesItem cause (Err item_stops.NoMemory) P = ⊤

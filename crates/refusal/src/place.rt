@@ -1,5 +1,6 @@
 ghost use Rattle.std.specs.Prelude.{◌≡◌, ⊤};
-ghost use Rattle.refusal.specs.Place.{Judges, fails_at, in_binary};
+ghost use Rattle.refusal.specs.Place.{Judges, fails_at, in_binary, stop_in_binary, stop_on_line};
+ghost use Rattle.refusal.specs.declared.place.ItemStop.TheVariants.{NoMemory as no_memory_for_item};
 ghost use Rattle.refusal.specs.declared.place.Stop.TheVariants.{Refused, NoMemory as no_memory};
 
 use crate::kind::Kind;
@@ -44,6 +45,13 @@ impl Place {
             kind,
         }
     }
+
+    /// The place of line `at` of a text, which is the command's file `file`; both count from 1.
+    pub fn on_line(file: u8, at: u64, kind: Kind) -> Place
+        ensures { result ≡ record { file = file; at = at; kind = kind } }
+    {
+        Place { file, at, kind }
+    }
 }
 
 /// Refuses an input at this place where a cause holds.
@@ -78,5 +86,62 @@ impl From<NoMemory> for Stop {
 
     fn from(_: NoMemory) -> Self {
         Stop::NoMemory
+    }
+}
+
+/// Why an item of an input was not taken in, for whoever knows its place.
+#[derive(Clone, Copy, Debug, PartialEq, Eq)]
+pub enum ItemStop {
+    /// The item breaks its format, for this cause.
+    Refused(Kind),
+    /// Memory was refused.
+    NoMemory,
+}
+
+impl ItemStop {
+    /// What ends a reading where this is why line `at` of a text was not taken in. The text is the
+    /// command's file `file`; both count from 1.
+    pub fn on_line(self, file: u8, at: u64) -> Stop
+        ensures { result ≡ stop_on_line file at self }
+    {
+        match self {
+            ItemStop::Refused(kind) => Stop::Refused(Place::on_line(file, at, kind)),
+            ItemStop::NoMemory => Stop::NoMemory,
+        }
+    }
+
+    /// What ends a reading where this is why the item `at` bytes from the start of a binary was not
+    /// taken in.
+    pub fn in_binary(self, at: usize) -> Stop
+        ensures { result ≡ stop_in_binary at self }
+    {
+        match self {
+            ItemStop::Refused(kind) => Stop::Refused(Place::in_binary(at, kind)),
+            ItemStop::NoMemory => Stop::NoMemory,
+        }
+    }
+}
+
+impl From<NoMemory> for ItemStop {
+    ghost from_gives = { λ _ stop. stop ≡ no_memory_for_item };
+
+    fn from(_: NoMemory) -> Self {
+        ItemStop::NoMemory
+    }
+}
+
+impl From<AllocError> for ItemStop {
+    ghost from_gives = { λ _ stop. stop ≡ no_memory_for_item };
+
+    fn from(_: AllocError) -> Self {
+        ItemStop::NoMemory
+    }
+}
+
+impl<T: Drop> From<AllocFailed<T>> for ItemStop {
+    ghost from_gives = { λ _ stop. stop ≡ no_memory_for_item };
+
+    fn from(_: AllocFailed<T>) -> Self {
+        ItemStop::NoMemory
     }
 }

@@ -1,6 +1,7 @@
 ghost use Rattle.std.specs.Prelude.{not, position, ◌≡◌, ◌∷◌, [], MatchOption};
 ghost use Rattle.std.specs.Iterator.{item_count, YieldsFirstRef};
 ghost use Rattle.text_model.specs.Fields.{fields_of, is_blank};
+ghost use Rattle.text_model.specs.LineTests.{is_blank_line};
 
 use std::iter::FusedIterator;
 use std::marker::Model;
@@ -58,22 +59,29 @@ fn split_field(line: &[u8]) -> Option<(&[u8], &[u8])>
     Some(line.split_at(end))
 }
 
+/// Whether a line has no field.
+pub fn is_blank_line(line: &[u8]) -> bool
+    ensures { result ≡ is_blank_line line.now }
+{
+    Fields::new(line).next().is_none()
+}
+
 /// Whether a byte stands between fields: a space or a tab.
-fn is_blank(byte: u8) -> bool
+pub fn is_blank(byte: u8) -> bool
     ensures { result ≡ is_blank byte }
 {
     byte == b' ' || byte == b'\t'
 }
 
 /// Where the first field begins.
-fn first_filled(line: &[u8]) -> Option<usize>
+pub fn first_filled(line: &[u8]) -> Option<usize>
     ensures { result ≡ position (λ b. not (is_blank b)) line.now }
 {
     line.iter().position(|byte| !is_blank(*byte))
 }
 
 /// Where the first blank stands.
-fn first_blank(line: &[u8]) -> Option<usize>
+pub fn first_blank(line: &[u8]) -> Option<usize>
     ensures { result ≡ position is_blank line.now }
 {
     line.iter().position(|byte| is_blank(*byte))

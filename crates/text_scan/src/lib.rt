@@ -13,7 +13,7 @@ mod read;
 mod write;
 
 pub use decimals::{decimal, signed, wide};
-pub use fields::Fields;
+pub use fields::{Fields, first_blank, first_filled, is_blank, is_blank_line};
 pub use lines::{Line, Lines};
 pub use read::{NumberFault, hex, prefixed};
 pub use write::{push_hex, push_number, push_signed};

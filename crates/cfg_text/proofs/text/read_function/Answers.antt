@@ -28,4 +28,4 @@ loop-line-preserved c =
 pub returns-clause-read : goal.returns-clause-read
 returns-clause-read c = λ bad all done kept.
     end_inside c.args.file c.loop-line.last bad all done c.loop-line.draft c.loop-line.lines (c.loop-line.invariant.kept bad all done kept) c.in_default.ensures.steps.0
-    ∙ ap Some (sym c.place.ensures)
+    ∙ ap Some (sym c.on_line.ensures)

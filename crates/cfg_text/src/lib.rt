@@ -6,7 +6,6 @@
 
 mod draft;
 mod fun;
-mod number;
 mod rising;
 mod said;
 mod taken;

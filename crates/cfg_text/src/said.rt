@@ -6,9 +6,8 @@ ghost use Rattle.text_model.specs.LineTests.{is_comment as comment};
 ghost use Rattle.block_model.specs.Line as model;
 ghost use Rattle.cfg_text.specs.Said.{meaning_of};
 
-use crate::number::number;
 use block_model::{Block, Bound};
-use text_scan::{Fields, prefixed};
+use text_scan::{Fields, decimal, prefixed};
 
 /// A bound on a count is below this.
 const BOUND_LIMIT: u64 = 1 << 44;
@@ -230,7 +229,7 @@ fn behind<'a>(front: &[u8], word: &'a [u8]) -> Option<&'a [u8]>
 pub fn count_of(digits: &[u8]) -> Option<u64>
     ensures { result ≡ model.count_of digits.now }
 {
-    match number(digits) {
+    match decimal(digits) {
         Ok(count) if count < BOUND_LIMIT => Some(count),
         Ok(_) => None,
         Err(_) => None,
@@ -241,7 +240,7 @@ pub fn count_of(digits: &[u8]) -> Option<u64>
 pub fn place_of(field: &[u8]) -> Option<u64>
     ensures { result ≡ model.place_of field.now }
 {
-    number(field).ok()
+    decimal(field).ok()
 }
 
 /// An address: hexadecimal behind `0x`.

@@ -43,6 +43,14 @@ impl Keys {
         })
     }
 
+    /// Makes room for so many keys more, so that the table is not laid out anew as they come. Where
+    /// there is no memory for that, it grows as they come.
+    pub fn reserve(&mut self, more: usize)
+        ensures { self.new ≡ self.old }
+    {
+        let _ = self.keys.reserve(more);
+    }
+
     /// The number of a key. A new one gets the next number, and those given before stay.
     ///
     /// # Errors

@@ -3,5 +3,4 @@ pub mod DecimalLemmas
 pub mod Growth
 pub mod LineLemmas
 pub mod ReadLemmas
-pub mod WideLemmas
 pub mod WriteLemmas

@@ -8,9 +8,9 @@ abbrev pub within : ℕ → Option ℕ → Result ℕ NumberFault
 within bits None = Err NotNumber
 within bits (Some n) = if nat_lt n (2 ^ bits) then Ok n else Err NumberTooLarge
 
--- A number that fits 128 bits.
-abbrev pub fitting : ℕ → Option ℕ
-fitting n = if nat_lt n (2 ^ 128) then Some n else None
+-- A number that fits so many bits.
+abbrev pub fitting : ℕ → ℕ → Option ℕ
+fitting bits n = if nat_lt n (2 ^ bits) then Some n else None
 
 -- Whether a signed number fits 64 bits.
 abbrev pub fits_signed : ℤ → Bool

@@ -6,9 +6,6 @@ ghost use Rattle.text_scan.specs.Numbers.{fitting, within, within_signed};
 
 use crate::read::NumberFault;
 
-/// The least number that does not fit; a number from here on is kept as this one.
-const TOO_LARGE: u128 = 1 << 64;
-
 /// How far numbers of 64 bits with sign go below zero; above it they go one less far.
 const MOST_BELOW_ZERO: u64 = 1 << 63;
 
@@ -24,26 +21,33 @@ pub fn decimal(text: &[u8]) -> Result<u64, NumberFault>
     if text.is_empty() {
         return Err(NumberFault::NotNumber);
     }
-    let mut value = 0;
+    let mut value = Some(0);
     for byte in text {
         let Some(digit) = decimal_digit(*byte) else {
             return Err(NumberFault::NotNumber);
         };
-        value = (value * 10 + digit).min(TOO_LARGE);
+        value = with_digit(value, digit);
     }
-    if value < TOO_LARGE {
-        Ok(value as u64)
-    } else {
-        Err(NumberFault::NumberTooLarge)
+    match value {
+        Some(value) => Ok(value),
+        None => Err(NumberFault::NumberTooLarge),
     }
 }
 
+/// A number with one digit more; `None` stands for each that does not fit.
+fn with_digit(value: Option<u64>, digit: u64) -> Option<u64>
+    requires { digit < 10 }
+    ensures { (n : ℕ) → value ≡ fitting 64 n → result ≡ fitting 64 (n * 10 + digit) }
+{
+    value?.checked_mul(10)?.checked_add(digit)
+}
+
 /// What a byte is worth as a decimal digit, if it is one.
-fn decimal_digit(byte: u8) -> Option<u128>
+fn decimal_digit(byte: u8) -> Option<u64>
     ensures { result ≡ (if is_digit byte 10 then Some (digit_value byte) else None) }
 {
     match byte {
-        b'0'..=b'9' => Some((byte - b'0') as u128),
+        b'0'..=b'9' => Some((byte - b'0') as u64),
         _ => None,
     }
 }
@@ -65,7 +69,7 @@ pub fn wide(text: &[u8]) -> Result<u128, NumberFault>
         let Some(digit) = decimal_digit(*byte) else {
             return Err(NumberFault::NotNumber);
         };
-        value = with_digit(value, digit);
+        value = with_wide_digit(value, digit);
     }
     match value {
         Some(value) => Ok(value),
@@ -73,12 +77,12 @@ pub fn wide(text: &[u8]) -> Result<u128, NumberFault>
     }
 }
 
-/// A number with one digit more; `None` stands for each that does not fit.
-fn with_digit(value: Option<u128>, digit: u128) -> Option<u128>
+/// A number of up to 128 bits with one digit more; `None` stands for each that does not fit.
+fn with_wide_digit(value: Option<u128>, digit: u64) -> Option<u128>
     requires { digit < 10 }
-    ensures { (n : ℕ) → value ≡ fitting n → result ≡ fitting (n * 10 + digit) }
+    ensures { (n : ℕ) → value ≡ fitting 128 n → result ≡ fitting 128 (n * 10 + digit) }
 {
-    value?.checked_mul(10)?.checked_add(digit)
+    value?.checked_mul(10)?.checked_add(u128::from(digit))
 }
 
 /// The number of 64 bits with sign that decimal digits spell, one or more, and a `-` may lead.

@@ -7,4 +7,4 @@ use Rattle.cfg_text.proofs.said.place_of.Goals as goal
 
 pub returns : goal.returns
 unfolding place_of
-returns c = c.ok.ensures.value ∙ ap result_ok c.number.ensures ∙ ok_within 64 (decimal_of c.args.field.now)
+returns c = c.ok.ensures.value ∙ ap result_ok c.decimal.ensures ∙ ok_within 64 (decimal_of c.args.field.now)

@@ -4,4 +4,4 @@ use Rattle.text_scan.proofs.DecimalLemmas.{IsReadSoFar}
 use Rattle.text_scan.proofs.decimals.decimal.Given as goal
 
 abbrev pub invariant-loop-byte : goal.invariant-loop-byte
-invariant-loop-byte l = IsReadSoFar (take l.byte-index l.text) l.value
+invariant-loop-byte l = IsReadSoFar 64 (take l.byte-index l.text) l.value

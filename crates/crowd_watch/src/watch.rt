@@ -87,7 +87,11 @@ impl Watch {
         self.digest = mixed(self.digest, hash);
         if table.capacity() != self.capacity {
             self.count_anew(table);
-        } else if self.crowds_at(hash) && self.due <= len {
+            return;
+        }
+        let part = self.part_of(hash);
+        self.count_in(part);
+        if self.is_crowded(part) && self.due <= len {
             self.due = len.saturating_add(4 * len.isqrt());
             take_key(table, Keyed::by(self.digest));
             self.count_anew(table);
@@ -103,21 +107,37 @@ impl Watch {
             return;
         }
         for value in table.as_slice() {
-            self.crowds_at(table.hasher().hash_one(value));
+            let part = self.part_of(table.hasher().hash_one(value));
+            self.count_in(part);
         }
     }
 
-    /// Counts a value by its hash. Whether more values lie where it falls than chance lets.
-    fn crowds_at(&mut self, hash: u64) -> bool {
+    /// The part in which a value falls, by its hash.
+    fn part_of(&self, hash: u64) -> usize {
         let place = (hash ^ hash >> 32) & (self.groups.saturating_sub(1));
-        let span = (self.groups / PARTS).max(1);
-        let full = TO_A_GROUP.saturating_mul(span);
+        (place / self.span()) as usize
+    }
+
+    /// How many groups a part has.
+    fn span(&self) -> u64
+        ensures { 0 < result }
+    {
+        (self.groups / PARTS).max(1)
+    }
+
+    /// Counts a value in a part.
+    fn count_in(&mut self, part: usize) {
+        if let Some(count) = self.counts.get_mut(part) {
+            *count = count.saturating_add(1);
+        }
+    }
+
+    /// Whether more values lie in a part than chance lets.
+    fn is_crowded(&self, part: usize) -> bool {
+        let full = TO_A_GROUP.saturating_mul(self.span());
         let limit = full.saturating_add(full / 4).saturating_add(64);
-        match self.counts.get_mut((place / span) as usize) {
-            Some(count) => {
-                *count = count.saturating_add(1);
-                u64::from(*count) > limit
-            }
+        match self.counts.get(part) {
+            Some(count) => u64::from(*count) > limit,
             None => false,
         }
     }

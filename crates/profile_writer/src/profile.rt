@@ -87,17 +87,7 @@ impl Profile {
             → IsProfileOf program sampled names.now segments.now profile) }
         ensures names { IfOk result (λ profile. All (IsOf names.now) profile.lines) }
     {
-        keys.each_once();
-        names.each_once();
-        let branches = class_branches(alloc, samples.branches, places)?;
-        let ranges = class_ranges(alloc, samples.ranges, places)?;
-        let tree = tree_of(alloc, &branches, &ranges, places, segments, 0, keys, names)?;
-        Ok(Profile {
-            tree,
-            branches,
-            ranges,
-            units: samples.units,
-        })
+        Profile::with_known(alloc, samples, places, segments, 0, keys, names)
     }
 
     /// The same, where each key has a line whose function stands there: with count 0 where it has
@@ -127,11 +117,44 @@ impl Profile {
             → IsProfileWithCold program sampled names.now keys.now profile) }
         ensures names { IfOk result (λ profile. All (IsOf names.now) profile.lines) }
     {
+        Profile::with_known(alloc, samples, places, segments, keys.len(), keys, names)
+    }
+
+    /// The profile in which each of the first `known` keys has a line whose function stands there.
+    fn with_known<P: Places>(
+        alloc: Global,
+        samples: &Samples<'_>,
+        places: &P,
+        segments: &[Seg],
+        known: u32,
+        keys: &Keys,
+        names: &Names,
+    ) -> Result<Profile, NoMemory>
+        requires segments { AreSegments segments.now }
+        requires fit { AllFit (length keys.now) segments.now }
+        requires known { known ≤ length keys.now }
+        requires key_names { All (HasNames (length names.now)) keys.now }
+        requires few_branches { total_in samples.now.branches.now ≤ max_branches }
+        requires few_ranges { total_in samples.now.ranges.now ≤ max_branches }
+        requires shown { (program : Program) × TellsProgram program names.now keys.now segments.now
+            (P.place_of places.now) (P.function_of places.now) (P.entry_name_of places.now) }
+        ensures told { IfOk result (λ profile. known ≡ 0 → (program : Program) (sampled : Sampled)
+            → TellsProgram program names.now keys.now segments.now
+            (P.place_of places.now) (P.function_of places.now) (P.entry_name_of places.now)
+            → TellsSampled sampled samples.now.branches.now samples.now.ranges.now samples.now.units
+            → IsProfileOf program sampled names.now segments.now profile) }
+        ensures cold { IfOk result (λ profile. known ≡ length keys.now
+            → (program : Program) (sampled : Sampled)
+            → TellsProgram program names.now keys.now segments.now
+            (P.place_of places.now) (P.function_of places.now) (P.entry_name_of places.now)
+            → TellsSampled sampled samples.now.branches.now samples.now.ranges.now samples.now.units
+            → IsProfileWithCold program sampled names.now keys.now profile) }
+        ensures names { IfOk result (λ profile. All (IsOf names.now) profile.lines) }
+    {
         keys.each_once();
         names.each_once();
         let branches = class_branches(alloc, samples.branches, places)?;
         let ranges = class_ranges(alloc, samples.ranges, places)?;
-        let known = keys.len();
         let tree = tree_of(
             alloc, &branches, &ranges, places, segments, known, keys, names,
         )?;

@@ -7,6 +7,7 @@ use Rattle.std.proofs.lemmas.Bool.{true≢false}
 use Rattle.std.proofs.lemmas.Grind.{reverse_onto}
 use Rattle.std.proofs.lemmas.List.Elements.{recursion_from_All}
 use Rattle.std.proofs.lemmas.List.Sorted.{IsPermutation-reverse, IsPermutation-sym, IsPermutation-trans}
+use Rattle.list_lemmas.proofs.Tests.{by_test}
 use Rattle.address_spans.proofs.SpanLemmas.{owner-hit, owner-miss}
 use Rattle.address_spans.specs.Spans.{holds, owner_at}
 use Rattle.address_spans.specs.declared.span.Span.{Span}
@@ -14,7 +15,6 @@ use Rattle.line_lift.specs.Largest.{IsLargest}
 use Rattle.line_lift.specs.Spans.{IsOwnerOver}
 use Rattle.line_lift.proofs.AmongLemmas.{all_append, among_all, among_one, among_permuted, one_among}
 use Rattle.line_lift.proofs.LargestLemmas.{largest_of_larger}
-use Rattle.line_lift.proofs.OwnerLemmas.{by_test}
 
 -- no owner is above one before it, or below
 abbrev Fall : List Span → Type 0

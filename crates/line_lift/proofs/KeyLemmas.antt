@@ -1,6 +1,7 @@
 -- The counts of keys, segment by segment.
 use Rattle.std.proofs.Common.{◌≡◌, ◌⊎◌, ℕ, zero, suc, ◌+◌, ◌<◌, ◌≤◌, ◌^◌, ◌-◌, List, [], ◌∷◌, ◌++◌, Option, None, Some, refl, sym, ap, subst, ◌∙◌, arith, inl, inr, length, map, take, set, get_or, get_or-set_other, get_or-set_same}
 use Rattle.std.specs.Option.{option_map}
+use Rattle.std.proofs.lemmas.Bool.{cases_eq}
 use Rattle.std.proofs.lemmas.List.{length-set, take_more, take_all}
 use Rattle.address_spans.specs.Spans.{AreBetween, owner_at}
 use Rattle.address_spans.specs.declared.span.Span.{Span}
@@ -34,9 +35,6 @@ KeysSoFar-none segments count keys held len none = record {
     empty [] s h = h
     empty (x ∷ segments) s h = h
 
-same_key : (id key : ℕ) → (id ≡ key) ⊎ (id ≡ key → ⊥)
-same_key id key = grind arith
-
 -- one segment more
 pub KeysSoFar-more : (segments : List Seg) (count : ℕ → Option ℕ) (keys done : ℕ) (held : List (Option ℕ)) (s d : Seg) (over : Option ℕ) → done < length segments → s ≡ get_or segments done d → s.key.0 < keys
     → IsLargest (IsCountIn count s.lo s.hi) over → KeysSoFar segments count keys done held
@@ -45,7 +43,7 @@ KeysSoFar-more segments count keys done held s d over within is low largest so_f
     let longer : take (done + 1) segments ≡ take done segments ++ s ∷ [] = take_more segments done d within ∙ ap (λ y. take done segments ++ y ∷ []) (sym is) in
     record {
       len = length-set held s.key.0 (larger (get_or held s.key.0 None) over) ∙ so_far.len;
-      largest = λ id inside. subst (λ (ys : List Seg). IsLargest (IsCountOver ys count id) (get_or (set held s.key.0 (larger (get_or held s.key.0 None) over)) id None)) (sym longer) (by id inside (same_key id s.key.0));
+      largest = λ id inside. subst (λ (ys : List Seg). IsLargest (IsCountOver ys count id) (get_or (set held s.key.0 (larger (get_or held s.key.0 None) over)) id None)) (sym longer) (by id inside (cases_eq id s.key.0));
     }
   where
     left_in : (id n : ℕ) → IsCountOver (take done segments) count id n → IsCountOver (take done segments ++ s ∷ []) count id n

@@ -1,8 +1,9 @@
 -- Owners of spans that ascend, and which spans lie over some addresses.
-use Rattle.std.proofs.Common.{◌≡◌, ◌⊎◌, ℕ, suc, ◌+◌, ◌<◌, ◌≤◌, ◌^◌, ◌-◌, max, Bool, true, false, List, [], ◌∷◌, ◌++◌, Option, None, Some, refl, sym, ap, subst, ◌∙◌, arith, inl, inr, length, take, drop, drop-cons, get_or}
+use Rattle.std.proofs.Common.{◌≡◌, ◌⊎◌, ℕ, suc, ◌+◌, ◌<◌, ◌≤◌, ◌^◌, ◌-◌, max, true, List, [], ◌∷◌, ◌++◌, Option, None, Some, refl, sym, ap, subst, ◌∙◌, arith, inl, inr, length, take, drop, drop-cons, get_or}
 use Rattle.std.specs.List.{AllByRecursion}
 use Rattle.std.proofs.lemmas.Bool.Decides.{nat_tests}
 use Rattle.std.proofs.lemmas.List.{drop_all, length-drop, take-append-drop, take_all, take_more}
+use Rattle.list_lemmas.proofs.Tests.{by_test}
 use Rattle.address_spans.specs.declared.span.Span.{Span}
 use Rattle.address_spans.specs.Spans.{AreBetween, AreDisjoint, holds, owner_at}
 use Rattle.address_spans.proofs.SearchLemmas.{IsFirstBehind}
@@ -14,10 +15,6 @@ use Rattle.line_lift.proofs.AmongLemmas.{Among, all_append, all_back, all_front,
 
 pub is_held : (x : Span) (a : ℕ) → holds a x ≡ true → (x.lo ≤ a) × (a < x.hi)
 is_held x a e = (grind (arith, nat_tests), grind (arith, nat_tests))
-
-pub by_test : {P : Type 0} (t : Bool) → (t ≡ true → P) → (t ≡ false → P) → P
-by_test true when unless = when refl
-by_test false when unless = unless refl
 
 pub same_some : {T : Type 0} (x y : T) → Some x ≡ Some y → x ≡ y
 same_some x y e = cc

@@ -4,7 +4,7 @@ use Rattle.std.specs.Prelude.{◌==◌, codes, not, unwrap_or}
 use Rattle.std.specs.List.{list_all, list_any, position_or_len, starts_with}
 use Rattle.std.specs.Option.{option_map}
 use Rattle.std.specs.Str.{bytes_eq}
-use Rattle.std.proofs.lemmas.Bool.{eq-eqb, eqb-true, lt-ltb, ltb-true, ltb-false}
+use Rattle.std.proofs.lemmas.Bool.{and_parts, eq-eqb, eqb-true, lt-ltb, ltb-true, ltb-false, or_parts}
 use Rattle.std.proofs.lemmas.Bool.Decides.{Decides-eqb, nat_tests}
 use Rattle.std.proofs.lemmas.List.{drop_at, length-append}
 use Rattle.std.proofs.lemmas.Slice.Eq.{bytes_eq-Decides, starts_is}
@@ -15,15 +15,7 @@ use Rattle.sample_model.specs.Line.{◌>>=◌, address_of}
 use Rattle.sample_model.specs.Loads.{LoadLine, behind_at, behind_ending, behind_field, behind_first, behind_where, count_before, extent_of, first_field, from_field, is_field_end, load_line_of, name_in, offset_of, parts_at}
 use Rattle.reading_laws.specs.LoadLines.{StandFirst, BeginsWithField, SpellsExtent, SpellsName, SpellsLoad, LoadLinesAreSpelled}
 
--- ---- booleans and options
-
-both : (a b : Bool) → (a && b) ≡ true → (a ≡ true) × (b ≡ true)
-both true b is = (refl, is)
-both false b is = absurd cc
-
-neither : (a b : Bool) → (a || b) ≡ false → (a ≡ false) × (b ≡ false)
-neither true b is = absurd cc
-neither false b is = (refl, is)
+-- ---- options
 
 some-from : {A B : Type 0} (o : Option A) (f : A → Option B) (y : B) → (o >>= f) ≡ Some y → (x : A) × (o ≡ Some x) × (f x ≡ Some y)
 some-from None f y is = absurd (let none : None ≡ Some y = is in cc)
@@ -61,7 +53,7 @@ stand-found passes bytes (b ∷ text) rest found = by_here (λ later. stand-foun
     by_here : (behind_where passes bytes text ≡ Some rest → StandFirst passes bytes text rest) → (t : Bool) → stands passes bytes (b ∷ text) ≡ t → cond t (Some (drop (length bytes) (b ∷ text))) (behind_where passes bytes text) ≡ Some rest
         → StandFirst passes bytes (b ∷ text) rest
     by_here again true is here =
-        let two = both (starts_with nat_eq (b ∷ text) bytes) (passes (drop (length bytes) (b ∷ text))) is in
+        let two = and_parts (starts_with nat_eq (b ∷ text) bytes) (passes (drop (length bytes) (b ∷ text))) is in
         let same : drop (length bytes) (b ∷ text) ≡ rest = cc here in
         record {
           front = [];
@@ -157,7 +149,7 @@ from-filled b text is =
 from-blanks : (blanks text : List ℕ) → list_all is_blank blanks ≡ true → from_field (blanks ++ text) ≡ from_field text
 from-blanks [] text all = refl
 from-blanks (b ∷ blanks) text all =
-    let two = both (is_blank b) (list_all is_blank blanks) all in
+    let two = and_parts (is_blank b) (list_all is_blank blanks) all in
     from-blank b (blanks ++ text) two.0 ∙ from-blanks blanks text two.1
 
 -- the blanks in front of a text
@@ -208,7 +200,7 @@ run-is : (field rest : List ℕ) → list_any is_blank field ≡ false → is_fi
 run-is [] [] unbroken whole = (refl, refl)
 run-is [] (b ∷ rest) unbroken whole = run-blank b rest whole
 run-is (f ∷ field) rest unbroken whole =
-    let two = neither (is_blank f) (list_any is_blank field) unbroken in
+    let two = or_parts (is_blank f) (list_any is_blank field) unbroken in
     let one = run-filled f (field ++ rest) two.0 in
     let later = run-is field rest two.1 whole in
     (one.0 ∙ ap (λ t. f ∷ t) later.0, one.1 ∙ later.1)
@@ -253,7 +245,7 @@ field-there text some =
 
 from-field : (field rest : List ℕ) → 0 < length field → list_any is_blank field ≡ false → from_field (field ++ rest) ≡ field ++ rest
 from-field [] rest some unbroken = absurd (omega (arith, some))
-from-field (f ∷ field) rest some unbroken = from-filled f (field ++ rest) (neither (is_blank f) (list_any is_blank field) unbroken).0
+from-field (f ∷ field) rest some unbroken = from-filled f (field ++ rest) (or_parts (is_blank f) (list_any is_blank field) unbroken).0
 
 field-back : (text field rest : List ℕ) → BeginsWithField text field rest → (first_field text ≡ field) × (behind_field text ≡ rest)
 field-back text field rest is =
@@ -333,7 +325,7 @@ parts-found byte (b ∷ text) parts found = by_test (λ later there. parts-found
 parts-back : (byte : ℕ) (front rest : List ℕ) → list_any (is_byte byte) front ≡ false → parts_at byte (front ++ byte ∷ rest) ≡ Some (front, rest)
 parts-back byte [] rest none = parts-here byte byte rest (eq-eqb byte byte refl)
 parts-back byte (b ∷ front) rest none =
-    let two = neither (b == byte) (list_any (is_byte byte) front) none in
+    let two = or_parts (b == byte) (list_any (is_byte byte) front) none in
     parts-later byte b (front ++ byte ∷ rest) two.0 ∙ ap (option_map (longer b)) (parts-back byte front rest two.1)
 
 -- ---- the parts of a load line
@@ -367,7 +359,7 @@ extent-found field extent found =
     let start = some-from (parts_at 40 bracket.0.1) _ extent bracket.2 in
     let len = some-from (parts_at 41 start.0.1) _ extent start.2 in
     let whole = unless-true (is_filled bracket.0.0 || is_filled len.0.1) _ extent len.2 in
-    let none = neither (is_filled bracket.0.0) (is_filled len.0.1) whole.0 in
+    let none = or_parts (is_filled bracket.0.0) (is_filled len.0.1) whole.0 in
     let first = some-from (address_of start.0.0) _ extent whole.1 in
     let count = some-from (address_of len.0.0) _ extent first.2 in
     let same : (first.0, count.0) ≡ extent = cc count.2 in

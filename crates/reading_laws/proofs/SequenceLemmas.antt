@@ -1,9 +1,9 @@
 -- Sequences and rows, by where the rows stand.
 use Rattle.std.proofs.Common.{◌≡◌, ℕ, zero, suc, ◌+◌, ◌<◌, ◌≤◌, Bool, true, false, cond, nat_le, nat_lt, List, [], ◌∷◌, ◌++◌, length, get_or, map, reverse, Option, None, Some, refl, sym, ap, subst, ◌∙◌, arith}
-use Rattle.std.specs.Prelude.{◌&&◌, slice_get, find, filter}
+use Rattle.std.specs.Prelude.{slice_get, find, filter}
 use Rattle.std.specs.List.{onto_first, slice_split, zip}
 use Rattle.std.specs.Option.{option_or}
-use Rattle.std.proofs.lemmas.Bool.{ltb-true, leb-true, leb-false}
+use Rattle.std.proofs.lemmas.Bool.{and_parts, ltb-true, leb-true, leb-false}
 use Rattle.std.proofs.lemmas.Bool.Decides.{nat_tests}
 use Rattle.std.proofs.lemmas.List.{reverse-append}
 use Rattle.std.proofs.lemmas.List.Elements.{All-cons, All-head, All-tail}
@@ -97,10 +97,6 @@ sequences-cut rows sequences = (only rows sequences, λ is. subst (λ (ss : List
 
 -- ---- live sequences
 
-both : (a b : Bool) → (a && b) ≡ true → (a ≡ true) × (b ≡ true)
-both true b is = (refl, is)
-both false b is = absurd cc
-
 abbrev NotAbove : Row → Row → Type 0
 NotAbove before behind = before.address ≤ behind.address
 
@@ -109,7 +105,7 @@ places_of rows = map (λ (row : Row). row.address) rows
 
 rises-step : (a b : ℕ) (rest : List ℕ) → never_fall (a ∷ b ∷ rest) ≡ true → (a ≤ b) × (never_fall (b ∷ rest) ≡ true)
 rises-step a b rest rises =
-    let two = both (nat_le a b) (never_fall (b ∷ rest)) rises in
+    let two = and_parts (nat_le a b) (never_fall (b ∷ rest)) rises in
     (leb-true a b two.0, two.1)
 
 ascends : (rows : List Row) → never_fall (places_of rows) ≡ true → Ascend rows
@@ -133,7 +129,7 @@ rises (row ∷ next ∷ rows) ascend =
 live-is : (file : List ℕ) (rows : List Row) (end : Row) → is_live_sequence file (record { rows = rows; end = end }) ≡ true → IsLive file (record { rows = rows; end = end })
 live-is file [] end live = absurd cc
 live-is file (row ∷ rows) end live =
-    let two = both (is_live file row.address end.address) (never_fall (places_of (row ∷ rows ++ end ∷ []))) live in
+    let two = and_parts (is_live file row.address end.address) (never_fall (places_of (row ∷ rows ++ end ∷ []))) live in
     record { first = row; begins = refl; code = two.0; ascends = ascends (row ∷ rows ++ end ∷ []) two.1 }
 
 is-live : (file : List ℕ) (rows : List Row) (end : Row) → IsLive file (record { rows = rows; end = end }) → is_live_sequence file (record { rows = rows; end = end }) ≡ true
@@ -263,7 +259,7 @@ covers-found address (x ∷ rows) end row (suc place) next up there behind from 
 
 held-below : (address : ℕ) (rows : List Row) (end : Row) → holds address (record { rows = rows; end = end }) ≡ true → address < end.address
 held-below address [] end held = absurd cc
-held-below address (row ∷ rows) end held = ltb-true address end.address (both (nat_le row.address address) (nat_lt address end.address) held).1
+held-below address (row ∷ rows) end held = ltb-true address end.address (and_parts (nat_le row.address address) (nat_lt address end.address) held).1
 
 pub rows-cover : RowsCoverAddresses
 rows-cover sequence address row up held = (

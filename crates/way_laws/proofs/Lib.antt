@@ -1,3 +1,4 @@
+pub mod EachLemmas
 pub mod RowLemmas
 pub mod NameLemmas
 pub mod PlaceLemmas

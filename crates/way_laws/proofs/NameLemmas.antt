@@ -1,9 +1,9 @@
 -- The names that a program tells are names, and its calls have discriminators of 32 bits.
-use Rattle.std.proofs.Common.{◌≡◌, ◌<◌, ◌≤◌, ◌^◌, ℕ, zero, suc, ◌+◌, Bool, true, false, List, [], ◌∷◌, ◌++◌, length, Option, None, Some, Result, Ok, Err, refl, arith}
+use Rattle.std.proofs.Common.{◌≡◌, ◌<◌, ◌≤◌, ◌^◌, ℕ, zero, suc, ◌+◌, Bool, true, false, List, [], ◌∷◌, length, Option, None, Some, Result, Ok, Err, refl, arith}
 use Rattle.std.specs.Prelude.{⊤, if◌then◌else◌, nat_lt}
 use Rattle.std.proofs.lemmas.Bool.Decides.{nat_tests}
 use Rattle.std.specs.List.{AllByRecursion, flat_map}
-use Rattle.std.proofs.ByRecursion.{All-append}
+use Rattle.list_lemmas.proofs.Each.{all_append, all_push}
 use Rattle.refusal.specs.declared.kind.Kind.TheVariants.{InlineTooDeep}
 use Rattle.refusal.specs.declared.place.Place.{Place}
 use Rattle.refusal.specs.Place.{in_binary}
@@ -73,10 +73,6 @@ AreTold = AllByRecursion IsTold
 
 abbrev IsTree : Tree → Type 0
 IsTree tree = AllByRecursion AreTold tree.functions
-
-all_push : {X : Type 0} (P : X → Type 0) (xs : List X) (x : X) → AllByRecursion P xs → P x → AllByRecursion P (xs ++ x ∷ [])
-all_push P [] x all is = (is, tt)
-all_push P (y ∷ xs) x all is = (all.0, all_push P xs x all.1 is)
 
 member_added : (number : ℕ) (call : Told) (functions : List (List Told)) → AllByRecursion AreTold functions → IsTold call → AllByRecursion AreTold (with_member number call functions)
 member_added number call [] all is = tt
@@ -149,7 +145,7 @@ next_units_kept source number (unit ∷ rest) tree kept =
 
 flat : (functions : List (List Told)) → AllByRecursion AreTold functions → AreTold (flat_map (λ function. function) functions)
 flat [] all = tt
-flat (function ∷ functions) all = All-append IsTold function (flat_map (λ f. f) functions) all.0 (flat functions all.1)
+flat (function ∷ functions) all = all_append IsTold function (flat_map (λ f. f) functions) all.0 (flat functions all.1)
 
 members_told : (source : Source) → Of AreTold (members source)
 unfolding members

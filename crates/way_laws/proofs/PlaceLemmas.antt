@@ -1,5 +1,5 @@
 -- The ways of a program's places are ways that lines can tell.
-use Rattle.std.proofs.Common.{◌≡◌, ◌<◌, ◌≤◌, ◌+◌, ◌*◌, ◌/◌, ◌%◌, ◌^◌, ◌==◌, ℕ, zero, suc, Bool, true, false, cond, List, [], ◌∷◌, ◌++◌, map, find, take, length, Option, None, Some, option_map, refl, sym, ap, ◌∙◌, arith, append_assoc}
+use Rattle.std.proofs.Common.{◌≡◌, ◌<◌, ◌≤◌, ◌+◌, ◌*◌, ◌/◌, ◌%◌, ◌^◌, ◌==◌, ℕ, zero, suc, Bool, true, false, List, [], ◌∷◌, ◌++◌, map, take, length, Option, None, Some, option_map, refl, sym, ap, ◌∙◌, arith, append_assoc}
 use Rattle.std.specs.Prelude.{⊤, if◌then◌else◌, nat_lt, option_and_then, slice_get, unwrap_or}
 use Rattle.std.specs.List.{AllByRecursion, enumerate_from, prefix_len}
 use Rattle.std.specs.Option.{option_map_or}
@@ -10,7 +10,7 @@ use Rattle.key_types.specs.declared.key.Key.{Key}
 use Rattle.key_types.specs.Discriminators as packed
 use Rattle.chain_model.specs.Chains.{below, chain, chain_among, first_at, function_of, holds, holds_at, numbered}
 use Rattle.chain_model.specs.Places as by_number
-use Rattle.chain_model.specs.Places.{LineAndDisc, chain_members, entry_name, frame, frames, is_entered_at, kept, key, last_start, line_offset, place_at, place_by, place_of, row_of}
+use Rattle.chain_model.specs.Places.{LineAndDisc, chain_members, frame, frames, is_entered_at, kept, key, last_start, line_offset, place_at, place_by, place_of, row_of}
 use Rattle.chain_model.specs.declared.member.Member.{Member}
 use Rattle.profile_model.proofs.StepLemmas.{and_first, nat_same}
 use Rattle.profile_model.specs.Names.{is_name}
@@ -21,6 +21,7 @@ use Rattle.binary_model.specs.Addresses.{entered_at}
 use Rattle.binary_model.specs.Binary.{members_in, tables_in}
 use Rattle.binary_model.specs.Places.{Place, at_way, in_names, name_of, names_of, nameless, no_line, numbered_from, outside, place_among, place_of_address, row_in, way_of}
 use Rattle.way_laws.specs.Rows.{HasDisc}
+use Rattle.way_laws.proofs.EachLemmas.{OfSome, one_found}
 use Rattle.way_laws.proofs.NameLemmas.{AreTold, IsNameIfAny, members_are_told}
 use Rattle.way_laws.proofs.RowLemmas.{rows_have_discriminators}
 
@@ -65,10 +66,6 @@ members_named : (file : List ℕ) → AllByRecursion (IsMember (names_of (member
 members_named file = numbered_members (names_of (members_in file)) [] 0 (members_in file) refl refl (members_are_told file)
 
 -- ---- chains are of members
-
-abbrev OfSome : {X : Type 0} → (X → Type 0) → Option X → Type 0
-OfSome P None = ⊤
-OfSome P (Some x) = P x
 
 all_numbered : (P : Member → Type 0) (n : ℕ) (members : List Member) → AllByRecursion P members → AllByRecursion (λ (m : ℕ × Member). P m.1) (enumerate_from n members)
 all_numbered P n [] all = tt
@@ -262,18 +259,10 @@ places_are_told file base address =
 
 -- ---- entries
 
-found : {X : Type 0} (P : X → Type 0) (test : X → Bool) (xs : List X) → AllByRecursion P xs → OfSome P (find test xs)
-found P test [] all = tt
-found {X} P test (x ∷ xs) all = by (test x) (found P test xs all.1)
-  where
-    by : (b : Bool) → OfSome P (find test xs) → OfSome P (cond b (Some x) (find test xs))
-    by true rest = all.0
-    by false rest = rest
-
 pub entries_are_named : (file : List ℕ) (address : ℕ) → IsNameIfAny (entered_at file address)
 unfolding entered_at
 entries_are_named file address =
-    by (function_of members address) (found (λ (m : ℕ × Member). IsMember names m.1) (λ member. holds_at 0 address member.1) (numbered members) (all_numbered (IsMember names) 0 members (members_named file)))
+    by (function_of members address) (one_found (λ (m : ℕ × Member). IsMember names m.1) (λ member. holds_at 0 address member.1) (numbered members) (all_numbered (IsMember names) 0 members (members_named file)))
   where
     names : List (List ℕ)
     names = names_of (members_in file)

@@ -1,8 +1,9 @@
 -- Discriminators of rows have 32 bits, since each operation sets one of so many.
 use Rattle.std.proofs.Common.{◌<◌, ◌+◌, ◌-◌, ◌^◌, ℕ, zero, suc, ◌==◌, nat_le, Bool, true, false, List, [], ◌∷◌, ◌++◌, map, filter, find, reverse, length, zip, Option, None, Some, Result, Ok, Err, ℤ, pos, ◌+ℤ◌, option_map, arith}
 use mathlib.Core.List.{reverse_aux}
-use Rattle.std.specs.Prelude.{⊤, codes, cond, nat_lt, if◌then◌else◌, option_and_then, slice_get, slice_index}
+use Rattle.std.specs.Prelude.{⊤, codes, nat_lt, if◌then◌else◌, option_and_then, slice_get, slice_index}
 use Rattle.std.specs.List.{AllByRecursion, slice_split, onto_first}
+use Rattle.list_lemmas.proofs.Each.{all_push}
 use Rattle.refusal.specs.declared.kind.Kind.{Kind}
 use Rattle.refusal.specs.Place.{in_binary}
 use Rattle.refusal.specs.declared.kind.Kind.TheVariants.{PastSection, TooManyRows}
@@ -28,10 +29,7 @@ use Rattle.binary_model.specs.Binary.{list_or_none, rows_read, tables_in, units_
 use Rattle.binary_model.specs.LinePrograms.{next_rows, row_count, rows_behind as rows_of_rest, rows_by, rows_from, rows_if, rows_of_unit, rows_of_units}
 use Rattle.binary_model.specs.Sections.{section_at}
 use Rattle.way_laws.specs.Rows.{HasDisc, RowsHaveDiscriminators}
-
-abbrev OfSome : {X : Type 0} → (X → Type 0) → Option X → Type 0
-OfSome P None = ⊤
-OfSome P (Some x) = P x
+use Rattle.way_laws.proofs.EachLemmas.{OfSome, all_filtered, either_all, one_found}
 
 -- ---- operations
 
@@ -193,10 +191,6 @@ abbrev Of : {X E : Type 0} → (X → Type 0) → Result X E → Type 0
 Of P (Ok x) = P x
 Of P (Err e) = ⊤
 
-all_push : {X : Type 0} (P : X → Type 0) (xs : List X) (x : X) → AllByRecursion P xs → P x → AllByRecursion P (xs ++ x ∷ [])
-all_push P [] x all is = (is, tt)
-all_push P (y ∷ xs) x all is = (all.0, all_push P xs x all.1 is)
-
 added : (before : ℕ) (machine : Machine) (registers : Registers) (row : Option Row) → IsMachine machine → registers.disc < 2 ^ 32 → IsRowIfAny row → Of IsMachine (with_added before machine registers row)
 added before machine registers None is small row = (small, is.1)
 added before machine registers (Some row) is small has = by (is_full before machine.rows)
@@ -296,14 +290,6 @@ listed P (Err place) all = tt
 AreIn : Sequence → Type 0
 AreIn sequence = AllByRecursion IsRow sequence.rows
 
-either_all : {X : Type 0} (P : X → Type 0) (b : Bool) (xs ys : List X) → AllByRecursion P xs → AllByRecursion P ys → AllByRecursion P (if b then xs else ys)
-either_all P true xs ys one other = one
-either_all P false xs ys one other = other
-
-filtered : {X : Type 0} (P : X → Type 0) (test : X → Bool) (xs : List X) → AllByRecursion P xs → AllByRecursion P (filter test xs)
-filtered P test [] all = tt
-filtered P test (x ∷ xs) all = let rest = filtered P test xs all.1 in either_all P (test x) (x ∷ filter test xs) (filter test xs) (all.0, rest) rest
-
 onto : {X : Type 0} (P : X → Type 0) (x : X) (parts : List (List X)) → P x → AllByRecursion (AllByRecursion P) parts → AllByRecursion (AllByRecursion P) (onto_first x parts)
 onto P x [] is all = ((is, tt), tt)
 onto P x (part ∷ parts) is all = ((is, all.0), all.1)
@@ -321,7 +307,7 @@ zipped (piece ∷ pieces) [] all = tt
 zipped (piece ∷ pieces) (end ∷ last) all = (all.0, zipped pieces last all.1)
 
 live : (file : List ℕ) (rows : List Row) → AllByRecursion IsRow rows → AllByRecursion AreIn (live_sequences file rows)
-live file rows all = filtered AreIn _ (sequences_of rows) (zipped (slice_split ends rows) (filter ends rows) (parts IsRow ends rows all))
+live file rows all = all_filtered AreIn _ (sequences_of rows) (zipped (slice_split ends rows) (filter ends rows) (parts IsRow ends rows all))
 
 abbrev AreSequences : Option (List Sequence) → Type 0
 AreSequences None = ⊤
@@ -334,14 +320,6 @@ tables file (Some rows ∷ units) all = (live file rows all.0, tables file units
 
 -- ---- the row of an address
 
-found : {X : Type 0} (P : X → Type 0) (test : X → Bool) (xs : List X) → AllByRecursion P xs → OfSome P (find test xs)
-found P test [] all = tt
-found {X} P test (x ∷ xs) all = by (test x) (found P test xs all.1)
-  where
-    by : (b : Bool) → OfSome P (find test xs) → OfSome P (cond b (Some x) (find test xs))
-    by true rest = all.0
-    by false rest = rest
-
 turned_onto : {X : Type 0} (P : X → Type 0) (xs more : List X) → AllByRecursion P xs → AllByRecursion P more → AllByRecursion P (reverse_aux xs more)
 turned_onto P [] more all behind = behind
 turned_onto P (x ∷ xs) more all behind = turned_onto P xs (x ∷ more) all.1 (all.0, behind)
@@ -351,11 +329,11 @@ turned P xs all = turned_onto P xs [] all tt
 
 row_found : (sequences : List Sequence) (address : ℕ) → AllByRecursion AreIn sequences → OfSome IsRow (row_among sequences address)
 unfolding AreIn
-row_found sequences address all = by (find (holds address) sequences) (found AreIn (holds address) sequences all)
+row_found sequences address all = by (find (holds address) sequences) (one_found AreIn (holds address) sequences all)
   where
     by : (o : Option Sequence) → OfSome AreIn o → OfSome IsRow (option_and_then (row_of_sequence address) o)
     by None is = tt
-    by (Some sequence) is = found IsRow (λ row. nat_le row.address address) (reverse sequence.rows) (turned IsRow sequence.rows is)
+    by (Some sequence) is = one_found IsRow (λ row. nat_le row.address address) (reverse sequence.rows) (turned IsRow sequence.rows is)
 
 at_number : {X : Type 0} (P : X → Type 0) (xs : List X) (n : ℕ) → AllByRecursion P xs → OfSome P (slice_get xs n)
 at_number P [] n all = tt

@@ -2,7 +2,7 @@
 use Rattle.std.proofs.Common.{◌≡◌, ◌≤◌, ◌+◌, ◌-◌, ℕ, nat_lt, not, ◌&&◌, Bool, true, false, List, [], ◌∷◌, ◌++◌, drop, length, map, take, zip, Option, None, Some, refl, sym, ap, subst, ◌∙◌, inl, inr, arith, append_assoc, append-nil}
 use Rattle.std.specs.List.{enumerate_from, flat_map}
 use Rattle.std.specs.Option.{option_map, option_or}
-use Rattle.std.proofs.lemmas.Bool.{cases_lt, le-leb, lt-ltb}
+use Rattle.std.proofs.lemmas.Bool.{cases_lt, lt-ltb}
 use Rattle.std.proofs.lemmas.Grind.{flat_map-append}
 use Rattle.std.proofs.lemmas.List.{length-append, length-map, take_at}
 use Rattle.refusal.specs.declared.kind.Kind.{Kind}
@@ -11,6 +11,7 @@ use Rattle.refusal.specs.declared.place.Place.{Place}
 use Rattle.refusal.specs.Place.{fails_at, first_bad, first_cause, size_item}
 use Rattle.refusal.proofs.PlaceLemmas.{first_bad-append}
 use Rattle.text_model.specs.Lines.{lines_of}
+use Rattle.sample_model.proofs.JudgingLemmas.{judged_lines_of-whole}
 use Rattle.sample_model.specs.Judging.{cause_of_line, first_bad_of_text, item_of_line, items_of_lines, judged_lines_of}
 use Rattle.sample_model.specs.Limits.{max_branches, max_entries, max_line_bytes, max_text_bytes}
 use Rattle.sample_model.specs.Line.{branches_of_line, is_sample, is_well_formed}
@@ -79,16 +80,12 @@ small_text file text none = elim (cases_lt max_text_bytes (length text)) as (λ 
     some true e f = absurd cc
     some false e f = absurd cc
 
-judged_all : (text : List ℕ) → length text ≤ max_text_bytes → judged_lines_of text ≡ lines_of text
-unfolding judged_lines_of
-judged_all text small = rw (le-leb (length text) max_text_bytes small) refl
-
 pub branches_are_few : (file : ℕ) (text : List ℕ) → first_bad_of_text file text ≡ None → length (branches_of_lines (lines_of text)) ≤ max_branches
 unfolding items_of_lines
 branches_are_few file text good =
     let parts = neither _ _ (sym (first_bad-append (items_of_lines file (judged_lines_of text)) (size_item file max_text_bytes text ∷ [])) ∙ good) in
     let small = small_text file text (first_none _ [] parts.1).0 in
-    let all = judged_all text small in
+    let all = judged_lines_of-whole text small in
     few_behind file (lines_of text) [] (lines_of text) 1 refl refl (omega arith)
     (subst (λ (ls : List (List ℕ)). first_bad (map (item_of_line file ls) (enumerate_from 1 ls)) ≡ None) all parts.0)
 

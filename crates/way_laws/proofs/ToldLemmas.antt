@@ -1,10 +1,9 @@
 -- The profile of a binary and a good branch text can be told.
-use Rattle.std.proofs.Common.{◌≡◌, ◌<◌, ◌≤◌, ◌^◌, ℕ, Bool, true, false, cond, List, [], ◌∷◌, filter, filter_map, length, map, Option, None, Some, option_map, refl, arith}
-use Rattle.std.specs.Prelude.{⊤}
-use Rattle.std.specs.List.{AllByRecursion, cons_option}
+use Rattle.std.proofs.Common.{◌≡◌, ◌<◌, ◌≤◌, ◌^◌, ℕ, Bool, true, List, [], ◌∷◌, filter_map, length, Option, None, Some, option_map, refl, arith}
+use Rattle.std.specs.List.{AllByRecursion}
 use Rattle.std.specs.declared.cmp.Ordering.{Ordering}
 use Rattle.std.specs.declared.cmp.Ordering.TheVariants.{Less, Equal, Greater}
-use Rattle.std.proofs.ByRecursion.{All-append}
+use Rattle.list_lemmas.proofs.Each.{all_append}
 use Rattle.text_model.specs.Lines.{lines_of}
 use Rattle.asked_laws.proofs.ProfileLemmas.{count_is}
 use Rattle.profile_model.specs.Names.{is_name}
@@ -19,35 +18,12 @@ use Rattle.output_model.specs.Program.{program_of, way_at, way_of_place}
 use Rattle.output_model.specs.Sampled.{all_addresses, call_by, call_of, count_among, head_of as entry_of, profile_among, profile_of, ways_among}
 use Rattle.way_laws.specs.Told.{ProfilesCanBeTold}
 use Rattle.way_laws.proofs.CountLemmas.{calls_few, count_low, heads_few}
+use Rattle.way_laws.proofs.EachLemmas.{OfSome, all_filtered, all_found, all_mapped}
 use Rattle.way_laws.proofs.NameLemmas.{IsNameIfAny}
 use Rattle.way_laws.proofs.PlaceLemmas.{IsToldPlace, entries_are_named, places_are_told}
 use Rattle.way_laws.proofs.SampleLemmas.{branches_are_few, branches_by_few, ranges_by_few}
 
--- ---- lists
-
-either_all : {X : Type 0} (P : X → Type 0) (b : Bool) (xs ys : List X) → AllByRecursion P xs → AllByRecursion P ys → AllByRecursion P (cond b xs ys)
-either_all P true xs ys one other = one
-either_all P false xs ys one other = other
-
-filtered : {X : Type 0} (P : X → Type 0) (test : X → Bool) (xs : List X) → AllByRecursion P xs → AllByRecursion P (filter test xs)
-filtered P test [] all = tt
-filtered P test (x ∷ xs) all = let rest = filtered P test xs all.1 in either_all P (test x) (x ∷ filter test xs) (filter test xs) (all.0, rest) rest
-
-mapped : {X Y : Type 0} (P : X → Type 0) (Q : Y → Type 0) (f : X → Y) (xs : List X) → ((x : X) → P x → Q (f x)) → AllByRecursion P xs → AllByRecursion Q (map f xs)
-mapped P Q f [] gives all = tt
-mapped P Q f (x ∷ xs) gives all = (gives x all.0, mapped P Q f xs gives all.1)
-
-abbrev OfSome : {X : Type 0} → (X → Type 0) → Option X → Type 0
-OfSome P None = ⊤
-OfSome P (Some x) = P x
-
-one_found : {X : Type 0} (P : X → Type 0) (o : Option X) (xs : List X) → OfSome P o → AllByRecursion P xs → AllByRecursion P (cons_option o xs)
-one_found P None xs is all = all
-one_found P (Some x) xs is all = (is, all)
-
-found : {X Y : Type 0} (P : Y → Type 0) (f : X → Option Y) (xs : List X) → ((x : X) → OfSome P (f x)) → AllByRecursion P (filter_map f xs)
-found P f [] gives = tt
-found P f (x ∷ xs) gives = one_found P (f x) (filter_map f xs) (gives x) (found P f xs gives)
+-- ---- lists in order
 
 placed_all : {X : Type 0} (P : X → Type 0) (r : Ordering) (x y : X) (items more : List X) → P x → AllByRecursion P (y ∷ items) → AllByRecursion P more → AllByRecursion P (placed r x y items more)
 placed_all P Less x y items more is all also = (is, all)
@@ -79,7 +55,7 @@ module _ (file : List ℕ) (base : Bool) where
 
   ways_are : (addresses : List ℕ) → AllByRecursion IsToldWay (ways_among addresses (program_of file base))
   ways_are addresses =
-      ordered_all IsToldWay (way_cmp (λ _. 0)) (filter_map (way_at (program_of file base)) addresses) (found IsToldWay (way_at (program_of file base)) addresses way_is)
+      ordered_all IsToldWay (way_cmp (λ _. 0)) (filter_map (way_at (program_of file base)) addresses) (all_found IsToldWay (way_at (program_of file base)) addresses way_is)
 
   call_is : (way : Option Way) (name : Option (List ℕ)) → OfSome IsToldWay way → IsNameIfAny name → OfSome IsCall (call_by way name)
   call_is None name is named = tt
@@ -87,7 +63,7 @@ module _ (file : List ℕ) (base : Bool) where
   call_is (Some way) (Some name) is named = (is, named)
 
   calls_are : (branches : List (ℕ × ℕ)) → AllByRecursion IsCall (filter_map (call_of (program_of file base)) branches)
-  calls_are branches = found IsCall (call_of (program_of file base)) branches each
+  calls_are branches = all_found IsCall (call_of (program_of file base)) branches each
     where
       each : (branch : ℕ × ℕ) → OfSome IsCall (call_of (program_of file base) branch)
       each (from, to) = call_is _ _ (way_is from) (entries_are_named file to)
@@ -97,27 +73,27 @@ module _ (file : List ℕ) (base : Bool) where
   head_is (Some name) named = named
 
   heads_are : (branches : List (ℕ × ℕ)) → AllByRecursion (λ (h : List ℕ × ℕ). is_name h.0 ≡ true) (filter_map (entry_of (program_of file base)) branches)
-  heads_are branches = found (λ (h : List ℕ × ℕ). is_name h.0 ≡ true) (entry_of (program_of file base)) branches each
+  heads_are branches = all_found (λ (h : List ℕ × ℕ). is_name h.0 ≡ true) (entry_of (program_of file base)) branches each
     where
       each : (branch : ℕ × ℕ) → OfSome (λ (h : List ℕ × ℕ). is_name h.0 ≡ true) (entry_of (program_of file base) branch)
       each (from, to) = head_is _ (entries_are_named file to)
 
   recorded_are : (addresses : List ℕ) (sampled : Sampled) → AllByRecursion IsToldWay (recorded (profile_among addresses (program_of file base) sampled))
   recorded_are addresses sampled =
-      All-append IsToldWay _ _
-      (mapped (λ (c : Way × ℕ). IsToldWay c.0) IsToldWay (λ c. c.0) _ (λ c is. is)
-      (filtered (λ (c : Way × ℕ). IsToldWay c.0) _ _
-      (mapped IsToldWay (λ (c : Way × ℕ). IsToldWay c.0) (λ way. (way, count_among addresses (program_of file base) sampled way)) (ways_among addresses (program_of file base)) (λ way is. is) (ways_are addresses))))
-      (mapped IsCall IsToldWay (λ c. c.0) _ (λ c is. is.0) (filtered IsCall _ _ (calls_are sampled.branches)))
+      all_append IsToldWay _ _
+      (all_mapped (λ (c : Way × ℕ). IsToldWay c.0) IsToldWay (λ c. c.0) _ (λ c is. is)
+      (all_filtered (λ (c : Way × ℕ). IsToldWay c.0) _ _
+      (all_mapped IsToldWay (λ (c : Way × ℕ). IsToldWay c.0) (λ way. (way, count_among addresses (program_of file base) sampled way)) (ways_among addresses (program_of file base)) (λ way is. is) (ways_are addresses))))
+      (all_mapped IsCall IsToldWay (λ c. c.0) _ (λ c is. is.0) (all_filtered IsCall _ _ (calls_are sampled.branches)))
 
   can_among : (addresses : List ℕ) (sampled : Sampled) → length sampled.branches < 2 ^ 64 → length sampled.ranges ≤ 2 ^ 32
       → CanBeWritten (profile_among addresses (program_of file base) sampled)
   can_among addresses sampled few few_ranges = record {
     keys = recorded_are addresses sampled;
     functions =
-        mapped (λ (h : List ℕ × ℕ). is_name h.0 ≡ true) IsFunctionWay (λ h. to_function h.0 ∷ []) _ (λ h is. (refl, is))
-        (filtered (λ (h : List ℕ × ℕ). is_name h.0 ≡ true) _ _ (heads_are sampled.branches));
-    callees = only_names _ (filtered IsCall _ _ (calls_are sampled.branches));
+        all_mapped (λ (h : List ℕ × ℕ). is_name h.0 ≡ true) IsFunctionWay (λ h. to_function h.0 ∷ []) _ (λ h is. (refl, is))
+        (all_filtered (λ (h : List ℕ × ℕ). is_name h.0 ≡ true) _ _ (heads_are sampled.branches));
+    callees = only_names _ (all_filtered IsCall _ _ (calls_are sampled.branches));
     counts_fit = λ way.
         let own = count_is addresses (program_of file base) sampled way in
         let low = count_low addresses file base sampled way few_ranges in

@@ -163,7 +163,7 @@ class Units:
         while at < len(self.info):
             try:
                 unit = Unit(self, at)
-            except (struct.error, ValueError, KeyError, IndexError):
+            except (struct.error, ValueError, KeyError, IndexError, OverflowError):
                 return
             yield unit
             at = unit.end

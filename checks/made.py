@@ -13,16 +13,14 @@ def text_of(path: str) -> str:
 
 
 def put(path: str, text: str) -> None:
-    """Puts a text in place whole."""
+    """Puts a text in place whole, or leaves what was there. What a call that was killed left beside it is written over."""
     new = TOP / f"{path}.new"
-    with open(new, "x", encoding="utf-8") as file:
-        try:
+    try:
+        with open(new, "w", encoding="utf-8") as file:
             file.write(text)
-            file.flush()
-            os.replace(new, TOP / path)
-        except BaseException:
-            new.unlink()
-            raise
+        os.replace(new, TOP / path)
+    finally:
+        new.unlink(missing_ok=True)
 
 
 def paragraph_at(lines: Iterable[str], mark: str) -> str:

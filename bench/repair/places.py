@@ -60,9 +60,12 @@ def places_of(path, base):
         return looked_up(path, base)
     kept = os.path.join(os.environ["KEEP"], f"{os.path.basename(path)}.ways{'.base' if base else ''}")
     if not os.path.exists(kept) or os.path.getmtime(kept) < os.path.getmtime(path):
-        made = looked_up(path, base)
-        with open(kept, "wb") as file:
-            pickle.dump(made, file)
+        made = pickle.dumps(looked_up(path, base))
+        # Half a file would be taken for all of it the next time.
+        new = f"{kept}.{os.getpid()}.new"
+        with open(new, "wb") as file:
+            file.write(made)
+        os.replace(new, kept)
     with open(kept, "rb") as file:
         return pickle.load(file)
 

@@ -60,8 +60,11 @@ def pack(files, runs):
             member.size = len(content)
             archive.addfile(member, io.BytesIO(content))
     scratch = ARCHIVE.with_suffix(".new")
-    scratch.write_bytes(made.getvalue())
-    os.replace(scratch, ARCHIVE)
+    try:
+        scratch.write_bytes(made.getvalue())
+        os.replace(scratch, ARCHIVE)
+    finally:
+        scratch.unlink(missing_ok=True)
 
 
 def add(words):

@@ -3,6 +3,7 @@ import os
 import pathlib
 import random
 import signal
+import struct
 import subprocess
 import sys
 import time
@@ -110,6 +111,15 @@ class Words(Case):
         self.assertNotIn(b"\x1b", said)
 
 
+def header_of(raw, name):
+    """Where the header of the section of this name stands in a program."""
+    table, = struct.unpack_from("<Q", raw, 40)
+    size, count, names = struct.unpack_from("<HHH", raw, 58)
+    texts, = struct.unpack_from("<Q", raw, table + size * names + 24)
+    headers = range(table, table + size * count, size)
+    return next(at for at in headers if raw[texts + int.from_bytes(raw[at : at + 4], "little") :].startswith(name + b"\0"))
+
+
 @needs("objdump")
 class Programs(Case):
     def test_refusals(self):
@@ -128,6 +138,16 @@ class Programs(Case):
         raw[58:62] = bytes(4)
         raw[at + 32 : at + 40] = b"\xff" * 7 + b"\0"
         self.tells(run(SCRIPT, self.file("many", bytes(raw))), REFUSED, "many is damaged or cut off")
+
+    def test_tables_of_exceptions_that_lie_nowhere(self):
+        """Their section begins, or ends, where no number of the system's leads."""
+        for field, value in ((24, b"\xff" * 8), (24, bytes(7) + b"\x80"), (32, b"\xff" * 8)):
+            with self.subTest((field, value)):
+                raw = bytearray(WORDS.read_bytes())
+                place = header_of(raw, b".eh_frame") + field
+                raw[place : place + 8] = value
+                ran = run(SCRIPT, "--code", self.file("nowhere", bytes(raw)))
+                self.tells(ran, REFUSED, "nowhere is damaged or cut off|tables of exceptions are damaged|objdump failed")
 
     @needs("objcopy")
     def test_a_debug_file(self):

@@ -131,6 +131,19 @@ class Sums(Tree):
             self.tells(self.merge(given=f"{weight}\tp/0\n".encode()), BAD_WORDS, f"p/0: a weight of {weight}.*from 1 to 65535")
         self.tells(self.merge(given=b"-1\tp/0\n"), MISSING, "no such file")
 
+    def test_numbers_of_thousands_of_digits(self):
+        """Python refuses to read such: zeros in front are none, others are those of no profile."""
+        zeros = "0" * 5000
+        self.file("zeros", f"main:1:{zeros}2\n 1: {zeros}3\n")
+        self.expect(self.merge("zeros", "p/0"), DONE, self.sum_of(["zeros", "p/0"]))
+        self.expect(self.merge(given=f"{zeros}3\tp/0\n".encode()), DONE, self.expected((3, "p/0")))
+        for line, text in ((1, f"main:1:{'1' * 5000}\n 1: 1\n"), (2, f"main:1:1\n 1: {'1' * 5000}\n"), (2, f"main:1:1\n 1: {10**20}\n")):
+            self.file("long", text)
+            self.tells(self.merge("long", *self.files), REFUSED, f"long: refused at {line}: BadLine")
+            self.tells(self.merge("-o", "out", "--skip-bad=5", "long", *self.files), DONE, f"left out: .*long: refused at {line}: BadLine")
+            self.assertEqual((self.folder / "out").read_bytes(), self.sum_of(self.files))
+        self.tells(self.merge(given=f"{'9' * 5000}\tp/0\n".encode()), BAD_WORDS, "p/0: a weight of 9999.*from 1 to 65535")
+
     def test_a_sum_in_place(self):
         (self.folder / "out").write_text(OLD)
         (self.folder / "out").chmod(0o640)

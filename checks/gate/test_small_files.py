@@ -53,6 +53,12 @@ class SmallFiles(Case):
     def test_a_form_that_stands_for_itself(self):
         self.profiled("IndirectTwice", with_units([(0, b"\1" + b"\x16" * 100000)], b"\x01\x11\0\x25\x16\0\0\0"), REFUSED)
 
+    def test_a_base_of_texts_that_is_no_number(self):
+        """Its form is that of a text, or of bytes."""
+        for form, value in ((b"\x08", b"p\0"), (b"\x0a", b"\1p")):
+            with self.subTest(form):
+                self.profiled("BadClass", with_units([(0, b"\1\0" + value)], b"\x01\x11\0\x25\x1a\x72" + form + b"\0\0\0"), REFUSED)
+
     def test_sections_that_name_the_same_notes(self):
         made = bytearray(elf(*[(b"", NOTES, 0, 0, struct.pack("<III", 0, 0, 9) * 200000 if not k else b"", 0) for k in range(50000)]))
         rows, = struct.unpack_from("<Q", made, 40)

@@ -3,6 +3,7 @@ import struct
 
 from block_text.exceptions import Bytes
 from block_text.program import Refused
+from pgo_tools.elf import FAULTS
 
 BLOCK_MAP = 0x6FFF4C0A
 
@@ -21,7 +22,7 @@ class BlockMap:
                     piece = Bytes(program.data, section.offset, 0)
                     while piece.at < section.offset + section.size:
                         self.read(piece)
-        except (struct.error, IndexError, ValueError) as fault:
+        except FAULTS as fault:
             raise Refused(f"the program's map of basic blocks is damaged: {fault}") from None
 
     def read(self, piece):

@@ -2,7 +2,8 @@
 import struct
 
 from block_text.program import Refused
-from pgo_tools.elf import NOBITS
+from pgo_tools.elf import FAULTS, NOBITS
+
 
 class Bytes:
     """A place in the bytes of a section, and what is read from there."""
@@ -68,7 +69,7 @@ def landing_pads(program):
             elif at + 4 - link in heads:
                 read_frame(program, entry, heads[at + 4 - link], found)
             at += 4 + size
-    except (struct.error, IndexError, KeyError, ValueError) as fault:
+    except FAULTS as fault:
         raise Refused(f"the program's tables of exceptions are damaged: {fault}") from None
     return sorted(found)
 

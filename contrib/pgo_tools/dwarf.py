@@ -108,6 +108,8 @@ class Unit:
             return text_of(Reader(self.units.bytes_of(".debug_str" if form == STRP else ".debug_line_str"), value).text())
         if form in STRX:
             base = self.facts.get(OFFSETS_BASE, (0, 2 * self.word))[1]
+            if not isinstance(base, int):
+                raise ValueError("the base of its texts is no number")
             offset = Reader(self.units.bytes_of(".debug_str_offsets"), base + value * self.word).number(self.word)
             return text_of(Reader(self.units.bytes_of(".debug_str"), offset).text())
         return ""
@@ -161,7 +163,7 @@ class Units:
         while at < len(self.info):
             try:
                 unit = Unit(self, at)
-            except (struct.error, ValueError, KeyError, IndexError):
+            except (struct.error, ValueError, KeyError, IndexError, OverflowError):
                 return
             yield unit
             at = unit.end

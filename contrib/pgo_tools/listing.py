@@ -17,9 +17,11 @@ def weighed(line):
     weight, tab, name = line.partition("\t")
     if not (tab and weight.isascii() and weight.isdigit()):
         return File(line, 1)
-    if not 1 <= int(weight) <= MOST_WEIGHT:
+    # Python refuses to read thousands of digits, of zeros too.
+    digits = weight.lstrip("0")
+    if not 1 <= len(digits) <= len(str(MOST_WEIGHT)) or int(digits) > MOST_WEIGHT:
         raise Trouble(f"{name}: a weight of {weight}", USAGE, f"weights are from 1 to {MOST_WEIGHT}")
-    return File(name, int(weight))
+    return File(name, int(digits))
 
 
 def from_input(zeros):

@@ -18,8 +18,9 @@ BLOCK = 1 << 20
 WRITTEN = 3
 
 # A body line's count, a function's head, a line of another kind than blank ones and comments, and the build that was sampled.
-COUNT = re.compile(rb"\n +[0-9.]+: ([0-9]+)(?![^ \n])")
-HEAD = re.compile(rb"\n[^ \n#][^\n]*:([0-9]+)(?![^\n])")
+# Behind any zeros a number has 20 digits at most: pgo refuses what has more, and Python would not read thousands.
+COUNT = re.compile(rb"\n +[0-9.]+: 0*([0-9]{1,20})(?![^ \n])")
+HEAD = re.compile(rb"\n[^ \n#][^\n]*:0*([0-9]{1,20})(?![^\n])")
 SAYS = re.compile(rb"\n *[^ \n#]")
 BUILD = re.compile(rb"\n# build ([^\r\n]*)")
 

@@ -2,13 +2,13 @@
 ghost use Rattle.std.specs.Prelude.{◌≡◌, ◌≤◌, [], vec_capacity};
 ghost use Rattle.std.specs.List.{before_first, after_first};
 ghost use Rattle.text_model.specs.Fields.{fields_of};
-ghost use Rattle.text_model.specs.LineTests.{is_blank_line as blank_line, is_comment as comment};
+ghost use Rattle.text_model.specs.LineTests.{is_comment as comment};
 ghost use Rattle.sample_model.specs.Line as model;
 ghost use Rattle.branch_lines.specs.Line.{ReadsEntry, ReadsSample, ReadsLine};
 
 use memchr::{memchr, memmem};
 use refusal::Kind;
-use text_scan::{Fields, hex, prefixed};
+use text_scan::{Fields, hex, is_blank_line, prefixed};
 
 /// The most bytes of a line, its line feed not counted.
 pub const MAX_LINE_BYTES: usize = 65_536;
@@ -50,13 +50,6 @@ fn is_sample(line: &[u8]) -> bool
     ensures { result ≡ model.is_sample line.now }
 {
     !(is_blank_line(line) || is_comment(line) || is_other_record(line))
-}
-
-/// Whether a line has no field.
-fn is_blank_line(line: &[u8]) -> bool
-    ensures { result ≡ blank_line line.now }
-{
-    Fields::new(line).next().is_none()
 }
 
 /// Whether a line begins with `#`.

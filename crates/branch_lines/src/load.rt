@@ -1,12 +1,12 @@
 // Load lines: perf's records of what was loaded into memory.
-ghost use Rattle.std.specs.Prelude.{◌≡◌, None, Some, not, position, MatchOption};
+ghost use Rattle.std.specs.Prelude.{◌≡◌, None, Some, MatchOption};
 ghost use Rattle.std.specs.Option.{option_copied};
-ghost use Rattle.text_model.specs.Fields.{is_blank as blank};
 ghost use Rattle.sample_model.specs.Loads as model;
 
 use crate::line::{address, is_comment};
 use memchr::memchr;
 use std::marker::Model;
+use text_scan::{first_blank, first_filled, is_blank};
 
 /// What stands in front of what a load line tells.
 const MARK: &'static [u8] = b"PERF_RECORD_MMAP2 ";
@@ -99,13 +99,6 @@ fn is_field_end(text: &[u8]) -> bool
     }
 }
 
-/// Whether a byte stands between fields: a space or a tab.
-fn is_blank(byte: u8) -> bool
-    ensures { result ≡ blank byte }
-{
-    byte == b' ' || byte == b'\t'
-}
-
 /// The first field of a text, which is empty where there is none, and what stands behind it.
 fn split_field(text: &[u8]) -> (&[u8], &[u8])
     ensures field { result.0.now ≡ model.first_field text.now }
@@ -121,20 +114,6 @@ fn from_field(text: &[u8]) -> &[u8]
 {
     let (_, behind) = text.split_at(first_filled(text).unwrap_or(text.len()));
     behind
-}
-
-/// Where the first field begins.
-fn first_filled(text: &[u8]) -> Option<usize>
-    ensures { result ≡ position (λ b. not (blank b)) text.now }
-{
-    text.iter().position(|byte| !is_blank(*byte))
-}
-
-/// Where the first blank stands.
-fn first_blank(text: &[u8]) -> Option<usize>
-    ensures { result ≡ position blank text.now }
-{
-    text.iter().position(|byte| is_blank(*byte))
 }
 
 /// The addresses of a load, `[0xSTART(0xLEN)`: the first, and how many there are.

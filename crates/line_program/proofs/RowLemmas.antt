@@ -2,8 +2,9 @@
 use Rattle.std.proofs.Common.{◌≡◌, ℕ, zero, suc, ◌+◌, ◌-◌, ◌<◌, ◌≤◌, List, [], ◌∷◌, length, Ok, Err, Result, refl, sym, ap, subst, ◌∙◌, arith}
 use Rattle.refusal.specs.declared.kind.Kind.{Kind}
 use Rattle.refusal.specs.declared.kind.Kind.TheVariants.{NoEnd}
-use Rattle.refusal.specs.Place.{in_binary}
-use Rattle.refusal.specs.Place.{JudgesUnlessNoMemory}
+use Rattle.refusal.specs.Place.{JudgesUnlessNoMemory, in_binary, stop_in_binary}
+use Rattle.refusal.specs.declared.place.ItemStop.{ItemStop}
+use Rattle.refusal.specs.declared.place.ItemStop.TheVariants.{Refused, NoMemory}
 use Rattle.refusal.specs.declared.place.Stop.{Stop}
 use Rattle.refusal.specs.declared.place.Stop.TheVariants as stops
 use Rattle.std.specs.Global.{Vec}
@@ -17,10 +18,8 @@ use Rattle.line_model.specs.Reading.{OperationReading, operation_at}
 use Rattle.line_model.specs.Fields.{Judged, Program, ◌>>=◌, unless, program_at}
 use Rattle.line_model.specs.Program.{Machine, placed_first, operations_in, machine_after, at_place, is_open, rows_behind, rows_in, rows_at, first_bad_of, AreRowsOf}
 use Rattle.line_program.specs.Machines.{beside, behind_read, GivesNext}
-use Rattle.line_program.specs.Rows.{GivesRows, StopsAt}
+use Rattle.line_program.specs.Rows.{GivesRows}
 use Rattle.line_program.specs.State.{State}
-use Rattle.line_program.specs.declared.machine.OperationStop.{OperationStop}
-use Rattle.line_program.specs.declared.machine.OperationStop.TheVariants.{Refused, NoMemory}
 
 module _ (header : Header) (before end : ℕ) where
   -- these bytes are left, the last of the program, and the rows are those that they add to the machine's
@@ -127,9 +126,9 @@ RowsLeft-start before end program machine end_is fresh =
     }
 
 -- where an operation stops the reading
-pub GivesRows-stop : (header : Header) (before end : ℕ) (rows : Judged (List Row)) (machine : Machine) (left rest : List ℕ) (new : State) (stop : OperationStop) (answer : Stop) (at : ℕ)
+pub GivesRows-stop : (header : Header) (before end : ℕ) (rows : Judged (List Row)) (machine : Machine) (left rest : List ℕ) (new : State) (stop : ItemStop) (answer : Stop) (at : ℕ)
     → RowsLeft header before end rows machine left → 0 < length left → GivesNext (Err stop) new rest (behind_read header before machine (operation_at header left))
-    → at ≡ end - length left → StopsAt at stop answer → GivesRows (Err answer) rows
+    → at ≡ end - length left → answer ≡ stop_in_binary at stop → GivesRows (Err answer) rows
 GivesRows-stop header before end rows machine left rest new (Refused kind) answer at so_far some read place stops =
     rw (stops, place) (RowsLeft-stop header before end rows machine left kind so_far some read)
 GivesRows-stop header before end rows machine left rest new NoMemory answer at so_far some read place stops = rw stops tt

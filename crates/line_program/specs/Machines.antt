@@ -2,16 +2,16 @@
 use Rattle.std.specs.Prelude.{◌≡◌, ◌++◌, ℕ, true, false, List, [], ◌∷◌, Result, Ok, Err, ⊤}
 use Rattle.refusal.specs.declared.kind.Kind.{Kind}
 use Rattle.refusal.specs.declared.kind.Kind.TheVariants.{TooManyRows}
+use Rattle.refusal.specs.declared.place.ItemStop.{ItemStop}
+use Rattle.refusal.specs.declared.place.ItemStop.TheVariants.{Refused, NoMemory}
 use Rattle.line_model.specs.declared.row.Row.{Row}
 use Rattle.line_model.specs.Header.{Header}
 use Rattle.line_model.specs.Reading.{OperationReading}
 use Rattle.line_model.specs.Program.{Machine, is_full, machine_after}
 use Rattle.line_program.specs.State.{State}
-use Rattle.line_program.specs.declared.machine.OperationStop.{OperationStop}
-use Rattle.line_program.specs.declared.machine.OperationStop.TheVariants.{Refused, NoMemory}
 
 -- A row stands behind the others, or there are too many.
-abbrev pub AddsRow : Result (Unit {0}) OperationStop → State → State → Row → Type 0
+abbrev pub AddsRow : Result (Unit {0}) ItemStop → State → State → Row → Type 0
 AddsRow (Ok done) old new row =
     (is_full old.before old.machine.rows ≡ false)
     × (new.machine ≡ record { registers = old.machine.registers; rows = old.machine.rows ++ row ∷ [] })
@@ -30,7 +30,7 @@ behind_read header before machine (Ok (operation, rest)) =
 behind_read header before machine (Err kind) = Err kind
 
 -- The machine and the bytes that are left behind an operation, or why it is refused.
-abbrev pub GivesNext : Result (Unit {0}) OperationStop → State → List ℕ → Result (Machine × List ℕ) Kind → Type 0
+abbrev pub GivesNext : Result (Unit {0}) ItemStop → State → List ℕ → Result (Machine × List ℕ) Kind → Type 0
 GivesNext (Ok done) new left read = read ≡ Ok (new.machine, left)
 GivesNext (Err (Refused kind)) new left read = read ≡ Err kind
 GivesNext (Err NoMemory) new left read = ⊤

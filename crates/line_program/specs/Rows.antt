@@ -1,14 +1,11 @@
 -- What the reading of a program's rows gives.
-use Rattle.std.specs.Prelude.{◌≡◌, ℕ, List, Result, Ok, Err, ⊤}
-use Rattle.refusal.specs.Place.{in_binary}
+use Rattle.std.specs.Prelude.{◌≡◌, List, Result, Ok, Err, ⊤}
 use Rattle.refusal.specs.declared.place.Place.{Place}
 use Rattle.refusal.specs.declared.place.Stop.{Stop}
 use Rattle.refusal.specs.declared.place.Stop.TheVariants.{Refused, NoMemory}
 use Rattle.std.specs.Global.{Vec}
 use Rattle.line_model.specs.declared.row.Row.{Row}
 use Rattle.line_model.specs.Fields.{Judged}
-use Rattle.line_program.specs.declared.machine.OperationStop.{OperationStop}
-use Rattle.line_program.specs.declared.machine.OperationStop.TheVariants as operation_stops
 
 -- The rows, or the first bad place; memory may be refused.
 abbrev pub GivesRows : Result (Vec Row) Stop → Judged (List Row) → Type 0
@@ -20,8 +17,3 @@ GivesRows (Err NoMemory) read = ⊤
 abbrev pub GivesEnd : Result (Vec Row) Place → Judged (List Row) → Type 0
 GivesEnd (Ok rows) read = read ≡ Ok rows.items
 GivesEnd (Err place) read = read ≡ Err place
-
--- What is refused of an operation stands at this place.
-abbrev pub StopsAt : ℕ → OperationStop → Stop → Type 0
-StopsAt at (operation_stops.Refused kind) stop = stop ≡ Refused (in_binary at kind)
-StopsAt at operation_stops.NoMemory stop = stop ≡ NoMemory

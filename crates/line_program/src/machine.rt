@@ -7,18 +7,16 @@ ghost use Rattle.line_model.specs.Reading.{operation_at};
 ghost use Rattle.line_model.specs.Registers.{start};
 ghost use Rattle.line_program.specs.Machines.{AddsRow, behind_read, GivesNext};
 ghost use Rattle.line_program.specs.Programs.{program_of};
-ghost use Rattle.line_program.specs.Rows.{GivesEnd, GivesRows, StopsAt};
+ghost use Rattle.line_program.specs.Rows.{GivesEnd, GivesRows};
 ghost use Rattle.refusal.specs.declared.kind.Kind.TheVariants.{NoEnd};
-ghost use Rattle.line_program.specs.declared.machine.OperationStop.TheVariants.{Refused, NoMemory as no_memory};
 
-use crate::fault::Fault;
 use crate::header::LineHeader;
 use crate::program::LineProgram;
 use crate::registers::Registers;
 use byte_view::Cur;
 use line_model::Row;
-use refusal::{Kind, Place, Stop, refuse_if};
-use std::alloc::{AllocFailed, Global};
+use refusal::{ItemStop, Kind, Place, Stop, refuse_if};
+use std::alloc::Global;
 use std::marker::Model;
 
 /// The most rows of a program.
@@ -26,31 +24,6 @@ const MAX_ROWS: usize = 1 << 24;
 
 /// The most rows of all programs of a file.
 const MAX_ROWS_OF_ALL: u64 = 1 << 26;
-
-/// Why an operation was not done.
-#[derive(Clone, Copy, Debug, PartialEq, Eq)]
-pub(crate) enum OperationStop {
-    /// It is refused.
-    Refused(Kind),
-    /// Memory was refused.
-    NoMemory,
-}
-
-impl From<Fault> for OperationStop {
-    ghost from_gives = { λ fault stop. stop ≡ Refused fault.kind };
-
-    fn from(fault: Fault) -> Self {
-        OperationStop::Refused(fault.kind)
-    }
-}
-
-impl<T: Drop> From<AllocFailed<T>> for OperationStop {
-    ghost from_gives = { λ _ stop. stop ≡ no_memory };
-
-    fn from(_: AllocFailed<T>) -> Self {
-        OperationStop::NoMemory
-    }
-}
 
 /// The registers and the rows of a program, up to some operation of it.
 #[derive(Debug, Drop)]
@@ -107,23 +80,19 @@ impl Machine {
     }
 
     /// Adds a row.
-    fn add_row(&mut self, row: Row) -> Result<(), OperationStop>
+    fn add_row(&mut self, row: Row) -> Result<(), ItemStop>
         ensures added { AddsRow result self.old self.new row }
         ensures before { self.new.before ≡ self.old.before }
     {
         if self.is_full() {
-            return Err(OperationStop::Refused(Kind::TooManyRows));
+            return Err(ItemStop::Refused(Kind::TooManyRows));
         }
         self.rows.push(row)?;
         Ok(())
     }
 
     /// Does the operation at the front.
-    pub fn next(
-        &mut self,
-        header: &LineHeader<'_>,
-        opcodes: &mut Cur<'_>,
-    ) -> Result<(), OperationStop>
+    pub fn next(&mut self, header: &LineHeader<'_>, opcodes: &mut Cur<'_>) -> Result<(), ItemStop>
         ensures exact { GivesNext result self.new opcodes.new.left
             (behind_read header.now self.old.before self.old.machine
             (operation_at header.now opcodes.old.left)) }
@@ -150,18 +119,6 @@ impl Machine {
     }
 }
 
-impl OperationStop {
-    /// What stops the reading where the operation stands at this place.
-    fn at(self, at: usize) -> Stop
-        ensures { StopsAt at self result }
-    {
-        match self {
-            OperationStop::Refused(kind) => Stop::Refused(Place::in_binary(at, kind)),
-            OperationStop::NoMemory => Stop::NoMemory,
-        }
-    }
-}
-
 /// The rows of a program, from its first opcode to its end.
 ///
 /// # Errors
@@ -184,7 +141,7 @@ pub(crate) fn rows_in(
         let at = end - opcodes.left();
         match machine.next(&header, &mut opcodes) {
             Ok(()) => {}
-            Err(stop) => return Err(stop.at(at)),
+            Err(stop) => return Err(stop.in_binary(at)),
         }
     }
     Ok(machine.into_rows(end)?)

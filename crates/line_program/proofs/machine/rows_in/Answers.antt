@@ -18,4 +18,4 @@ loop-header-preserved c = record {
 pub returns-in-Err : goal.returns-in-Err
 returns-in-Err c =
     GivesRows-stop _ _ _ _ _ _ _ _ c.in-Err.stop _ (c.at.result + c.left.result - c.left-in-loop-header-2.result)
-    c.loop-header.invariant.left (omega arith) (rw c.loop-header.invariant.before at c.in-Err.ensures.exact) (omega arith) c.at-in-Err.ensures
+    c.loop-header.invariant.left (omega arith) (rw c.loop-header.invariant.before at c.in-Err.ensures.exact) (omega arith) c.in_binary.ensures

@@ -3,7 +3,7 @@ use Rattle.std.proofs.Common.{◌≡◌, ℕ, ◌+◌, Bool, true, false, List, 
 use Rattle.std.specs.Prelude.{nat_lt, codes, ⊤, is_some, if◌then◌else◌}
 use Rattle.std.specs.List.{AllByRecursion, flat_map, list_any}
 use Rattle.std.specs.Str.{bytes_eq}
-use Rattle.std.proofs.lemmas.Bool.{lt-ltb}
+use Rattle.std.proofs.lemmas.Bool.{lt-ltb, or_parts}
 use Rattle.std.proofs.lemmas.List.Folds.{list_any-append}
 use Rattle.refusal.specs.declared.kind.Kind.{Kind}
 use Rattle.refusal.specs.declared.kind.Kind.TheVariants.{NoEndLine}
@@ -21,7 +21,7 @@ use Rattle.block_model.specs.Text.{closed_by_line, functions_from, functions_of,
 use Rattle.repair_model.specs.Laws.{IsName}
 use Rattle.command_model.specs.Files.{first_bad_of_blocks, max_block_bytes}
 use Rattle.profile_tree.proofs.ListLemmas.{all_append}
-use Rattle.command_laws.proofs.NameLemmas.{neither}
+use Rattle.way_laws.proofs.EachLemmas.{OfSome as Of}
 
 -- ---- fields
 
@@ -31,7 +31,7 @@ pub record IsField (name : List ℕ) : Type 0 where
   pub clean : HasNoLineFeed name
 
 first_clean : (xs ys : List ℕ) → HasNoLineFeed (xs ++ ys) → HasNoLineFeed xs × HasNoLineFeed ys
-first_clean xs ys clean = neither (list_any is_line_feed xs) (list_any is_line_feed ys) (sym (list_any-append is_line_feed xs ys) ∙ clean)
+first_clean xs ys clean = or_parts (list_any is_line_feed xs) (list_any is_line_feed ys) (sym (list_any-append is_line_feed xs ys) ∙ clean)
 
 parts_are : (parts : List (List ℕ × List ℕ)) → AllByRecursion IsSpaced parts → HasNoLineFeed (flat_map spaced parts) → AllByRecursion IsField (map (λ part. part.0) parts)
 parts_are [] all clean = tt
@@ -73,10 +73,6 @@ NamesField (begins name) = IsField name
 NamesField (tells_block number block) = ⊤
 NamesField (tells_edge from to bound) = ⊤
 NamesField ends = ⊤
-
-abbrev Of : {A : Type 0} → (A → Type 0) → Option A → Type 0
-Of P None = ⊤
-Of P (Some a) = P a
 
 chained : {A B : Type 0} (Q : B → Type 0) (o : Option A) (f : A → Option B) → ((a : A) → Of Q (f a)) → Of Q (o >>= f)
 chained Q None f goes = tt

@@ -43,7 +43,7 @@ not_larger most n place = by (nat_lt most n)
     by true none = absurd cc
     by false none = refl
 
-both_none : (here other : Option Place) → first_bad (here ∷ other ∷ []) ≡ None → (here ≡ None) × (other ≡ None)
+pub both_none : (here other : Option Place) → first_bad (here ∷ other ∷ []) ≡ None → (here ≡ None) × (other ≡ None)
 both_none None None none = (refl, refl)
 both_none None (Some place) none = absurd cc
 both_none (Some place) other none = absurd cc

@@ -2,7 +2,7 @@
 use Rattle.std.proofs.Common.{ℕ, suc, Bool, true, false, List, [], ◌∷◌, ◌++◌, length, map, None, Some, ℤ, pos, negsuc, refl}
 use Rattle.std.specs.Prelude.{codes, ⊤, slice_index_or}
 use Rattle.std.specs.List.{AllByRecursion, enumerate_from}
-use Rattle.std.proofs.ByRecursion.{All-append}
+use Rattle.list_lemmas.proofs.Each.{all_append}
 use Rattle.text_model.specs.Laws.{HasNoLineFeed, ended}
 use Rattle.text_model.specs.Numbers.{signed_text}
 use Rattle.block_model.specs.declared.parts.Weight.{Weight}
@@ -94,9 +94,9 @@ repair_clean : (weighed : Bool) (fun : Function) (repair : Repair) → HasNoLine
 unfolding lines_of_repair
 repair_clean weighed fun repair clean = (
   first_clean fun.name repair.solution clean,
-  All-append IsCleanLine (lines_of_blocks (length fun.blocks) repair.weights repair.solution) _
+  all_append IsCleanLine (lines_of_blocks (length fun.blocks) repair.weights repair.solution) _
       (each_clean (λ number. line_of_block number (slice_index_or repair.weights number Unknown) repair.solution) (numbers 0 (length fun.blocks)) (λ number. block_clean number _ repair.solution))
-      (All-append IsCleanLine (lines_of_edges weighed (told_edges fun repair.solution) repair.edge_weights repair.solution) _
+      (all_append IsCleanLine (lines_of_edges weighed (told_edges fun repair.solution) repair.edge_weights repair.solution) _
       (each_clean (line_of_edge weighed repair.edge_weights repair.solution) (enumerate_from 0 (told_edges fun repair.solution)) (λ it. tt))
       (last_clean repair.solution repair.first repair.second, tt)),
 )

@@ -1,11 +1,11 @@
 -- The lines of a profile and of a report begin no function, so a repair text passes them over.
-use Rattle.std.proofs.Common.{◌≡◌, ℕ, zero, suc, ◌+◌, ◌/◌, ◌%◌, ◌≤◌, Bool, true, false, ◌&&◌, ◌||◌, List, [], ◌∷◌, ◌++◌, map, filter, take, Option, None, Some, refl, arith, sym, ap, ◌∙◌, subst, append_assoc}
+use Rattle.std.proofs.Common.{◌≡◌, ℕ, zero, suc, ◌+◌, ◌/◌, ◌%◌, ◌≤◌, Bool, true, false, ◌&&◌, ◌||◌, List, [], ◌∷◌, ◌++◌, take, Option, None, Some, refl, arith, sym, ap, ◌∙◌, subst, append_assoc}
 use Rattle.std.specs.Prelude.{◌==◌, nat_eq, nat_lt, codes, ⊤, if◌then◌else◌}
 use Rattle.std.specs.Cmp.Lexicographic.{pointwise}
 use Rattle.std.specs.Fmt.{digit_glyph, digits, digits_onto}
-use Rattle.std.specs.List.{AllByRecursion, cons_option, filter_map, flat_map, list_any, starts_with}
+use Rattle.std.specs.List.{AllByRecursion, filter_map, flat_map, list_any, starts_with}
 use Rattle.std.specs.Option.{option_map}
-use Rattle.std.proofs.lemmas.Bool.{ne_eqb}
+use Rattle.std.proofs.lemmas.Bool.{ne_eqb, or_right}
 use Rattle.std.proofs.lemmas.Grind.{flat_map-append}
 use Rattle.std.proofs.lemmas.List.{append-nil}
 use Rattle.std.proofs.lemmas.List.Folds.{list_any-append}
@@ -29,6 +29,7 @@ use Rattle.output_model.specs.Sampled.{all_addresses, call_by, call_of, count_am
 use Rattle.output_model.specs.Scaled.{augmentations_line}
 use Rattle.binary_model.specs.Places.{Place, at_way, nameless, no_line, outside}
 use Rattle.spelling_laws.specs.Told.{IsComment}
+use Rattle.way_laws.proofs.EachLemmas.{OfSome, all_filtered, all_found, all_mapped, either_all}
 use Rattle.command_laws.proofs.NameLemmas.{BeginsOther, IsClean, IsCleanIfAny, IsCleanPlace, entries_clean, places_clean}
 
 -- ---- texts of such lines
@@ -88,11 +89,7 @@ AreHigh = AllByRecursion (λ b. 48 ≤ b)
 onto_high : (k base : ℕ) (upper : Bool) (n : ℕ) (acc : List ℕ) → AreHigh acc → AreHigh (digits_onto k base upper n acc)
 onto_high zero base upper n acc high = high
 onto_high (suc k) base upper n acc high =
-    either (n / base == 0) _ _ (glyph_high upper (n % base), high) (onto_high k base upper (n / base) _ (glyph_high upper (n % base), high))
-  where
-    either : (t : Bool) (xs ys : List ℕ) → AreHigh xs → AreHigh ys → AreHigh (if t then xs else ys)
-    either true xs ys one other = one
-    either false xs ys one other = other
+    either_all (λ b. 48 ≤ b) (n / base == 0) _ _ (glyph_high upper (n % base), high) (onto_high k base upper (n / base) _ (glyph_high upper (n % base), high))
 
 digits_high : (base : ℕ) (upper : Bool) (n : ℕ) → AreHigh (digits base upper n)
 unfolding digits
@@ -218,20 +215,6 @@ pub record IsCleanProfile (p : Profile) : Type 0 where
   pub calls : AllByRecursion (λ c. AllByRecursion (λ (step : Step). IsClean step.name) c.0 × IsClean c.1) p.calls
   pub heads : AllByRecursion (λ h. IsClean h.0) p.heads
 
-either_all : {X : Type 0} (P : X → Type 0) (t : Bool) (xs ys : List X) → AllByRecursion P xs → AllByRecursion P ys → AllByRecursion P (if t then xs else ys)
-either_all P true xs ys one other = one
-either_all P false xs ys one other = other
-
-all_filtered : {X : Type 0} (P : X → Type 0) (test : X → Bool) (xs : List X) → AllByRecursion P xs → AllByRecursion P (filter test xs)
-all_filtered P test [] all = tt
-all_filtered P test (x ∷ xs) all =
-    let rest = all_filtered P test xs all.1 in
-    either_all P (test x) (x ∷ filter test xs) (filter test xs) (all.0, rest) rest
-
-all_mapped : {X Y : Type 0} (P : X → Type 0) (Q : Y → Type 0) (f : X → Y) (xs : List X) → ((x : X) → P x → Q (f x)) → AllByRecursion P xs → AllByRecursion Q (map f xs)
-all_mapped P Q f [] gives all = tt
-all_mapped P Q f (x ∷ xs) gives all = (gives x all.0, all_mapped P Q f xs gives all.1)
-
 abbrev CleanWay : Way → Type 0
 CleanWay = AllByRecursion (λ (step : Step). IsClean step.name)
 
@@ -289,18 +272,6 @@ clean_if_way outside clean = tt
 clean_if_way nameless clean = tt
 clean_if_way no_line clean = tt
 clean_if_way (at_way way) clean = clean
-
-abbrev OfSome : {X : Type 0} → (X → Type 0) → Option X → Type 0
-OfSome P None = ⊤
-OfSome P (Some x) = P x
-
-found_first : {Y : Type 0} (P : Y → Type 0) (o : Option Y) (ys : List Y) → OfSome P o → AllByRecursion P ys → AllByRecursion P (cons_option o ys)
-found_first P None ys is all = all
-found_first P (Some y) ys is all = (is, all)
-
-all_found : {X Y : Type 0} (P : Y → Type 0) (f : X → Option Y) (xs : List X) → ((x : X) → OfSome P (f x)) → AllByRecursion P (filter_map f xs)
-all_found P f [] gives = tt
-all_found P f (x ∷ xs) gives = found_first P (f x) (filter_map f xs) (gives x) (all_found P f xs gives)
 
 ways_clean : (program : Program) (addresses : List ℕ) → IsCleanProgram program → AllByRecursion CleanWay (ways_among addresses program)
 ways_clean program addresses clean =
@@ -408,11 +379,7 @@ report_passed classes sampled = weaker (report_text classes sampled) (λ line is
 -- A profile text passes them over too.
 pub begins_comment : (b : ℕ) (bytes : List ℕ) → b ≡ 35 → HasNoLineFeed (b ∷ bytes) → IsComment (b ∷ bytes)
 unfolding is_passed
-begins_comment b bytes hash clean = (clean, subst (λ (c : ℕ). (is_blank_line (c ∷ bytes) || starts_with nat_eq (behind_spaces (c ∷ bytes)) (codes "#")) ≡ true) (sym hash) (either (is_blank_line (35 ∷ bytes))))
-  where
-    either : (t : Bool) → (t || true) ≡ true
-    either true = refl
-    either false = refl
+begins_comment b bytes hash clean = (clean, subst (λ (c : ℕ). (is_blank_line (c ∷ bytes) || starts_with nat_eq (behind_spaces (c ∷ bytes)) (codes "#")) ≡ true) (sym hash) (or_right (is_blank_line (35 ∷ bytes)) true refl))
 
 comment : (line : List ℕ) → IsReportLine line → IsComment line
 comment [] is = absurd is.hash

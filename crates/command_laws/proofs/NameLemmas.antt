@@ -1,10 +1,10 @@
 -- The names that a program tells are names: they hold no line feed, and begin with no `#`.
-use Rattle.std.proofs.Common.{◌≡◌, ℕ, zero, suc, Bool, true, false, not, ◌&&◌, ◌||◌, List, [], ◌∷◌, ◌++◌, map, Option, None, Some, refl, sym, ap, ◌∙◌, subst}
+use Rattle.std.proofs.Common.{◌≡◌, ℕ, zero, suc, Bool, true, false, not, ◌||◌, List, [], ◌∷◌, ◌++◌, map, Option, None, Some, refl, sym, ap, ◌∙◌, subst}
 use Rattle.std.specs.Prelude.{◌==◌, nat_eq, ⊤, slice_get}
 use Rattle.std.specs.Char.{is_ascii_digit}
 use Rattle.std.specs.List.{AllByRecursion, list_any}
 use Rattle.std.specs.Option.{option_map, unwrap_or}
-use Rattle.std.proofs.lemmas.Bool.{ne_eqb, eqb-false, eqb-true}
+use Rattle.std.proofs.lemmas.Bool.{and_parts, ne_eqb, eqb-false, eqb-true, or_parts}
 use Rattle.text_model.specs.Laws.{HasNoLineFeed}
 use Rattle.text_model.specs.Lines.{is_line_feed}
 use Rattle.key_types.specs.declared.ids.NameId.{NameId}
@@ -34,16 +34,6 @@ pub record IsClean (name : List ℕ) : Type 0 where
 pub none_clean : IsClean []
 none_clean = record { other = tt; clean = refl }
 
-both : (a b : Bool) → (a && b) ≡ true → (a ≡ true) × (b ≡ true)
-both true true is = (refl, refl)
-both true false is = absurd cc
-both false b is = absurd cc
-
-pub neither : (a b : Bool) → (a || b) ≡ false → (a ≡ false) × (b ≡ false)
-neither false false is = (refl, refl)
-neither false true is = absurd cc
-neither true b is = absurd cc
-
 is_not : (b : Bool) → not b ≡ true → b ≡ false
 is_not false is = refl
 is_not true is = absurd cc
@@ -60,16 +50,16 @@ no_feed_byte b parts = elim (b == 10) as (λ t. (b == 10) ≡ t → t ≡ false)
 no_feeds : (bytes : List ℕ) → list_any parts_names bytes ≡ false → list_any is_line_feed bytes ≡ false
 no_feeds [] parts = refl
 no_feeds (b ∷ bytes) parts =
-    let each = neither (parts_names b) (list_any parts_names bytes) parts in
+    let each = or_parts (parts_names b) (list_any parts_names bytes) parts in
     ap (λ t. t || list_any is_line_feed bytes) (no_feed_byte b each.0) ∙ no_feeds bytes each.1
 
 pub name_clean : (name : List ℕ) → is_name name ≡ true → IsClean name
 name_clean [] is = absurd cc
 name_clean (b ∷ bytes) is =
-    let parts = both (not (begins_no_name b)) (not (list_any parts_names (b ∷ bytes))) is in
+    let parts = and_parts (not (begins_no_name b)) (not (list_any parts_names (b ∷ bytes))) is in
     let first = is_not (begins_no_name b) parts.0 in
     record {
-      other = swapped 35 b (neither (b == 0x23) (b == 0x21) (neither (b == 0x23 || b == 0x21) (is_ascii_digit b) first).0).0;
+      other = swapped 35 b (or_parts (b == 0x23) (b == 0x21) (or_parts (b == 0x23 || b == 0x21) (is_ascii_digit b) first).0).0;
       clean = no_feeds (b ∷ bytes) (is_not (list_any parts_names (b ∷ bytes)) parts.1);
     }
 

@@ -1,13 +1,12 @@
 -- What `merge` answers to the same files in another order.
-use Rattle.std.proofs.Common.{◌≡◌, ℕ, ◌+◌, true, false, List, [], ◌∷◌, ◌++◌, length, map, Option, None, Some, refl, sym, ap, ◌∙◌, subst}
+use Rattle.std.proofs.Common.{◌≡◌, ℕ, ◌+◌, true, false, List, [], ◌∷◌, ◌++◌, length, map, None, Some, refl, sym, ap, ◌∙◌, subst}
 use Rattle.std.specs.Prelude.{nat_lt, unwrap_or}
 use Rattle.std.specs.List.{All}
 use Rattle.std.proofs.lemmas.List.{append-nil, append_assoc, length-map, map-append}
 use Rattle.std.proofs.lemmas.List.Elements.{All-cons, All-head, All-nil, All-tail}
 use Rattle.std.proofs.lemmas.List.Sorted.{All-permutation, IsPermutation-map}
 use Rattle.refusal.specs.declared.kind.Kind.TheVariants.{FileTooLarge}
-use Rattle.refusal.specs.declared.place.Place.{Place}
-use Rattle.refusal.specs.Place.{fails_at, first_bad, size_item}
+use Rattle.refusal.specs.Place.{fails_at, size_item}
 use Rattle.io_edge.specs.Inputs.{Store}
 use Rattle.profile_model.specs.Merge.{first_bad_of_summed, merge_text, merged}
 use Rattle.profile_model.specs.Profile.{Profile}
@@ -19,6 +18,7 @@ use Rattle.command_model.specs.Command.{merge}
 use Rattle.command_model.specs.Files.{asked_part, first_bad_of_part, max_profile_bytes, weighed_texts}
 use Rattle.command_laws.specs.Orders.{MergesInAnyOrder}
 use Rattle.command_laws.proofs.AnswerLemmas.{has_file, same_contents}
+use Rattle.command_laws.proofs.CheckedLemmas.{both_none}
 
 -- ---- files and texts
 
@@ -55,15 +55,10 @@ any_size file other text good =
       | false ↦ λ is. refl
     ] good
 
-neither : (a b : Option Place) → first_bad (a ∷ b ∷ []) ≡ None → (a ≡ None) × (b ≡ None)
-neither None None is = (refl, refl)
-neither None (Some place) is = absurd cc
-neither (Some place) b is = absurd cc
-
 part_judged : (file weight : ℕ) (before : Profile) (text : List ℕ) → first_bad_of_part file weight before text ≡ None
     → (size_item file max_profile_bytes text ≡ None) × (first_bad_of_summed file weight before text ≡ None)
 unfolding first_bad_of_part
-part_judged file weight before text good = neither (size_item file max_profile_bytes text) (first_bad_of_summed file weight before text) good
+part_judged file weight before text good = both_none (size_item file max_profile_bytes text) (first_bad_of_summed file weight before text) good
 
 part_good : (file weight : ℕ) (before : Profile) (text : List ℕ) → size_item file max_profile_bytes text ≡ None → first_bad_of_summed file weight before text ≡ None
     → first_bad_of_part file weight before text ≡ None

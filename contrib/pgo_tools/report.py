@@ -4,9 +4,9 @@ from typing import NamedTuple
 
 from pgo_tools.files import lines_of
 
-UNMAPPED = re.compile(r"# unmapped ([A-Za-z]+) 0x([0-9a-f]+) 0x([0-9a-f]+) ([0-9]+)")
-SUM = re.compile(r"# (branches|entries|inside|augmentations|ranges (?:ran|reversed|outside|crossing)) ([0-9]+)")
-UNITS = re.compile(r"# units read ([0-9]+) passed ([0-9]+)")
+UNMAPPED = re.compile(r"# unmapped ([A-Za-z]+) 0x([0-9a-f]{1,16}) 0x([0-9a-f]{1,16}) ([0-9]{1,20})")
+SUM = re.compile(r"# (branches|entries|inside|augmentations|ranges (?:ran|reversed|outside|crossing)) ([0-9]{1,20})")
+UNITS = re.compile(r"# units read ([0-9]{1,20}) passed ([0-9]{1,20})")
 BUILD = re.compile(r"# build ([0-9a-f]+)")
 
 

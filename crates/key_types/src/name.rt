@@ -24,16 +24,16 @@ fn begins_no_name(byte: u8) -> bool
     byte == b'#' || byte == b'!' || byte.is_ascii_digit()
 }
 
-/// Whether a text holds a byte that no name has.
+/// Whether a text holds a byte that no name has. The loop has no branch, so that the compiler can
+/// look at many bytes in one step.
 fn holds_parting_byte(text: &[u8]) -> bool
     ensures { result ≡ list_any parts_names_told text.now }
 {
+    let mut held = false;
     for byte in text {
-        if parts_names(*byte) {
-            return true;
-        }
+        held |= parts_names(*byte);
     }
-    false
+    held
 }
 
 /// Whether no name has this byte: white space, other control bytes, DEL, and the colon that parts

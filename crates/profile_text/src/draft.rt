@@ -52,13 +52,15 @@ pub(crate) struct ProfileDraft {
 }
 
 impl ProfileDraft {
-    /// Nothing was read.
-    pub(crate) fn new(alloc: Global) -> Result<ProfileDraft, NoMemory>
+    /// Nothing was read. There is room for about so many functions and calls.
+    pub(crate) fn new(alloc: Global, room: usize) -> Result<ProfileDraft, NoMemory>
         ensures { IfOk result spec.IsNew }
     {
+        let mut opened = Keys::new(alloc)?;
+        opened.reserve(room);
         Ok(ProfileDraft {
             path: Path::new(alloc),
-            opened: Keys::new(alloc)?,
+            opened,
             places: Stamps::new(alloc),
             called: Stamps::new(alloc),
             items: Vec::new(alloc),

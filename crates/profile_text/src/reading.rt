@@ -21,6 +21,13 @@ use text_scan::{Line, Lines};
 // command.
 const MOST_BEFORE: u32 = 1 << 31;
 
+/// About how many bytes of a text there are to each of its body lines. Room for the keys is made at
+/// once: a table that grows as they come is laid out anew each time it doubles.
+const BYTES_A_KEY: usize = 48;
+
+/// About how many bytes of a text there are to each of its functions and calls.
+const BYTES_A_CALL: usize = 128;
+
 /// The numbers of a profile text, which is the command's file `file`, in the order of the text.
 /// Lines and files are numbered from 1. How large the text may be is for the caller to judge.
 ///
@@ -52,7 +59,8 @@ pub fn read<'a>(
     ensures { JudgesUnlessNoMemory (first_bad_of_profile file text.now) result (λ profile.
         TellText names.old keys.old text.now profile.items names.new keys.new) }
 {
-    let mut draft = ProfileDraft::new(alloc)?;
+    keys.reserve(text.len() / BYTES_A_KEY);
+    let mut draft = ProfileDraft::new(alloc, text.len() / BYTES_A_CALL)?;
     let mut lines = Lines::new(text);
     while let Some(line) = lines.next() {
         take_in(alloc, &mut draft, line, file, names, keys)?;

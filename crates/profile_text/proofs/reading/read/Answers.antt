@@ -6,7 +6,8 @@ use Rattle.profile_text.proofs.reading.read.Goals as goal
 
 pub loop-line-init : goal.loop-line-init
 loop-line-init c =
-    all_left c.args.file c.args.text.now c.args.names.now c.args.keys.now c.in_ok-draft.draft c.new-lines.result c.in_ok-draft.ensures c.new-lines.ensures c.requires.key_names
+    rw c.reserve.ensures
+    (all_left c.args.file c.args.text.now c.args.names.now c.args.keys.now c.in_ok-draft.draft c.new-lines.result c.in_ok-draft.ensures c.new-lines.ensures c.requires.key_names)
 
 pub returns-in_err-take_in : goal.returns-in_err-take_in
 returns-in_err-take_in c =

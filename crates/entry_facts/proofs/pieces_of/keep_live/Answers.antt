@@ -4,4 +4,4 @@ use Rattle.entry_facts.proofs.pieces_of.keep_live.Goals as goal
 
 pub returns : goal.returns
 returns c = c.shrink_to_fit.ensures.items
-  ∙ filter_same _ _ _ (λ x b f' k. search rules) _ _ c.retain.ensures.filtered
+    ∙ filter_same _ _ _ (λ x b f' k. search rules) _ _ c.retain.ensures.filtered

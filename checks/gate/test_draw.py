@@ -228,5 +228,5 @@ class Pictures(Case):
             # Time of a processor, as others may have the rest of it.
             words = ["python3", "-c", "import resource as r, subprocess as s, sys; s.run(sys.argv[1:], stdout=s.DEVNULL, check=True); "
                      "print(r.getrusage(r.RUSAGE_CHILDREN).ru_utime)", SCRIPT, "--svg", name, path]
-            # By the square of the blocks it is above ten seconds. A run that shares a core with others takes twice as long.
-            self.assertTrue(any(float(run(*words, limit=300).out) < 6 for _ in range(3)), name)
+            # The least of five, as tests beside it on a core make a run take longer.
+            self.assertTrue(any(float(run(*words, limit=300).out) < 3 for _ in range(5)), name)

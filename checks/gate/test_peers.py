@@ -93,8 +93,8 @@ class Peers(Case):
         self.file("bin/c++", "#!/bin/sh\necho no lemon >&2\nexit 1\n").chmod(0o755)
         table = self.table("--small", "--only=solver", "--solver=solver", PATH=f"{self.folder}/bin:{os.environ['PATH']}")
         _, ours, beside = rows_of(table)["`solve`, 100 blocks of choices of two ways"]
-        self.assertRegex(ours, r"^0\.[2-9]\d\d ms$")
-        self.assertRegex(beside, r"^solve_scaled: 0\.[2-9]\d\d ms \([0-4]\.\d\d\)$")
+        self.assertRegex(ours, r"^0\.[4-7]\d\d ms$")
+        self.assertRegex(beside, r"^solve_scaled: 0\.[4-7]\d\d ms \([01]\.\d\d\)$")
         self.assertRegex(table, r"(?m)^- LEMON: .*/lemon\.cc is not compiled: no lemon \(Debian: liblemon-dev\)$")
 
     def test_files_are_kept(self):

@@ -128,12 +128,22 @@ def origins_passed_over(size):
     return short_forms(function, (b"\x02" + struct.pack("<I", begins + 6 * (passed - 1)) + b"\0\x10") * count, passed=b"\x02\0\0\0\x02\0" * passed)
 
 
-def tails_of_a_range_list(size):
+def tails_of_a_range_list(size, step=1, last=b""):
     """Functions of 5 bytes, each with another tail of one list of ranges in no code: 65,536, or as many as half of the file has room for."""
-    count = min(size // 8, 65536)
-    lists = versioned(bytes([8, 0]) + struct.pack("<I", 0), b"\x04\x01\x02" * count + b"\0")
-    entries = b"".join(b"\x02" + struct.pack("<I", 12 + 3 * k) for k in range(count))
-    return short_forms(((RANGES, SECTION),), entries, rnglists=lists)
+    count = min(size // 8, 65536) - 1
+    lists = versioned(bytes([8, 0]) + struct.pack("<I", 0), b"\x04\x01\x02" * count + last + b"\0")
+    entries = [b"\x02" + struct.pack("<I", 12 + 3 * k) for k in range(count)]
+    return short_forms(((RANGES, SECTION),), b"".join(entries[::step]), rnglists=lists)
+
+
+def tails_backwards(size):
+    """The same with the shortest tail first."""
+    return tails_of_a_range_list(size, -1)
+
+
+def tails_with_code(size):
+    """The same with a range at the end that is code."""
+    return tails_of_a_range_list(size, last=b"\x07" + struct.pack("<QB", CODE, 16))
 
 
 def range_list_of_bases(size):
@@ -322,6 +332,8 @@ FAMILIES = [
     Family("one range list", binary(one_range_list), WHERE, b"outside", MB),
     Family("one range list of units", binary(range_list_of_units), WHERE, b"outside", MB),
     Family("tails of a range list", binary(tails_of_a_range_list), WHERE, b"outside", MB),
+    Family("tails of a range list, backwards", binary(tails_backwards), WHERE, b"outside", MB),
+    Family("tails of a range list, with code", binary(tails_with_code), WHERE, b"nameless", MB),
     Family("one range list of bases", binary(range_list_of_bases), WHERE, b"outside", MB),
     Family("tails of a table", binary(tails_of_a_table), WHERE, b"outside", 56000 * 2),
     Family("blocks over all", blocks_over_all, BUILT, b"f:[0-9]+:[0-9]+", MB),

@@ -90,8 +90,7 @@ class Farm(Case):
 # alone. A row goes with what it tells of.
 KNOWN_SLOW = {
     "tails of a name": "each name is a text of its own",
-    "tails of a range list": "each tail is read and kept whole",
-    "one range list of bases": "the list is read anew for each base address",
+    "one range list of bases": "the list is read anew for each base address that is in force",
 }
 # How often both sizes are run, the quickest of each being taken; once more so often where that is not enough.
 TURNS = 3

@@ -1,5 +1,5 @@
 -- One step of a walk over a range list.
-use Rattle.std.specs.Prelude.{◌≡◌, ◌<◌, ℕ, Bool, [], length, Option, None, Some, Result, Ok, Err}
+use Rattle.std.specs.Prelude.{◌≡◌, ◌<◌, ◌+◌, ℕ, Bool, List, [], ◌++◌, length, Option, None, Some, Result, Ok, Err}
 use Rattle.refusal.specs.declared.place.Place.{Place}
 use Rattle.byte_view.specs.Cursor.{Cursor}
 use Rattle.range_model.specs.Entries.{Entry}
@@ -13,6 +13,9 @@ pub record IsNext (resolve : Resolves) (pairs : Bool) (base : ℕ) (old new : Cu
   pub here : entries_from pairs old.at old.left ≡ with_entry old.at entry (entries_from pairs new.at new.left)
   pub shorter : length new.left < length old.left
   pub made : IsStep resolve old.at base entry step
+  pub front : List ℕ
+  pub parts : old.left ≡ front ++ new.left
+  pub moved : new.at ≡ old.at + length front
 
 -- A call took the next entry, or found the end of the list, or the place where the list is bad.
 abbrev pub TakesNext : Resolves → Bool → ℕ → Cursor → Cursor → Result (Option ListStep) Place → Type 0

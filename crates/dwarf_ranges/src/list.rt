@@ -20,7 +20,7 @@ pub struct RangeParts<'a> {
 
 /// A range list: a cursor at its first entry, and whether its entries are pairs.
 #[derive(Debug, Drop)]
-pub(crate) struct RangeList<'a> {
+pub struct RangeList<'a> {
     pub pairs: bool,
     pub cur: Cur<'a>,
 }
@@ -51,7 +51,7 @@ fn list_by_version<'a>(version: u16, parts: &RangeParts<'a>, at: u64) -> Result<
 /// The list that a value of `DW_AT_ranges` leads to.
 ///
 /// Source: DWARF 5, section 7.28.
-pub(crate) fn list_of<'a>(
+pub fn list_of<'a>(
     value: Value<'a>,
     version: u16,
     parts: &RangeParts<'a>,

@@ -12,7 +12,7 @@ use refusal::Kind;
 /// What an entry at a place in the file makes of a base: the base behind it, and the range that it
 /// adds, if any.
 #[derive(Clone, Copy, Debug)]
-pub(crate) struct ListStep {
+pub struct ListStep {
     pub at: usize,
     pub base: u64,
     pub range: Option<(u64, u64)>,

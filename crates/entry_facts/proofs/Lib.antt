@@ -4,4 +4,5 @@ pub mod StepLemmas
 pub mod TextLemmas
 pub mod MemoLemmas
 pub mod ListLemmas
+pub mod WalkLemmas
 pub mod ListedLemmas

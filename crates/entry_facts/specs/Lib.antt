@@ -5,3 +5,4 @@ pub mod Meaning
 pub mod Memo
 pub mod Texts
 pub mod Told
+pub mod Walk

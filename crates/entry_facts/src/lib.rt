@@ -24,7 +24,9 @@ mod origins;
 mod pieces_of;
 mod root;
 mod spelled;
+mod tail;
 mod texts;
+mod walk;
 mod way;
 
 pub use attributes::{address_at, attribute, number_of};

@@ -1,50 +1,35 @@
-// The live ranges of long range lists.
-ghost use Rattle.std.specs.Prelude.{◌≡◌, ℕ, List, IfOk, IfSome, IsTrue, Some};
-ghost use Rattle.std.specs.Option.{option_copied};
-ghost use Rattle.dwarf_forms.specs.Meaning.{meaning_of};
+// What is kept of the range lists that were read.
+ghost use Rattle.std.specs.Prelude.{◌≡◌, ◌+◌, ◌≤◌, ℕ, List, All, drop, length, IfOk, IfSome, IsTrue};
+ghost use Rattle.byte_view.specs.Cursor.{Cursor};
 ghost use Rattle.dwarf_ranges.specs.Meaning.{range_sections_of};
-ghost use Rattle.entry_facts.specs.Lists.{AddsList, IsKeyOf, IsLive, RemembersLists, list_at, live_listed, no_lists, read_by};
+ghost use Rattle.dwarf_strings.specs.Meaning.{bases_of};
+ghost use Rattle.range_model.specs.Lists.{RangeSections};
+ghost use Rattle.range_model.specs.Texts.{address_of};
+ghost use Rattle.entry_facts.specs.Lists.{AddsTail, IsRest, RemembersLists, Stands, live_listed, no_lists, section_by, tail_at};
 ghost use Rattle.entry_facts.specs.Told.{GivesUnlessNoMemory, in_unit};
+ghost use Rattle.entry_facts.specs.Walk.{FindsList, IsMarked};
 
 use crate::in_unit::InUnit;
 use crate::kept::keep_at;
-use crate::pieces_of::keep_live;
-use crate::spelled::listed;
-use dwarf_forms::Value;
+use crate::tail::{Mark, Rest, Tail, Walked};
+use crate::walk::{LONG, read_list};
 use dwarf_info::Found;
-use dwarf_ranges::Ranges;
+use dwarf_ranges::{RangeList, list_of};
 use dwarf_strings::Bases;
 use elf_sections::Elf;
 use indexmap::IndexMap;
-use refusal::{NoMemory, Stop};
+use refusal::{NoMemory, Place, Stop};
 use std::alloc::Global;
 use std::marker::Model;
 
-/// A list of so many entries is long.
-const LONG: u64 = 64;
-
-/// By what a value leads to a range list: its offset, or its index.
-#[derive(Clone, Copy)]
-pub(crate) enum ListKey {
-    ByOffset(u64),
-    ByIndex(u64),
-}
-
-/// What a long list was read by, and those of its ranges that are code of the file.
-#[derive(Drop)]
-pub(crate) struct LongList {
-    pub version: u16,
-    pub base: u64,
-    pub bases: Bases,
-    pub live: Vec<(u64, u64)>,
-}
-
-/// The long range lists of a file by the values that lead to them, so that a list to which many
-/// entries refer is read once for a base address. What is kept belongs to one file.
+/// What the range lists of a file come to from places on, so that a list to which many entries
+/// refer, and lists that end in one another, are read once for a base address. What is kept belongs
+/// to one file.
 #[derive(Drop)]
 pub struct Lists {
-    by_offset: IndexMap<u64, LongList>,
-    by_index: IndexMap<u64, LongList>,
+    of_pairs: IndexMap<u64, Tail>,
+    coded: IndexMap<u64, Tail>,
+    live: Vec<(u64, u64)>,
 }
 
 impl Model for Lists {
@@ -52,16 +37,20 @@ impl Model for Lists {
 
     ghost Value = { LongLists };
 
-    ghost view = { λ a. record { by_offset = a.by_offset.entries; by_index = a.by_index.entries } };
+    ghost view = { λ a. record {
+      of_pairs = a.of_pairs.entries;
+      coded = a.coded.entries;
+      live = a.live.items;
+    } };
 }
 
-impl LongList {
-    /// Whether a list was read as the entries of a unit read it.
-    fn is_read_by(&self, of: &InUnit<'_>) -> bool
+impl Tail {
+    /// Whether a tail is counted from a base, and by these bases of indexes.
+    fn is_by(&self, base: u64, bases: &Bases) -> bool
         ensures { IsTrue result
-            → in_unit of.now ≡ read_by (range_sections_of of.now.parts) self.now }
+            → (self.now.base ≡ base) × (bases_of self.now.bases ≡ bases_of bases.now) }
     {
-        self.version == of.version && self.base == of.base && self.bases == of.bases
+        self.base == base && self.bases == *bases
     }
 }
 
@@ -71,115 +60,117 @@ impl Lists {
         ensures { result ≡ no_lists }
     {
         Lists {
-            by_offset: IndexMap::new(alloc),
-            by_index: IndexMap::new(alloc),
+            of_pairs: IndexMap::new(alloc),
+            coded: IndexMap::new(alloc),
+            live: Vec::new(alloc),
         }
     }
 
-    /// The list that is kept for a key.
-    fn at(&self, key: ListKey) -> Option<&LongList>
-        ensures { option_copied result ≡ list_at self.now key }
+    /// The tail that is kept for a place.
+    fn at(&self, pairs: bool, at: u64) -> Option<Tail>
+        ensures { result ≡ tail_at self.now pairs at }
     {
-        match key {
-            ListKey::ByOffset(at) => self.by_offset.get(&at),
-            ListKey::ByIndex(index) => self.by_index.get(&index),
+        if pairs {
+            self.of_pairs.get(&at).copied()
+        } else {
+            self.coded.get(&at).copied()
         }
     }
 
-    /// Keeps a list.
-    #[tactic(auto, using(crate::proofs::ListLemmas::adds_list_lemmas))]
-    fn keep(&mut self, key: ListKey, list: LongList) -> Result<(), NoMemory>
-        ensures { AddsList self.old self.new key list }
-    {
-        match key {
-            ListKey::ByOffset(at) => keep_at(&mut self.by_offset, at, list),
-            ListKey::ByIndex(index) => keep_at(&mut self.by_index, index, list),
-        }
-    }
-
-    /// The live ranges that are kept for a key, where these were read as this unit reads them.
-    fn live_at(
+    /// What is left of a list from a place on, where that is known and is not too long.
+    pub(crate) fn rest_at(
         &self,
         alloc: Global,
         of: &InUnit<'_>,
-        key: ListKey,
-    ) -> Result<Option<Vec<(u64, u64)>>, NoMemory>
-        ensures { (file : List ℕ) → RemembersLists file (range_sections_of of.now.parts) self.now
-            → IfOk result (λ kept. IfSome kept
-            (λ live. IsLive file (in_unit of.now) key live.items)) }
+        pairs: bool,
+        at: u64,
+        base: u64,
+        most: u64,
+    ) -> Result<Option<Rest>, NoMemory>
+        ensures { let sections = range_sections_of of.now.parts in
+            let resolve = address_of sections.texts (bases_of of.now.bases) in
+            (file : List ℕ) (cur : Cursor) → RemembersLists file sections self.now
+            → cur.at ≡ at → Stands (section_by sections pairs) cur
+            → IfOk result (λ known. IfSome known (λ rest. (rest.entries ≤ most)
+            × IsRest file resolve pairs cur base rest.entries rest.live.items)) }
     {
-        match self.at(key) {
-            Some(list) if list.is_read_by(of) => Ok(Some(copied(alloc, &list.live)?)),
+        match self.at(pairs, at) {
+            Some(tail) if tail.is_by(base, &of.bases) && tail.entries <= most => {
+                let Some(live) = self.live.get(tail.from..tail.to) else {
+                    return Ok(None);
+                };
+                Ok(Some(Rest {
+                    entries: tail.entries,
+                    live: copied(alloc, live)?,
+                }))
+            }
             _ => Ok(None),
         }
     }
 
-    /// Keeps the live ranges of a list that was read, if the list is long.
-    fn keep_long(
-        &mut self,
-        alloc: Global,
-        of: &InUnit<'_>,
-        key: ListKey,
-        read: &Ranges,
-    ) -> Result<(), NoMemory>
-        ensures { (file : List ℕ) → IsLive file (in_unit of.now) key read.now.ranges.items
-            → RemembersLists file (range_sections_of of.now.parts) self.old
-            → RemembersLists file (range_sections_of of.now.parts) self.new }
+    /// Keeps a tail for a place.
+    #[tactic(auto, using(crate::proofs::ListLemmas::adds_tail_lemmas))]
+    fn keep_tail(&mut self, pairs: bool, at: u64, tail: Tail) -> Result<(), NoMemory>
+        ensures { AddsTail self.old self.new pairs at tail }
     {
-        if read.entries < LONG {
+        if pairs {
+            keep_at(&mut self.of_pairs, at, tail)
+        } else {
+            keep_at(&mut self.coded, at, tail)
+        }
+    }
+
+    /// Keeps what a list comes to from a mark on, its live ranges being the last that are kept,
+    /// from an index on.
+    fn keep_mark(
+        &mut self,
+        of: &InUnit<'_>,
+        pairs: bool,
+        entries: u64,
+        from: usize,
+        mark: &Mark,
+    ) -> Result<(), NoMemory>
+        requires counted { mark.now.passed ≤ entries }
+        requires within { from + mark.now.found ≤ length self.old.live }
+        ensures known { (file : List ℕ) (sections : RangeSections)
+            → IsMarked file sections (address_of sections.texts (bases_of of.now.bases)) pairs
+            entries (drop from self.old.live) mark.now → RemembersLists file sections self.old
+            → RemembersLists file sections self.new }
+        ensures live { self.new.live ≡ self.old.live }
+    {
+        let to = self.live.len();
+        let tail = Tail {
+            base: mark.base,
+            bases: of.bases,
+            entries: entries - mark.passed,
+            from: from + mark.found,
+            to,
+        };
+        self.keep_tail(pairs, mark.at, tail)
+    }
+
+    /// Keeps what a long list comes to from each of its marks on.
+    fn keep(&mut self, of: &InUnit<'_>, pairs: bool, walked: &Walked) -> Result<(), NoMemory>
+        requires { All (λ mark. (mark.passed ≤ walked.now.entries)
+            × (mark.found ≤ length walked.now.live.items)) walked.now.marks.items }
+        ensures { (file : List ℕ) (sections : RangeSections)
+            → All (IsMarked file sections (address_of sections.texts (bases_of of.now.bases)) pairs
+            walked.now.entries walked.now.live.items) walked.now.marks.items
+            → RemembersLists file sections self.old → RemembersLists file sections self.new }
+    {
+        if walked.entries < LONG || walked.marks.is_empty() {
             return Ok(());
         }
-        let list = LongList {
-            version: of.version,
-            base: of.base,
-            bases: of.bases,
-            live: copied(alloc, &read.ranges)?,
-        };
-        self.keep(key, list)
-    }
-
-    /// Reads the list of a key, and keeps it if it is long.
-    fn read(
-        &mut self,
-        alloc: Global,
-        elf: &Elf<'_>,
-        of: &InUnit<'_>,
-        found: &Found<'_>,
-        key: ListKey,
-    ) -> Result<Vec<(u64, u64)>, Stop>
-        requires leads { IsKeyOf found.now.value key }
-        requires known { RemembersLists elf.now (range_sections_of of.now.parts) self.old }
-        ensures live { GivesUnlessNoMemory (λ live. live.items) result
-            (live_listed elf.now (in_unit of.now) found.now) }
-        ensures known { RemembersLists elf.now (range_sections_of of.now.parts) self.new }
-    {
-        let read = read_live(alloc, elf, of, found)?;
-        self.keep_long(alloc, of, key, &read)?;
-        Ok(read.ranges)
-    }
-
-    /// The live ranges of the list of a key.
-    fn live_by(
-        &mut self,
-        alloc: Global,
-        elf: &Elf<'_>,
-        of: &InUnit<'_>,
-        found: &Found<'_>,
-        key: ListKey,
-    ) -> Result<Vec<(u64, u64)>, Stop>
-        requires leads { IsKeyOf found.now.value key }
-        requires known { RemembersLists elf.now (range_sections_of of.now.parts) self.old }
-        ensures live { GivesUnlessNoMemory (λ live. live.items) result
-            (live_listed elf.now (in_unit of.now) found.now) }
-        ensures known { RemembersLists elf.now (range_sections_of of.now.parts) self.new }
-    {
-        match self.live_at(alloc, of, key)? {
-            Some(live) => Ok(live),
-            None => self.read(alloc, elf, of, found, key),
+        let from = self.live.len();
+        self.live.extend_from_slice(&walked.live)?;
+        for mark in &walked.marks {
+            self.keep_mark(of, pairs, walked.entries, from, mark)?;
         }
+        Ok(())
     }
 
-    /// The live ranges of the list that `DW_AT_ranges` leads to.
+    /// The live ranges of the list that `DW_AT_ranges` leads to, in no more room than they take:
+    /// each entry keeps its own.
     pub(crate) fn live_ranges(
         &mut self,
         alloc: Global,
@@ -192,38 +183,24 @@ impl Lists {
             (live_listed elf.now (in_unit of.now) found.now) }
         ensures known { RemembersLists elf.now (range_sections_of of.now.parts) self.new }
     {
-        match key_of(found.value) {
-            Some(key) => self.live_by(alloc, elf, of, found, key),
-            None => Ok(read_live(alloc, elf, of, found)?.ranges),
-        }
+        let list = list_at(of, found)?;
+        let pairs = list.pairs;
+        let walked = read_list(alloc, elf, of, list, self)?;
+        self.keep(of, pairs, &walked)?;
+        let mut live = walked.live;
+        live.shrink_to_fit();
+        Ok(live)
     }
 }
 
-/// The key of the list that a value leads to, if it leads to one.
-fn key_of(value: Value<'_>) -> Option<ListKey>
-    ensures { IfSome result (IsKeyOf (meaning_of value.entry)) }
+/// The list that `DW_AT_ranges` leads to.
+fn list_at<'a>(of: &InUnit<'a>, found: &Found<'a>) -> Result<RangeList<'a>, Place>
+    ensures { (file : List ℕ) → FindsList file (in_unit of.now) found.now result }
 {
-    match value {
-        Value::Offset(at) => Some(ListKey::ByOffset(at)),
-        Value::Const(at) => Some(ListKey::ByOffset(at)),
-        Value::RangeIndex(index) => Some(ListKey::ByIndex(index)),
-        _ => None,
+    match list_of(found.value, of.version, &of.parts, &of.bases) {
+        Ok(list) => Ok(list),
+        Err(kind) => Err(Place::in_binary(found.at as usize, kind)),
     }
-}
-
-/// Reads the list that `DW_AT_ranges` leads to, and keeps of its ranges those that are code.
-fn read_live(
-    alloc: Global,
-    elf: &Elf<'_>,
-    of: &InUnit<'_>,
-    found: &Found<'_>,
-) -> Result<Ranges, Stop>
-    ensures { GivesUnlessNoMemory (λ read. read.ranges.items) result
-        (live_listed elf.now (in_unit of.now) found.now) }
-{
-    let mut read = listed(alloc, of, found)?;
-    keep_live(&mut read.ranges, elf);
-    Ok(read)
 }
 
 /// The same ranges once more.

@@ -4,14 +4,13 @@ ghost use Rattle.std.specs.Option.{option_to_list};
 ghost use Rattle.dwarf_strings.specs.Meaning.{Gives};
 ghost use Rattle.unit_model.specs.Constants.{DW_AT_high_pc, DW_AT_low_pc};
 ghost use Rattle.tree_model.specs.Bases.{attribute as attribute_told};
-ghost use Rattle.tree_model.specs.Pieces.{end_by as end_told, listed as listed_told, pair as pair_told, spelled_by};
+ghost use Rattle.tree_model.specs.Pieces.{end_by as end_told, pair as pair_told, spelled_by};
 ghost use Rattle.entry_facts.specs.Told.{GivesUnlessNoMemory, in_unit};
 
 use crate::attributes::{address_at, attribute};
 use crate::in_unit::InUnit;
 use dwarf_forms::Value;
 use dwarf_info::{DW_AT_HIGH_PC, DW_AT_LOW_PC, Entry, Found};
-use dwarf_ranges::{Ranges, read_ranges};
 use refusal::{NoMemory, Place, Stop};
 use std::alloc::Global;
 
@@ -30,20 +29,6 @@ pub(crate) fn by_ends(
     let high = attribute(&entry.found, DW_AT_HIGH_PC);
     let range = between(of, low, high)?;
     Ok(list_of(alloc, range)?)
-}
-
-/// The ranges of the list that `DW_AT_ranges` leads to.
-pub(crate) fn listed(alloc: Global, of: &InUnit<'_>, found: &Found<'_>) -> Result<Ranges, Stop>
-    ensures { GivesUnlessNoMemory (λ read. read.ranges.items) result
-        (listed_told (in_unit of.now) found.now) }
-{
-    let InUnit {
-        parts,
-        version,
-        base,
-        bases,
-    } = of;
-    read_ranges(alloc, found.at, found.value, *version, *base, parts, bases)
 }
 
 /// The range by `DW_AT_low_pc` and `DW_AT_high_pc`, where both are there.

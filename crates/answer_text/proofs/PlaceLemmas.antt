@@ -7,7 +7,8 @@ use Rattle.key_types.specs.declared.key.Frame.{Frame}
 use Rattle.key_types.specs.declared.key.Key.{Key}
 use Rattle.profile_model.specs.Text.{location_text}
 use Rattle.profile_model.specs.Ways.{to_body, to_call}
-use Rattle.binary_model.specs.Places.{name_of, way_of}
+use Rattle.binary_model.specs.Places.{way_of}
+use Rattle.key_types.specs.Numbers.{name_of}
 use Rattle.command_model.specs.Where.{step_text, way_text}
 use Rattle.answer_text.specs.Calls.{call_text}
 

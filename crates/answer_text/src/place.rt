@@ -2,7 +2,8 @@
 ghost use Rattle.std.specs.Prelude.{◌≡◌, ◌++◌, ◌<◌, length, codes, IfOk, OnOk};
 ghost use Rattle.std.specs.List.{All, flat_map};
 ghost use Rattle.profile_model.specs.Text.{location_text};
-ghost use Rattle.binary_model.specs.Places.{Place, name_of as name_told, way_of};
+ghost use Rattle.binary_model.specs.Places.{Place, way_of};
+ghost use Rattle.key_types.specs.Numbers.{name_of as name_told};
 ghost use Rattle.binary_places.specs.Binary.{IsGiven, TellsNamed};
 ghost use Rattle.command_model.specs.Where.{place_text, where_text, way_text};
 ghost use Rattle.answer_text.specs.Calls.{call_text};

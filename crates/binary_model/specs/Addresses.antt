@@ -4,7 +4,8 @@ use Rattle.std.specs.Option.{option_map}
 use Rattle.chain_model.specs.Chains.{function_at}
 use Rattle.chain_model.specs.Places.{entry_name, factor_at}
 use Rattle.binary_model.specs.Binary.{members_in, tables_in}
-use Rattle.binary_model.specs.Places.{name_of, names_of, numbered_from, row_in}
+use Rattle.binary_model.specs.Places.{names_of, numbered_from, row_in}
+use Rattle.key_types.specs.Numbers.{name_of}
 
 -- The function of an address, by its number among the functions and inlined calls.
 unfoldable pub function_of_address : List ℕ → ℕ → Option ℕ

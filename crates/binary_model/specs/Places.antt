@@ -1,8 +1,8 @@
 -- The place of an address of a binary, in names.
 use Rattle.std.specs.Prelude.{ℕ, ◌+◌, Bool, List, [], ◌∷◌, ◌++◌, map, slice_get, Option, unwrap_or, option_and_then}
 use Rattle.std.specs.Option.{option_map}
-use Rattle.key_types.specs.declared.ids.NameId.{NameId}
 use Rattle.key_types.specs.declared.key.Key.{Key}
+use Rattle.key_types.specs.Numbers.{name_of}
 use Rattle.line_model.specs.Rows.{Sequence, row_among}
 use Rattle.chain_model.specs.declared.member.Member.{Member}
 use Rattle.chain_model.specs.Places as by_number
@@ -18,10 +18,6 @@ pub data Place : Type 0 where
   nameless : Place
   no_line : Place
   at_way : Way → Place
-
--- The name of a number; a number that was not given has the empty name.
-abbrev pub name_of : List (List ℕ) → NameId → List ℕ
-name_of names id = unwrap_or (slice_get names id.0) []
 
 -- A key as a way.
 abbrev pub way_of : List (List ℕ) → Key → Way

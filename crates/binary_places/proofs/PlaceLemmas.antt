@@ -18,7 +18,8 @@ use Rattle.entry_facts.specs.Meaning.{IsNumberOf}
 use Rattle.tree_model.specs.Members.{Told}
 use Rattle.inline_tree.specs.Told.{AreTold}
 use Rattle.profile_model.specs.Ways.{Step, to_body, to_call, to_function}
-use Rattle.binary_model.specs.Places.{in_names, name_of, way_of}
+use Rattle.binary_model.specs.Places.{in_names, way_of}
+use Rattle.key_types.specs.Numbers.{name_of}
 use Rattle.binary_places.specs.Binary.{IsGiven, TellsNamed}
 
 module _ (ns ks : List (List ℕ)) where

@@ -20,7 +20,8 @@ use Rattle.unit_model.specs.Table.{abbrev_behind, abbrev_of, attrs, children_byt
 use Rattle.binary_model.specs.Addresses.{entered_at, factor_of_address, function_of_address}
 use Rattle.binary_model.specs.Binary.{first_bad_of_binary, members_read, rows_read, units_read, members_in, tables_in}
 use Rattle.binary_model.specs.LinePrograms.{rows_of_unit, rows_of_units}
-use Rattle.binary_model.specs.Places.{place_among, place_of_address, numbered_from, names_of, name_of, row_in}
+use Rattle.binary_model.specs.Places.{place_among, place_of_address, numbered_from, names_of, row_in}
+use Rattle.key_types.specs.Numbers.{name_of}
 use Rattle.binary_model.specs.Sections.{section_at}
 use Rattle.byte_view.specs.Reading.{field_at, run_at, sleb_at, text_at, uleb_at}
 use Rattle.case_model.specs.Abbrev.{abstract_kind, debug_abbrev, function_kind, inlined_kind, unit_kind}

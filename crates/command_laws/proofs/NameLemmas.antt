@@ -16,7 +16,8 @@ use Rattle.profile_model.specs.Ways.{Step, to_body, to_call}
 use Rattle.tree_model.specs.Members.{Told}
 use Rattle.binary_model.specs.Addresses.{entered_at}
 use Rattle.binary_model.specs.Binary.{members_in, tables_in}
-use Rattle.binary_model.specs.Places.{Place as Where, at_way, in_names, name_of, names_of, nameless, no_line, numbered_from, outside, place_among, place_of_address, row_in, way_of}
+use Rattle.binary_model.specs.Places.{Place as Where, at_way, in_names, names_of, nameless, no_line, numbered_from, outside, place_among, place_of_address, row_in, way_of}
+use Rattle.key_types.specs.Numbers.{name_of}
 use Rattle.chain_model.specs.Places.{entry_name, place_at}
 use Rattle.way_laws.proofs.NameLemmas.{AreTold, IsNameIfAny, members_are_told}
 

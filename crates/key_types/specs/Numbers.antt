@@ -1,5 +1,6 @@
 -- Items by number: each once, at its place in the order in which they were added.
-use Rattle.std.specs.Prelude.{◌≡◌, ◌≢◌, ◌↔◌, ℕ, List, [], ◌∷◌, ◌++◌, AllPairs, Contains, Some, slice_get}
+use Rattle.std.specs.Prelude.{◌≡◌, ◌≢◌, ◌↔◌, ℕ, List, [], ◌∷◌, ◌++◌, AllPairs, Contains, Some, slice_get, unwrap_or}
+use Rattle.key_types.specs.declared.ids.NameId.{NameId}
 
 -- No item has two numbers.
 abbrev pub IsNumbered : {T : Type 0} → List T → Type 0
@@ -16,3 +17,7 @@ abbrev pub OneNumberEach : Type 0 → Type 0
 OneNumberEach T =
     (items : List T) (m n : ℕ) (x y : T)
     → IsNumbered items → slice_get items m ≡ Some x → slice_get items n ≡ Some y → (m ≡ n) ↔ (x ≡ y)
+
+-- The name of a number; a number that was not given has the empty name.
+abbrev pub name_of : List (List ℕ) → NameId → List ℕ
+name_of names id = unwrap_or (slice_get names id.0) []

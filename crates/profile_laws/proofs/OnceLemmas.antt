@@ -1,13 +1,12 @@
 -- A text without a bad place tells each of its numbers once.
 use Rattle.std.proofs.Common.{◌≡◌, ◌≢◌, ℕ, Bool, true, false, List, [], ◌∷◌, ◌++◌, map, Some, None, Option, refl, sym, ap, ◌∙◌, arith}
 use Rattle.std.proofs.lemmas.Bool.{true≢false, le-ltb, or_parts, or_left, or_right}
-use Rattle.std.proofs.ByRecursion.{All-append}
 use Rattle.std.proofs.lemmas.List.Elements.{All-from_recursion}
 use Rattle.std.proofs.lemmas.List.Kept.{AllPairs-cons}
 use Rattle.std.specs.Prelude.{⊤}
 use Rattle.std.specs.Cmp.Lexicographic.{bytes_decides}
 use Rattle.std.specs.List.{AllByRecursion, list_any}
-use Rattle.list_lemmas.proofs.Each.{all_then}
+use Rattle.list_lemmas.proofs.Each.{all_append, all_then}
 use Rattle.refusal.specs.declared.kind.Kind.{Kind}
 use Rattle.refusal.specs.declared.kind.Kind.TheVariants.{TooDeep, BadIndent, KeyTwice}
 use Rattle.refusal.specs.Place.{first_bad, first_cause}
@@ -35,7 +34,7 @@ apart_both : {T U : Type 0} (tell : T → U) (items more : List T) → Apart tel
     → AllByRecursion (λ x. AllByRecursion (λ y. tell x ≢ tell y) more) items → Apart tell (items ++ more)
 apart_both tell [] more apart behind all = behind
 apart_both tell (x ∷ items) more apart behind all =
-    (All-append (λ y. tell x ≢ tell y) items more apart.0 all.0, apart_both tell items more apart.1 behind all.1)
+    (all_append (λ y. tell x ≢ tell y) items more apart.0 all.0, apart_both tell items more apart.1 behind all.1)
 
 -- ---- the targets of a line
 
@@ -140,7 +139,7 @@ fresh_both way ways numbers more apart here first fresh = record {
       (all_then (λ (number : Number). way_told number.what ≡ way) (λ (number : Number). AllByRecursion (λ (other : Number). number.what ≢ other.what) more)
       (λ number is. all_then (λ (other : Number). AllByRecursion (λ w. way_told other.what ≢ w) (way ∷ ways)) (λ (other : Number). number.what ≢ other.what)
       (λ other news same. news.0 (ap way_told (sym same) ∙ is)) more fresh.new) numbers here);
-  new = All-append (λ (number : Number). AllByRecursion (λ w. way_told number.what ≢ w) ways) numbers more
+  new = all_append (λ (number : Number). AllByRecursion (λ w. way_told number.what ≢ w) ways) numbers more
       (all_then (λ (number : Number). way_told number.what ≡ way) (λ (number : Number). AllByRecursion (λ w. way_told number.what ≢ w) ways)
       (λ number is. all_then (λ (w : Way). way ≢ w) (λ (w : Way). way_told number.what ≢ w) (λ w differs same. differs (sym is ∙ same)) ways first) numbers here)
       (all_then (λ (number : Number). AllByRecursion (λ w. way_told number.what ≢ w) (way ∷ ways)) (λ (number : Number). AllByRecursion (λ w. way_told number.what ≢ w) ways)

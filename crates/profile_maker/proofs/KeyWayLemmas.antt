@@ -9,7 +9,8 @@ use Rattle.chain_model.specs.Places as by_number
 use Rattle.profile_model.specs.Orders.{ordered, placed, way_cmp, with_item}
 use Rattle.profile_model.specs.Ways.{Way, to_body, to_call}
 use Rattle.profile_laws.specs.Totals.{EndsInBody, IsKeyWay}
-use Rattle.binary_model.specs.Places.{in_names, name_of, place_among, place_of_address, way_of}
+use Rattle.binary_model.specs.Places.{in_names, place_among, place_of_address, way_of}
+use Rattle.key_types.specs.Numbers.{name_of}
 use Rattle.output_model.specs.Program.{program_of, way_at, way_of_place}
 use Rattle.output_model.specs.Sampled.{all_addresses, count_among, profile_of, ways_among}
 use Rattle.profile_maker.specs.Laws.{KeyWaysAreTold}

@@ -33,7 +33,8 @@ use Rattle.profile_model.specs.Ways.{to_body, to_call, to_function}
 use Rattle.profile_tree.specs.Steps.{frame_step, named, at_line, steps_of, steps_of_given}
 use Rattle.binary_model.specs.Addresses.{entered_at, factor_of_address}
 use Rattle.binary_model.specs.Binary.{members_in, tables_in}
-use Rattle.binary_model.specs.Places.{Place, outside, nameless, no_line, at_way, name_of, names_of, numbered_from, place_of_address, row_in, way_of}
+use Rattle.binary_model.specs.Places.{Place, outside, nameless, no_line, at_way, names_of, numbered_from, place_of_address, row_in, way_of}
+use Rattle.key_types.specs.Numbers.{name_of}
 use Rattle.binary_places.specs.Binary.{IsPlaced, IsWay, TellsNamed, asks_in}
 use Rattle.binary_places.specs.declared.binary.Placed.{Placed}
 use Rattle.binary_places.proofs.FunctionLemmas.{SameFound, SameName, function_same, same_found}

@@ -3,7 +3,8 @@ ghost use Rattle.std.specs.Prelude.{◌≡◌, ◌<◌, ◌++◌, codes, length,
 ghost use Rattle.std.specs.Io.{StartsWith};
 ghost use Rattle.std.specs.List.{All, flat_map};
 ghost use Rattle.profile_model.specs.Text.{disc_text, indent, line_text, location_text, named_text, target_text};
-ghost use Rattle.profile_tree.specs.Told.{IsOf, name_of, told, told_target};
+ghost use Rattle.profile_tree.specs.Told.{IsOf, told, told_target};
+ghost use Rattle.key_types.specs.Numbers.{name_of};
 
 use key_types::{NameId, Names};
 use profile_tree::{Line, Target};

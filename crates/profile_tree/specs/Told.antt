@@ -1,16 +1,11 @@
 -- The lines of a tree, as the lines of a profile that they tell.
-use Rattle.std.specs.Prelude.{◌<◌, ℕ, List, [], map, length, slice_get}
-use Rattle.std.specs.Option.{unwrap_or}
+use Rattle.std.specs.Prelude.{◌<◌, ℕ, List, map, length}
 use Rattle.std.specs.List.{All}
-use Rattle.key_types.specs.declared.ids.NameId.{NameId}
+use Rattle.key_types.specs.Numbers.{name_of}
 use Rattle.profile_model.specs.Profile.{Line as told_line, function_line, body_line, call_line}
 use Rattle.profile_tree.specs.declared.line.Line.{Line}
 use Rattle.profile_tree.specs.declared.line.Line.TheVariants.{Function, Body, Call}
 use Rattle.profile_tree.specs.declared.line.Target.{Target}
-
--- The name of a number; a number that was not given has the empty name.
-abbrev pub name_of : List (List ℕ) → NameId → List ℕ
-name_of names id = unwrap_or (slice_get names id.0) []
 
 -- A target, with its name.
 abbrev pub told_target : List (List ℕ) → Target → List ℕ × ℕ

@@ -2,8 +2,8 @@
 use Rattle.std.proofs.Common.{◌≡◌, ◌<◌, ◌^◌, ℕ, ◌+◌, List, [], ◌∷◌, None, ap, ◌∙◌, arith}
 use Rattle.std.specs.List.{AllByRecursion}
 use Rattle.std.specs.Option.{option_or}
-use Rattle.std.proofs.ByRecursion.{All-append}
 use Rattle.std.proofs.lemmas.List.Elements.{All-from_recursion}
+use Rattle.list_lemmas.proofs.Each.{all_append}
 use Rattle.refusal.specs.Place.{first_bad}
 use Rattle.refusal.proofs.PlaceLemmas.{first_bad-append}
 use Rattle.merge_laws.proofs.GoodLemmas.{Fits, sums_good}
@@ -76,7 +76,7 @@ alone before none (number ∷ numbers) all = (let zero_before = none number.what
 told_fit : (p : Profile) → CanBeWritten p → (n : ℕ) (ways : List Way) → AllByRecursion IsLineWay ways → AllByRecursion (λ (number : Number). number.times < 2 ^ 64) (numbers_told p n ways)
 told_fit p can n [] all = tt
 told_fit p can n (way ∷ ways) all =
-    All-append (λ (number : Number). number.times < 2 ^ 64) (numbers_on n way (line_at p way)) (numbers_told p (n + 1) ways)
+    all_append (λ (number : Number). number.times < 2 ^ 64) (numbers_on n way (line_at p way)) (numbers_told p (n + 1) ways)
     (line_fits n way (line_at p way) (line_told p way can all.0)) (told_fit p can (n + 1) ways all.1)
 
 good_alone : (p : Profile) (comments : List (List ℕ)) → CanBeWritten p → AllByRecursion IsComment comments → first_bad_of_summed 1 1 (merged []) (text_with p comments) ≡ None

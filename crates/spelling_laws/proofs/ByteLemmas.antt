@@ -4,12 +4,12 @@ use Rattle.std.specs.Prelude.{decimal}
 use Rattle.std.specs.Char.{digit_value}
 use Rattle.std.specs.List.{AllByRecursion, list_any}
 use Rattle.std.specs.Str.Parse.{AllDigits, IsNumeral}
-use Rattle.std.proofs.ByRecursion.{All-append}
 use Rattle.std.proofs.lemmas.Bool.{true≢false, or_parts}
 use Rattle.std.proofs.lemmas.Bool.Decides.{nat_tests}
 use Rattle.std.proofs.lemmas.Fmt.{decimal_is_IsNumeral_wide}
 use Rattle.std.proofs.lemmas.List.Elements.{All-from_recursion}
 use Rattle.std.proofs.lemmas.List.Splits.{slice_split_at, slice_split_none}
+use Rattle.list_lemmas.proofs.Each.{all_append}
 use Rattle.profile_model.specs.Names.{begins_no_name, is_name, parts_names}
 use Rattle.profile_model.specs.Reading.{parts_at}
 
@@ -74,4 +74,4 @@ parts_first c bytes rest lacks =
     itself n = grind (arith, nat_tests)
 
 pub both_lack : (c : ℕ) (xs ys : List ℕ) → Lacks c xs → Lacks c ys → Lacks c (xs ++ ys)
-both_lack c xs ys one other = All-append (λ b. (b == c) ≡ false) xs ys one other
+both_lack c xs ys one other = all_append (λ b. (b == c) ≡ false) xs ys one other

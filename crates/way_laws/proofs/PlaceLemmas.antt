@@ -19,7 +19,8 @@ use Rattle.spelling_laws.specs.Told.{EndInBody, IsToldWay}
 use Rattle.tree_model.specs.Members.{Told}
 use Rattle.binary_model.specs.Addresses.{entered_at}
 use Rattle.binary_model.specs.Binary.{members_in, tables_in}
-use Rattle.binary_model.specs.Places.{Place, at_way, in_names, name_of, names_of, nameless, no_line, numbered_from, outside, place_among, place_of_address, row_in, way_of}
+use Rattle.binary_model.specs.Places.{Place, at_way, in_names, names_of, nameless, no_line, numbered_from, outside, place_among, place_of_address, row_in, way_of}
+use Rattle.key_types.specs.Numbers.{name_of}
 use Rattle.way_laws.specs.Rows.{HasDisc}
 use Rattle.way_laws.proofs.EachLemmas.{OfSome, one_found}
 use Rattle.way_laws.proofs.NameLemmas.{AreTold, IsNameIfAny, members_are_told}

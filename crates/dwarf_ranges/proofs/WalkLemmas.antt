@@ -4,9 +4,8 @@ use Rattle.std.proofs.lemmas.List.{length-append}
 use Rattle.byte_view.specs.Cursor.{Cursor}
 use Rattle.range_model.specs.Entries.{Entry, entry_at}
 use Rattle.range_model.specs.Lists.{Resolves}
-use Rattle.range_model.proofs.EntryLemmas.{entry_at-shorter}
+use Rattle.range_model.proofs.EntryLemmas.{entry_at-ends, entry_at-shorter}
 use Rattle.range_model.proofs.ListLemmas.{entries_from-entry}
-use Rattle.dwarf_ranges.proofs.FrontLemmas.{entry_at-ends}
 use Rattle.dwarf_ranges.specs.declared.step.ListStep.{ListStep}
 use Rattle.dwarf_ranges.specs.Meaning.{IsStep}
 use Rattle.dwarf_ranges.specs.Walk.{IsNext}
@@ -16,13 +15,13 @@ pub next-made : (resolve : Resolves) (pairs : Bool) (base place : ℕ) (old new 
     → place ≡ old.at → IsStep resolve place base entry step → IsNext resolve pairs base old new step
 next-made resolve pairs base place old new entry step read end place_is made =
     let ends = entry_at-ends pairs old.left new.left entry read in
-    let moved : new.at ≡ old.at + length ends.0 = omega (arith, end, ap length ends.1, length-append ends.0 new.left) in
+    let moved : new.at ≡ old.at + length ends.front = omega (arith, end, ap length ends.parts, length-append ends.front new.left) in
     record {
       entry = entry;
       here = entries_from-entry pairs old new entry read end;
       shorter = entry_at-shorter pairs old.left new.left entry read;
       made = rw place_is at made;
-      front = ends.0;
-      parts = ends.1;
+      front = ends.front;
+      parts = ends.parts;
       moved = moved;
     }

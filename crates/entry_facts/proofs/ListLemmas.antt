@@ -26,7 +26,7 @@ use Rattle.entry_facts.specs.Kept.{AddsKnown, kept_at}
 use Rattle.entry_facts.specs.Lists.{AddsTail, IsTail, LongLists, RemembersLists, Stands, live_listed, live_spelled, no_lists, section_by, tail_at}
 use Rattle.entry_facts.specs.Told.{GivesUnlessNoMemory}
 use Rattle.entry_facts.specs.Walk.{IsMarked, Walks}
-use Rattle.entry_facts.specs.declared.tail.Mark.{Mark}
+use Rattle.entry_facts.specs.declared.tail.ListMark.{ListMark}
 use Rattle.entry_facts.specs.declared.tail.Tail.{Tail}
 
 -- ---- nothing is kept
@@ -178,7 +178,7 @@ same_left section a b first second at =
     ap (λ (n : ℕ). record { at = n; left = a.left }) at ∙ ap (λ (l : List ℕ). record { at = b.at; left = l }) left
 
 -- what a list comes to from a mark on is kept
-pub tail_kept : (file : List ℕ) (sections : RangeSections) (old new : LongLists) (pairs : Bool) (entries from : ℕ) (bases : TheBases) (mark : Mark) (tail : Tail)
+pub tail_kept : (file : List ℕ) (sections : RangeSections) (old new : LongLists) (pairs : Bool) (entries from : ℕ) (bases : TheBases) (mark : ListMark) (tail : Tail)
     → AddsTail old new pairs mark.at tail → tail.base ≡ mark.base → tail.bases ≡ bases → tail.entries ≡ entries - mark.passed → tail.from ≡ from + mark.found
     → tail.to ≡ length old.live → from + mark.found ≤ length old.live
     → IsMarked file sections (address_of sections.texts (bases_of bases)) pairs entries (drop from old.live) mark
@@ -222,7 +222,7 @@ more_live file sections old new more pairs_same coded_same live_is known = λ pa
     }
 
 -- what a list comes to from one of its marks on is kept
-pub kept_more : (file : List ℕ) (sections : RangeSections) (resolve : Resolves) (pairs : Bool) (entries from i : ℕ) (d : Mark) (first live : List (ℕ × ℕ)) (marks items : List Mark)
+pub kept_more : (file : List ℕ) (sections : RangeSections) (resolve : Resolves) (pairs : Bool) (entries from i : ℕ) (d : ListMark) (first live : List (ℕ × ℕ)) (marks items : List ListMark)
     (old new : LongLists) → old.live ≡ first ++ live → length first ≡ from → items ≡ marks → i < length items
     → All (IsMarked file sections resolve pairs entries live) marks
     → (IsMarked file sections resolve pairs entries (drop from old.live) (get_or items i d) → RemembersLists file sections old → RemembersLists file sections new)

@@ -19,9 +19,9 @@ use Rattle.dwarf_ranges.specs.declared.step.ListStep.{ListStep}
 use Rattle.tree_model.specs.Pieces.{live_ranges}
 use Rattle.entry_facts.specs.Lists.{IsRest, Stands, left_of, section_by}
 use Rattle.entry_facts.specs.Walk.{IsMarked, IsPassed, IsReading, IsWalked, Reached}
-use Rattle.entry_facts.specs.declared.tail.Mark.{Mark}
+use Rattle.entry_facts.specs.declared.tail.ListMark.{ListMark}
 use Rattle.entry_facts.specs.declared.tail.Rest.{Rest}
-use Rattle.entry_facts.specs.declared.walk.Walk.{Walk}
+use Rattle.entry_facts.specs.declared.walk.ListWalk.{ListWalk}
 
 not_so : (cause : Bool) (place : Place) → fails_at cause place ≡ None → cause ≡ false
 not_so true place none = absurd cc
@@ -103,7 +103,7 @@ module _ (file : List ℕ) (resolve : Resolves) (pairs : Bool) where
   }
 
 module _ (file : List ℕ) (sections : RangeSections) (resolve : Resolves) (pairs : Bool) where
-  pub IsPassed-more : (old new : Cursor) (base passed : ℕ) (found more : List (ℕ × ℕ)) (step : ListStep) (mark : Mark)
+  pub IsPassed-more : (old new : Cursor) (base passed : ℕ) (found more : List (ℕ × ℕ)) (step : ListStep) (mark : ListMark)
       → IsNext resolve pairs base old new step → more ≡ found ++ live_ranges file (option_to_list step.range)
       → IsPassed file sections resolve pairs old base passed found mark → IsPassed file sections resolve pairs new step.base (passed + 1) more mark
   IsPassed-more old new base passed found more step mark next more_is was =
@@ -120,7 +120,7 @@ module _ (file : List ℕ) (sections : RangeSections) (resolve : Resolves) (pair
         reached = Reached-more file resolve pairs was.start old new mark.base base was.since (drop mark.found found) (drop mark.found more) step was.reached next rest_is;
       }
 
-  pub IsPassed-here : (cur : Cursor) (base passed : ℕ) (found : List (ℕ × ℕ)) (mark : Mark) → Stands (section_by sections pairs) cur
+  pub IsPassed-here : (cur : Cursor) (base passed : ℕ) (found : List (ℕ × ℕ)) (mark : ListMark) → Stands (section_by sections pairs) cur
       → cur.at ≡ mark.at → base ≡ mark.base → passed ≡ mark.passed → length found ≡ mark.found
       → IsPassed file sections resolve pairs cur base passed found mark
   IsPassed-here cur base passed found mark stands at base_is passed_is found_is = record {
@@ -135,7 +135,7 @@ module _ (file : List ℕ) (sections : RangeSections) (resolve : Resolves) (pair
         (Reached-start file resolve pairs cur base));
   }
 
-  pub IsMarked-rest : (cur : Cursor) (base passed entries : ℕ) (found rest : List (ℕ × ℕ)) (mark : Mark)
+  pub IsMarked-rest : (cur : Cursor) (base passed entries : ℕ) (found rest : List (ℕ × ℕ)) (mark : ListMark)
       → IsRest file resolve pairs cur base entries rest → IsPassed file sections resolve pairs cur base passed found mark
       → IsMarked file sections resolve pairs (passed + entries) (found ++ rest) mark
   IsMarked-rest cur base passed entries found rest mark known was =
@@ -155,7 +155,7 @@ module _ (file : List ℕ) (sections : RangeSections) (resolve : Resolves) (pair
 
 module _ (file : List ℕ) (sections : RangeSections) (resolve : Resolves) (pairs : Bool) (start : Cursor) (first_base : ℕ) where
   -- an entry more
-  pub reading-more : (old : Walk) (cur : Cursor) (more : Vec (ℕ × ℕ)) (step : ListStep)
+  pub reading-more : (old : ListWalk) (cur : Cursor) (more : Vec (ℕ × ℕ)) (step : ListStep)
       → IsReading file sections resolve pairs start first_base old → IsNext resolve pairs old.base old.cur cur step → old.passed < max_entries
       → more.items ≡ old.live.items ++ live_ranges file (option_to_list step.range)
       → IsReading file sections resolve pairs start first_base (record { cur = cur; base = step.base; passed = old.passed + 1; live = more; marks = old.marks })
@@ -168,7 +168,7 @@ module _ (file : List ℕ) (sections : RangeSections) (resolve : Resolves) (pair
   }
 
   -- the list is bad where what is left is
-  bad_behind : (old : Walk) → IsReading file sections resolve pairs start first_base old
+  bad_behind : (old : ListWalk) → IsReading file sections resolve pairs start first_base old
       → bad_in_list resolve 0 (left_of pairs start) ≡ bad_in_list resolve old.passed (left_of pairs old.cur)
   bad_behind old reading =
       let few = reading.few in
@@ -176,7 +176,7 @@ module _ (file : List ℕ) (sections : RangeSections) (resolve : Resolves) (pair
       reading.reached.bad 0 (omega arith) ∙ ap (λ (n : ℕ). bad_in_list resolve n (left_of pairs old.cur)) same
 
   -- one entry too many
-  pub reading-many : (old : Walk) (cur : Cursor) (step : ListStep) → IsReading file sections resolve pairs start first_base old → IsNext resolve pairs old.base old.cur cur step
+  pub reading-many : (old : ListWalk) (cur : Cursor) (step : ListStep) → IsReading file sections resolve pairs start first_base old → IsNext resolve pairs old.base old.cur cur step
       → max_entries ≤ old.passed → bad_in_list resolve 0 (left_of pairs start) ≡ Some (in_binary step.at TooManyRanges)
   reading-many old cur step reading next many =
       let rest = left_of pairs cur in
@@ -185,12 +185,12 @@ module _ (file : List ℕ) (sections : RangeSections) (resolve : Resolves) (pair
       ∙ ap (λ (n : ℕ). Some (in_binary n TooManyRanges)) (sym next.made.at_place)
 
   -- an entry that is bad
-  pub reading-bad : (old : Walk) (place : Place) → IsReading file sections resolve pairs start first_base old
+  pub reading-bad : (old : ListWalk) (place : Place) → IsReading file sections resolve pairs start first_base old
       → ((count : ℕ) → bad_in_list resolve count (left_of pairs old.cur) ≡ Some place) → bad_in_list resolve 0 (left_of pairs start) ≡ Some place
   reading-bad old place reading bad = bad_behind old reading ∙ bad old.passed
 
   -- the rest is known
-  pub reading-rest : (old : Walk) (entries : ℕ) (rest : List (ℕ × ℕ)) → IsReading file sections resolve pairs start first_base old
+  pub reading-rest : (old : ListWalk) (entries : ℕ) (rest : List (ℕ × ℕ)) → IsReading file sections resolve pairs start first_base old
       → IsRest file resolve pairs old.cur old.base entries rest → old.passed + entries ≤ max_entries
       → IsWalked file sections resolve pairs start first_base (old.passed + entries) (old.live.items ++ rest) old.marks.items
   reading-rest old entries rest reading known few = record {
@@ -201,7 +201,7 @@ module _ (file : List ℕ) (sections : RangeSections) (resolve : Resolves) (pair
   }
 
   -- the list ends
-  pub reading-end : (old : Walk) → IsReading file sections resolve pairs start first_base old → left_of pairs old.cur ≡ record { entries = []; broken = None }
+  pub reading-end : (old : ListWalk) → IsReading file sections resolve pairs start first_base old → left_of pairs old.cur ≡ record { entries = []; broken = None }
       → IsWalked file sections resolve pairs start first_base old.passed old.live.items old.marks.items
   reading-end old reading none =
       let few = reading.few in
@@ -211,7 +211,7 @@ module _ (file : List ℕ) (sections : RangeSections) (resolve : Resolves) (pair
       (subst (λ (n : ℕ). IsWalked file sections resolve pairs start first_base n (old.live.items ++ []) old.marks.items) count whole)
 
   -- a mark more
-  pub reading-marked : (old : Walk) (mark : Mark) (marks : Vec Mark) → IsReading file sections resolve pairs start first_base old → marks.items ≡ old.marks.items ++ mark ∷ []
+  pub reading-marked : (old : ListWalk) (mark : ListMark) (marks : Vec ListMark) → IsReading file sections resolve pairs start first_base old → marks.items ≡ old.marks.items ++ mark ∷ []
       → old.cur.at ≡ mark.at → old.base ≡ mark.base → old.passed ≡ mark.passed → length old.live.items ≡ mark.found
       → IsReading file sections resolve pairs start first_base (record { cur = old.cur; base = old.base; passed = old.passed; live = old.live; marks = marks })
   reading-marked old mark marks reading added at base_is passed_is found_is =
@@ -225,7 +225,7 @@ module _ (file : List ℕ) (sections : RangeSections) (resolve : Resolves) (pair
       }
 
   -- nothing was read
-  pub reading-start : (walk : Walk) → walk.cur ≡ start → walk.base ≡ first_base → walk.passed ≡ 0 → walk.live.items ≡ [] → walk.marks.items ≡ []
+  pub reading-start : (walk : ListWalk) → walk.cur ≡ start → walk.base ≡ first_base → walk.passed ≡ 0 → walk.live.items ≡ [] → walk.marks.items ≡ []
       → Stands (section_by sections pairs) start → IsReading file sections resolve pairs start first_base walk
   reading-start walk cur base none live marks stands =
       let P = IsPassed file sections resolve pairs walk.cur walk.base walk.passed walk.live.items in

@@ -10,9 +10,9 @@ use Rattle.unit_model.specs.Values.{Found}
 use Rattle.range_model.specs.Lists.{RangeSections, Resolves, bad_in_list, list_of, max_entries, ranges_from}
 use Rattle.tree_model.specs.Pieces.{InUnit, live_ranges}
 use Rattle.entry_facts.specs.Lists.{IsRest, Stands, left_of, live_listed, section_by}
-use Rattle.entry_facts.specs.declared.tail.Mark.{Mark}
+use Rattle.entry_facts.specs.declared.tail.ListMark.{ListMark}
 use Rattle.entry_facts.specs.declared.tail.Walked.{Walked}
-use Rattle.entry_facts.specs.declared.walk.Walk.{Walk}
+use Rattle.entry_facts.specs.declared.walk.ListWalk.{ListWalk}
 
 -- From a cursor on so many entries were read up to another one, which have these live ranges.
 pub record Reached (file : List ℕ) (resolve : Resolves) (pairs : Bool) (start : Cursor) (first_base : ℕ) (cur : Cursor)
@@ -24,7 +24,7 @@ pub record Reached (file : List ℕ) (resolve : Resolves) (pairs : Bool) (start 
 
 -- The reader of a list came by a mark.
 pub record IsPassed (file : List ℕ) (sections : RangeSections) (resolve : Resolves) (pairs : Bool) (cur : Cursor)
-    (base passed : ℕ) (live : List (ℕ × ℕ)) (mark : Mark) : Type 0 where
+    (base passed : ℕ) (live : List (ℕ × ℕ)) (mark : ListMark) : Type 0 where
   pub start : Cursor
   pub at : start.at ≡ mark.at
   pub stands : Stands (section_by sections pairs) start
@@ -35,7 +35,7 @@ pub record IsPassed (file : List ℕ) (sections : RangeSections) (resolve : Reso
 
 -- A reader that began at a cursor, so far.
 pub record IsReading (file : List ℕ) (sections : RangeSections) (resolve : Resolves) (pairs : Bool) (start : Cursor)
-    (first_base : ℕ) (walk : Walk) : Type 0 where
+    (first_base : ℕ) (walk : ListWalk) : Type 0 where
   pub few : walk.passed ≤ max_entries
   pub stands : Stands (section_by sections pairs) walk.cur
   pub reached : Reached file resolve pairs start first_base walk.cur walk.base walk.passed walk.live.items
@@ -43,7 +43,7 @@ pub record IsReading (file : List ℕ) (sections : RangeSections) (resolve : Res
 
 -- A list comes to this from a mark on.
 pub record IsMarked (file : List ℕ) (sections : RangeSections) (resolve : Resolves) (pairs : Bool) (entries : ℕ)
-    (live : List (ℕ × ℕ)) (mark : Mark) : Type 0 where
+    (live : List (ℕ × ℕ)) (mark : ListMark) : Type 0 where
   pub start : Cursor
   pub at : start.at ≡ mark.at
   pub stands : Stands (section_by sections pairs) start
@@ -53,13 +53,13 @@ pub record IsMarked (file : List ℕ) (sections : RangeSections) (resolve : Reso
 
 -- A list was read that begins at a cursor.
 pub record IsWalked (file : List ℕ) (sections : RangeSections) (resolve : Resolves) (pairs : Bool) (start : Cursor)
-    (first_base entries : ℕ) (live : List (ℕ × ℕ)) (marks : List Mark) : Type 0 where
+    (first_base entries : ℕ) (live : List (ℕ × ℕ)) (marks : List ListMark) : Type 0 where
   pub few : entries ≤ max_entries
   pub all : IsRest file resolve pairs start first_base entries live
   pub marked : All (IsMarked file sections resolve pairs entries live) marks
 
 -- A call passed an entry, or found the end of the list, or the place where the list is bad.
-abbrev pub Steps : List ℕ → RangeSections → Resolves → Bool → Cursor → ℕ → Walk → Walk → Result Bool Stop → Type 0
+abbrev pub Steps : List ℕ → RangeSections → Resolves → Bool → Cursor → ℕ → ListWalk → ListWalk → Result Bool Stop → Type 0
 Steps file sections resolve pairs start first_base old new (Ok true) =
     IsReading file sections resolve pairs start first_base new × (length new.cur.left < length old.cur.left)
 Steps file sections resolve pairs start first_base old new (Ok false) =

@@ -11,7 +11,7 @@ ghost use Rattle.entry_facts.specs.Walk.{FindsList, IsMarked};
 
 use crate::in_unit::InUnit;
 use crate::kept::keep_at;
-use crate::tail::{Mark, Rest, Tail, Walked};
+use crate::tail::{ListMark, Rest, Tail, Walked};
 use crate::walk::{LONG, read_list};
 use dwarf_info::Found;
 use dwarf_ranges::{RangeList, list_of};
@@ -128,7 +128,7 @@ impl Lists {
         pairs: bool,
         entries: u64,
         from: usize,
-        mark: &Mark,
+        mark: &ListMark,
     ) -> Result<(), NoMemory>
         requires counted { mark.now.passed ≤ entries }
         requires within { from + mark.now.found ≤ length self.old.live }

@@ -14,7 +14,7 @@ pub(crate) struct Tail {
 /// A place where the reader of a list stood: its place in the file and the base there, and how many
 /// entries and live ranges it had passed.
 #[derive(Clone, Copy)]
-pub(crate) struct Mark {
+pub(crate) struct ListMark {
     pub at: u64,
     pub base: u64,
     pub passed: u64,
@@ -34,5 +34,5 @@ pub(crate) struct Rest {
 pub(crate) struct Walked {
     pub entries: u64,
     pub live: Vec<(u64, u64)>,
-    pub marks: Vec<Mark>,
+    pub marks: Vec<ListMark>,
 }

@@ -12,7 +12,7 @@ ghost use Rattle.entry_facts.specs.Walk.{IsReading, IsWalked, Steps, Walks};
 
 use crate::in_unit::InUnit;
 use crate::lists::Lists;
-use crate::tail::{Mark, Rest, Walked};
+use crate::tail::{ListMark, Rest, Walked};
 use byte_view::Cur;
 use dwarf_ranges::{MAX_ENTRIES, RangeList, next_step};
 use elf_sections::Elf;
@@ -24,12 +24,12 @@ pub(crate) const LONG: u64 = 32;
 
 /// A reader of a list.
 #[derive(Drop)]
-pub(crate) struct Walk<'a> {
+pub(crate) struct ListWalk<'a> {
     pub cur: Cur<'a>,
     pub base: u64,
     pub passed: u64,
     pub live: Vec<(u64, u64)>,
-    pub marks: Vec<Mark>,
+    pub marks: Vec<ListMark>,
 }
 
 /// Adds a range, if there is one and it is code.
@@ -47,7 +47,7 @@ fn add_live(
     }
 }
 
-impl<'a> Walk<'a> {
+impl<'a> ListWalk<'a> {
     /// Passes an entry, if the list does not end here.
     fn step(&mut self, elf: &Elf<'_>, of: &InUnit<'_>, pairs: bool) -> Result<bool, Stop>
         ensures { let sections = range_sections_of of.now.parts in
@@ -79,7 +79,7 @@ impl<'a> Walk<'a> {
         if self.passed % LONG != 0 {
             return Ok(());
         }
-        let mark = Mark {
+        let mark = ListMark {
             at: self.cur.at() as u64,
             base: self.base,
             passed: self.passed,
@@ -114,7 +114,7 @@ impl<'a> Walk<'a> {
 }
 
 /// The list that was read, the rest of which is this.
-fn with_rest(walk: Walk<'_>, rest: Rest) -> Result<Walked, NoMemory>
+fn with_rest(walk: ListWalk<'_>, rest: Rest) -> Result<Walked, NoMemory>
     requires { walk.passed + rest.entries ≤ max_entries }
     ensures { (file : List ℕ) (sections : RangeSections) (resolve : Resolves) (pairs : Bool)
         (start : Cursor) (first_base : ℕ)
@@ -148,7 +148,7 @@ pub(crate) fn read_list(
         list.entry.pairs list.entry.cur of.now.base result }
 {
     let pairs = list.pairs;
-    let mut walk = Walk {
+    let mut walk = ListWalk {
         cur: list.cur,
         base: of.base,
         passed: 0,

@@ -1,6 +1,6 @@
 use Rattle.std.proofs.Common.{◌≡◌, length, refl, sym, arith}
 use Rattle.entry_facts.proofs.WalkLemmas.{reading-marked}
-use Rattle.entry_facts.proofs.walk.Walk.mark.Goals as goal
+use Rattle.entry_facts.proofs.walk.ListWalk.mark.Goals as goal
 
 pub returns-clause-reading : goal.returns-clause-reading
 returns-clause-reading c = λ file sections resolve pairs start first_base reading.

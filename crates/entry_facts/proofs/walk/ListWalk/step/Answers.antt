@@ -3,7 +3,7 @@ use Rattle.dwarf_ranges.specs.Walk.{IsNext}
 use Rattle.dwarf_strings.specs.Meaning.{bases_of}
 use Rattle.range_model.specs.Texts.{address_of}
 use Rattle.entry_facts.proofs.WalkLemmas.{not_many, reading-more}
-use Rattle.entry_facts.proofs.walk.Walk.step.Goals as goal
+use Rattle.entry_facts.proofs.walk.ListWalk.step.Goals as goal
 
 pub returns : goal.returns
 returns c = λ start first_base reading.

@@ -4,7 +4,7 @@ use Rattle.dwarf_strings.specs.Meaning.{bases_of}
 use Rattle.range_model.specs.Texts.{address_of}
 use Rattle.entry_facts.specs.Lists.{IsRest}
 use Rattle.entry_facts.proofs.WalkLemmas.{fits_behind}
-use Rattle.entry_facts.proofs.walk.Walk.rest.Goals as goal
+use Rattle.entry_facts.proofs.walk.ListWalk.rest.Goals as goal
 
 pub returns : goal.returns
 returns c = λ file known stands.

@@ -1,5 +1,5 @@
 -- What is built, and its summary, ask for the places in blocks besides.
-use Rattle.std.proofs.Common.{◌≡◌, ℕ, nat_le, nat_lt, ◌&&◌, Bool, true, false, List, [], ◌∷◌, ◌++◌, length, Option, None, Some, sym, ap, subst, ◌∙◌}
+use Rattle.std.proofs.Common.{◌≡◌, ℕ, nat_le, nat_lt, ◌&&◌, Bool, List, [], ◌∷◌, ◌++◌, length, Option, None, Some, sym, ap, subst, ◌∙◌}
 use Rattle.std.specs.Prelude.{count_by, if◌then◌else◌}
 use Rattle.std.specs.List.{AllByRecursion}
 use Rattle.block_model.specs.declared.parts.Block.{Block}
@@ -13,10 +13,11 @@ use Rattle.report_model.specs.Ranges.{is_class}
 use Rattle.report_model.specs.Report.{Sampled}
 use Rattle.weight_model.specs.Blocks.{IsWeightOf}
 use Rattle.repair_model.specs.Made.{AreRepairsOf, EdgeTold, IsRepairOf}
+use Rattle.output_model.specs.declared.options.RepairOptions.{RepairOptions}
 use Rattle.output_model.specs.Built.{IsBuilt, branches_from, count_of_way, edges_of, ran_past}
 use Rattle.output_model.specs.Program.{Program, way_at, way_of_place}
 use Rattle.output_model.specs.Sampled.{all_addresses}
-use Rattle.output_model.specs.Scaled.{AreAllAugmentations, AreAugmentationsOf, IsBuiltScaled}
+use Rattle.output_model.specs.Scaled.{AreAllAugmentations, AreAugmentationsOf, IsBuiltBy}
 use Rattle.output_model.specs.Summary.{IsRepairCost, IsSummary, costs_in, cuts_in, summary_text, totals_in}
 use Rattle.asked_laws.specs.Alike.{AnswerAlike, AreAlikeIn, AreAlikeInBlocks}
 use Rattle.asked_laws.specs.Laws.{BuildsAskNoMore, SummariesAskNoMore}
@@ -102,16 +103,16 @@ module _ (sampled : Sampled) (program other : Program) (alike : AnswerAlike samp
     spelled = is.spelled ∙ (λ i. text_of_lines (lines_alike sampled program other alike i) ++ (is.repairs ++ reports_alike sampled program other alike i));
   }
 
-  scaled_alike : (edges : Bool) (funs : List Function) (text : List ℕ) → AreAlikeInBlocks program other funs
-      → IsBuiltScaled edges program sampled funs text → IsBuiltScaled edges other sampled funs text
-  scaled_alike edges funs text same is = record {
+  asked_alike : (options : RepairOptions) (funs : List Function) (text : List ℕ) → AreAlikeInBlocks program other funs
+      → IsBuiltBy options program sampled funs text → IsBuiltBy options other sampled funs text
+  asked_alike options funs text same is = record {
     built = is.built;
-    is_built = built_alike edges funs is.built same is.is_built;
+    is_built = built_alike options.edges funs is.built same is.is_built;
     augmentations = is.augmentations;
     counted =
-        subst (λ (count : Way → ℕ). AreAllAugmentations (way_at other) count (edges_of edges other sampled) funs is.augmentations) counted_alike
-        (subst (λ (told : Option EdgeTold). AreAllAugmentations (way_at other) (count_of_way program sampled) told funs is.augmentations) (edges_alike edges)
-        (all_augmentations_within program other (count_of_way program sampled) (edges_of edges program sampled) funs is.augmentations same is.counted));
+        subst (λ (count : Way → ℕ). AreAllAugmentations (way_at other) count (edges_of options.edges other sampled) funs is.augmentations) counted_alike
+        (subst (λ (told : Option EdgeTold). AreAllAugmentations (way_at other) (count_of_way program sampled) told funs is.augmentations) (edges_alike options.edges)
+        (all_augmentations_within program other (count_of_way program sampled) (edges_of options.edges program sampled) funs is.augmentations same is.counted));
     spelled = is.spelled;
   }
 
@@ -133,8 +134,7 @@ module _ (sampled : Sampled) (program other : Program) (alike : AnswerAlike samp
   }
 
 pub builds_ask_no_more : BuildsAskNoMore
-builds_ask_no_more true edges sampled program other funs text alike same is = scaled_alike sampled program other alike edges funs text same is
-builds_ask_no_more false edges sampled program other funs text alike same is = built_alike sampled program other alike edges funs text same is
+builds_ask_no_more options sampled program other funs text alike same is = asked_alike sampled program other alike options funs text same is
 
 pub summaries_ask_no_more : SummariesAskNoMore
 summaries_ask_no_more sampled program other funs text alike same is = summary_alike sampled program other alike funs text same is

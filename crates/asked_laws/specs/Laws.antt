@@ -1,9 +1,10 @@
 -- What follows from the definitions.
-use Rattle.std.specs.Prelude.{◌≡◌, ℕ, Bool, List, map}
+use Rattle.std.specs.Prelude.{◌≡◌, ℕ, List, map}
 use Rattle.block_model.specs.Function.{Function}
 use Rattle.profile_model.specs.Profile.{Profile}
 use Rattle.repair_model.specs.Repair.{Repair}
 use Rattle.report_model.specs.Report.{Sampled}
+use Rattle.output_model.specs.declared.options.RepairOptions.{RepairOptions}
 use Rattle.output_model.specs.Cold.{cold_lines}
 use Rattle.output_model.specs.Lift.{held_by}
 use Rattle.output_model.specs.Output.{output_text}
@@ -21,9 +22,9 @@ ProfilesAskNoMore =
 -- Repairs ask for the places in blocks besides.
 abbrev pub BuildsAskNoMore : Type 0
 BuildsAskNoMore =
-    (scaled edges : Bool) (sampled : Sampled) (program other : Program) (funs : List Function) (text : List ℕ)
+    (options : RepairOptions) (sampled : Sampled) (program other : Program) (funs : List Function) (text : List ℕ)
     → AnswerAlike sampled program other → AreAlikeInBlocks program other funs
-    → IsBuiltBy scaled edges program sampled funs text → IsBuiltBy scaled edges other sampled funs text
+    → IsBuiltBy options program sampled funs text → IsBuiltBy options other sampled funs text
 
 -- So does a summary.
 abbrev pub SummariesAskNoMore : Type 0

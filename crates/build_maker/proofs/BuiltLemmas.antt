@@ -1,8 +1,8 @@
 -- What is built of a profile and of repairs by its counts.
-use Rattle.std.proofs.Common.{◌≡◌, ◌≤◌, ◌<◌, ℕ, ◌^◌, Bool, true, false, List, [], ◌++◌, Some, ap, subst, sym, ◌∙◌, arith}
+use Rattle.std.proofs.Common.{◌≡◌, ◌≤◌, ◌<◌, ℕ, ◌^◌, Bool, true, List, [], ◌++◌, Some, ap, ◌∙◌, arith}
 use Rattle.std.specs.Prelude.{if◌then◌else◌, None}
 use Rattle.std.specs.Borrow.{Bor}
-use Rattle.std.proofs.lemmas.List.{append-nil, append_assoc}
+use Rattle.std.proofs.lemmas.List.{append_assoc}
 use Rattle.block_model.specs.Function.{Function}
 use Rattle.block_weights.specs.Counts.{count_in}
 use Rattle.block_weights.specs.Sampled as edge_samples
@@ -18,10 +18,11 @@ use Rattle.profile_report.specs.Told.{Tells}
 use Rattle.report_model.specs.Report.{Classes, Sampled, report_text}
 use Rattle.repair_model.specs.Made.{AreRepairsOf}
 use Rattle.repair_maker.specs.Told.{edges_told}
+use Rattle.output_model.specs.declared.options.RepairOptions.{RepairOptions}
 use Rattle.output_model.specs.Built.{IsBuilt, count_of_way, edges_of}
 use Rattle.output_model.specs.Program.{Program, way_at}
 use Rattle.output_model.specs.Sampled.{profile_of}
-use Rattle.output_model.specs.Scaled.{AreAllAugmentations, IsBuiltBy, IsBuiltScaled, augmentations_line}
+use Rattle.output_model.specs.Scaled.{AreAllAugmentations, IsBuiltBy, augmentations_line}
 use Rattle.profile_writer.specs.Profile.{IsProfileOf, Parts, lines_text, ran}
 use Rattle.build_maker.specs.Edges.{edges_by}
 use Rattle.build_maker.proofs.RepairLemmas.{all_augmentations_alike, repairs_alike, taken_alike}
@@ -65,26 +66,16 @@ built_of program sampled names segments parts asked branches funs is tallied non
           ∙ ap (λ (t : List ℕ). profile_text (profile_of program sampled) ++ (repairs ++ t)) is.reported;
     }
 
--- The number of augmentations behind it.
-pub scaled_of : (program : Program) (sampled : Sampled) (names : List (List ℕ)) (segments : List Seg) (parts : Parts) (asked : Bool) (branches : List Pair) (funs : List Function)
+-- The number of augmentations behind it, where it is asked for.
+pub built_by : (program : Program) (sampled : Sampled) (names : List (List ℕ)) (segments : List Seg) (parts : Parts) (options : RepairOptions) (branches : List Pair) (funs : List Function)
     → IsProfileOf program sampled names segments parts → Tallies sampled.branches branches → (built after : List ℕ) (augmentations : ℕ)
-    → IsBuilt asked program sampled funs built → AreAllAugmentations (key_told segments) (count_in parts.counts) (edges_by asked branches (ran parts)) funs augmentations
-    → after ≡ built ++ augmentations_line augmentations → IsBuiltScaled asked program sampled funs after
-scaled_of program sampled names segments parts asked branches funs is tallied built after augmentations is_built counted spelled = record {
+    → IsBuilt options.edges program sampled funs built → AreAllAugmentations (key_told segments) (count_in parts.counts) (edges_by options.edges branches (ran parts)) funs augmentations
+    → after ≡ built ++ (if options.scaled then augmentations_line augmentations else []) → IsBuiltBy options program sampled funs after
+built_by program sampled names segments parts options branches funs is tallied built after augmentations is_built counted spelled = record {
   built = built;
   is_built = is_built;
   augmentations = augmentations;
-  counted = all_augmentations_alike (key_told segments) (count_in parts.counts) (way_at program) (count_of_way program sampled) is.counted (edges_by asked branches (ran parts)) (edges_of asked program sampled)
-      (edges_alike program sampled names segments parts asked branches is tallied) funs augmentations counted;
+  counted = all_augmentations_alike (key_told segments) (count_in parts.counts) (way_at program) (count_of_way program sampled) is.counted (edges_by options.edges branches (ran parts)) (edges_of options.edges program sampled)
+      (edges_alike program sampled names segments parts options.edges branches is tallied) funs augmentations counted;
   spelled = spelled;
 }
-
--- What is built, as it is asked for.
-pub built_by : (scaled : Bool) (program : Program) (sampled : Sampled) (names : List (List ℕ)) (segments : List Seg) (parts : Parts) (asked : Bool) (branches : List Pair) (funs : List Function)
-    → IsProfileOf program sampled names segments parts → Tallies sampled.branches branches → (built after : List ℕ) (augmentations : ℕ)
-    → IsBuilt asked program sampled funs built → AreAllAugmentations (key_told segments) (count_in parts.counts) (edges_by asked branches (ran parts)) funs augmentations
-    → after ≡ built ++ (if scaled then augmentations_line augmentations else []) → IsBuiltBy scaled asked program sampled funs after
-built_by true program sampled names segments parts asked branches funs is tallied built after augmentations is_built counted spelled =
-    scaled_of program sampled names segments parts asked branches funs is tallied built after augmentations is_built counted spelled
-built_by false program sampled names segments parts asked branches funs is tallied built after augmentations is_built counted spelled =
-    subst (IsBuilt asked program sampled funs) (sym (spelled ∙ append-nil built)) is_built

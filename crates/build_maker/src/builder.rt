@@ -25,6 +25,7 @@ use block_weights::EdgeSamples;
 use branch_counts::Counts;
 use cfg_text::Fun;
 use key_types::Seg;
+use output_model::RepairOptions;
 use profile_maker::{Profiled, profile_of};
 use refusal::NoMemory;
 use std::alloc::Global;
@@ -32,9 +33,9 @@ use text_scan::push_number;
 
 /// The profile of a binary and its samples, then a repair of each of these functions, then the
 /// report. `counts` have the branches and the sampled ranges of a branch text, as they stand or
-/// moved by its load lines. With `edges` the edges of functions have weights too. With `scaled`
-/// functions are repaired within a bound on augmentations, and a last line tells how many there
-/// were. There are at most 2^29 functions.
+/// moved by its load lines. Where `options` ask for it the edges of functions have weights too, and
+/// functions are repaired within a bound on augmentations, of which a last line tells how many
+/// there were. There are at most 2^29 functions.
 ///
 /// # Errors
 /// `NoMemory`.
@@ -43,8 +44,7 @@ pub fn build(
     binary: Binary<'_>,
     counts: Counts,
     funs: &[Fun<'_>],
-    edges: bool,
-    scaled: bool,
+    options: RepairOptions,
 ) -> Result<Vec<u8>, NoMemory>
     requires binary { (file : List ℕ) × (base : Bool) × IsBinary file base binary }
     requires sound { All (λ fun. IsSound fun.blocks fun.edges) funs.now }
@@ -52,11 +52,11 @@ pub fn build(
     ensures { IfOk result (λ out. (file : List ℕ) (base : Bool) (loading : Option LoadMap)
         (lines : List (List ℕ)) → IsBinary file base binary.entry → counts.with_ranges ≡ true
         → Tells loading lines counts
-        → IsBuiltBy scaled edges (program_of file base) (sampled_by loading file lines)
+        → IsBuiltBy options (program_of file base) (sampled_by loading file lines)
         (map function_of funs.now) out.items) }
 {
     let made = profile_of(alloc, binary, counts, funs)?;
-    text_of(alloc, &made, funs, edges, scaled)
+    text_of(alloc, &made, funs, options)
 }
 
 /// The lines of a profile, a repair of each function by its counts, the report, and the line that
@@ -65,8 +65,7 @@ fn text_of(
     alloc: Global,
     made: &Profiled<'_>,
     funs: &[Fun<'_>],
-    edges: bool,
-    scaled: bool,
+    options: RepairOptions,
 ) -> Result<Vec<u8>, NoMemory>
     requires segments { AreSegments made.now.placed.map.segments }
     requires names { All (IsOf made.now.placed.names) made.now.profile.lines }
@@ -76,14 +75,14 @@ fn text_of(
     ensures { IfOk result (λ out. (program : Program) (sampled : Sampled)
         → IsProfiled program sampled made.now.placed.names made.now.placed.map.segments
         made.now.profile made.now.branches.items made.now.total
-        → IsBuiltBy scaled edges program sampled (map function_of funs.now) out.items) }
+        → IsBuiltBy options program sampled (map function_of funs.now) out.items) }
 {
     let segments = made.placed.map.segments();
     let mut out = Vec::new(alloc);
     made.profile.push_lines(&made.placed.names, &mut out)?;
-    let augmentations = push_repairs(alloc, made, segments, funs, edges, scaled, &mut out)?;
+    let augmentations = push_repairs(alloc, made, segments, funs, options, &mut out)?;
     made.profile.push_report(&mut out)?;
-    push_augmentations(&mut out, scaled, augmentations)?;
+    push_augmentations(&mut out, options.scaled, augmentations)?;
     Ok(out)
 }
 
@@ -102,15 +101,14 @@ fn push_augmentations(out: &mut Vec<u8>, asked: bool, augmentations: u64) -> Res
 }
 
 /// Appends a repair of each function, by the counts of a profile, and answers how many
-/// augmentations were counted. With `edges` it weighs edges by the branches, and by the ranges that
-/// ran.
+/// augmentations were counted. Where it is asked for it weighs edges by the branches, and by the
+/// ranges that ran.
 fn push_repairs(
     alloc: Global,
     made: &Profiled<'_>,
     segments: &[Seg],
     funs: &[Fun<'_>],
-    edges: bool,
-    scaled: bool,
+    options: RepairOptions,
     out: &mut Vec<u8>,
 ) -> Result<u64, NoMemory>
     requires segments { AreSegments segments.now }
@@ -119,19 +117,19 @@ fn push_repairs(
     requires few { length funs.now ≤ 2 ^ 29 }
     ensures repaired { OnOk result ((text : List ℕ) × (out.new.items ≡ out.old.items ++ text)
         × AreRepairsOf (key_told segments.now) (count_in made.now.profile.counts)
-        (edges_by edges made.now.branches.items (ranges_run made.now.profile))
+        (edges_by options.edges made.now.branches.items (ranges_run made.now.profile))
         (map function_of funs.now) text) }
     ensures counted { IfOk result (λ augmentations. AreAllAugmentations
         (key_told segments.now) (count_in made.now.profile.counts)
-        (edges_by edges made.now.branches.items (ranges_run made.now.profile))
+        (edges_by options.edges made.now.branches.items (ranges_run made.now.profile))
         (map function_of funs.now) augmentations) }
 {
     let counts = made.profile.counts();
-    if edges {
+    if options.edges {
         let ran = made.profile.ran(alloc)?;
         let samples = EdgeSamples::new(alloc, &made.branches, &ran)?;
-        repair_maker::write(alloc, funs, segments, counts, Some(&samples), scaled, out)
+        repair_maker::write(alloc, funs, segments, counts, Some(&samples), options, out)
     } else {
-        repair_maker::write(alloc, funs, segments, counts, None, scaled, out)
+        repair_maker::write(alloc, funs, segments, counts, None, options, out)
     }
 }

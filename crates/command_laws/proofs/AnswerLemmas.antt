@@ -1,6 +1,6 @@
 -- What `check` answers where `build` may write the repair text.
-use Rattle.std.proofs.Common.{◌≡◌, ℕ, ◌+◌, ◌≤◌, ◌^◌, Bool, true, false, List, [], ◌∷◌, ◌++◌, length, Option, None, Some, refl, arith, sym, ap, ◌∙◌, subst}
-use Rattle.std.specs.Prelude.{is_some}
+use Rattle.std.proofs.Common.{◌≡◌, ℕ, ◌+◌, ◌≤◌, ◌^◌, Bool, List, [], ◌∷◌, ◌++◌, length, Option, None, Some, refl, arith, sym, ap, ◌∙◌, subst}
+use Rattle.std.specs.Prelude.{is_some, if◌then◌else◌}
 use Rattle.std.specs.List.{AllByRecursion, AllZip, flat_map}
 use Rattle.std.proofs.lemmas.Bool.{le-ltb}
 use Rattle.std.proofs.lemmas.List.{append_assoc}
@@ -23,6 +23,7 @@ use Rattle.repair_model.specs.Made.{AreRepairsOf}
 use Rattle.repair_model.specs.Text.{repairs_of}
 use Rattle.repair_model.proofs.BackLemmas.{written_repairs_are_read}
 use Rattle.repair_model.proofs.WholeLemmas.{good_repairs_are_whole}
+use Rattle.output_model.specs.declared.options.RepairOptions.{RepairOptions}
 use Rattle.output_model.specs.Built.{count_of_way, edges_of}
 use Rattle.output_model.specs.Output.{loading_of, sampled_by}
 use Rattle.output_model.specs.Program.{program_of, way_at}
@@ -33,7 +34,7 @@ use Rattle.command_model.specs.Command.{Command, build, check}
 use Rattle.command_model.specs.Files.{IsOutput, file_at, first_bad_of_blocks, first_bad_of_repair_text, max_repair_bytes}
 use Rattle.command_laws.specs.Laws.{BuiltIsAccepted}
 use Rattle.command_laws.proofs.BlockLemmas.{IsField, good_of_any, names_are_fields}
-use Rattle.command_laws.proofs.LineLemmas.{AreLines, augmentations_passed, both_lines, profile_passed, report_passed}
+use Rattle.command_laws.proofs.LineLemmas.{AreLines, asked_lines, augmentations_passed, both_lines, profile_passed, report_passed}
 use Rattle.command_laws.proofs.RepairLemmas.{all_readable, none_fails}
 
 -- ---- the text that was written
@@ -74,20 +75,17 @@ accepted edges binary base sampled blocks text repairs rest repaired behind spel
     }
 
 -- What is built is accepted, with a number of augmentations behind it or none.
-built_accepted : (scaled edges : Bool) (binary : List ℕ) (base : Bool) (sampled : Sampled) (blocks text : List ℕ)
-    → IsBuiltBy scaled edges (program_of binary base) sampled (functions_of blocks) text
+built_accepted : (options : RepairOptions) (binary : List ℕ) (base : Bool) (sampled : Sampled) (blocks text : List ℕ)
+    → IsBuiltBy options (program_of binary base) sampled (functions_of blocks) text
     → AllByRecursion (λ (fun : Function). IsSound fun.blocks fun.edges) (functions_of blocks) → length text ≤ 2 ^ 63
     → IsAccepted (functions_of blocks) text
-built_accepted false edges binary base sampled blocks text built sound small =
-    accepted edges binary base sampled blocks text built.repairs (report_text (classes_of (program_of binary base)) sampled) built.repaired
-    (report_passed (classes_of (program_of binary base)) sampled) built.spelled sound small
-built_accepted true edges binary base sampled blocks text is sound small =
+built_accepted options binary base sampled blocks text is sound small =
     let built = is.is_built in
     let profile = profile_text (profile_of (program_of binary base) sampled) in
     let report = report_text (classes_of (program_of binary base)) sampled in
-    let line = augmentations_line is.augmentations in
-    accepted edges binary base sampled blocks text built.repairs (report ++ line) built.repaired
-    (both_lines report line (report_passed (classes_of (program_of binary base)) sampled) (augmentations_passed is.augmentations))
+    let line = if options.scaled then augmentations_line is.augmentations else [] in
+    accepted options.edges binary base sampled blocks text built.repairs (report ++ line) built.repaired
+    (both_lines report line (report_passed (classes_of (program_of binary base)) sampled) (asked_lines options.scaled (augmentations_line is.augmentations) (augmentations_passed is.augmentations)))
     (is.spelled ∙ ap (λ t. t ++ line) built.spelled ∙ append_assoc profile (built.repairs ++ report) line ∙ ap (λ t. profile ++ t) (append_assoc built.repairs report line))
     sound small
 
@@ -138,6 +136,6 @@ built_is_accepted files options bin perf cfg out contents text answers may small
     let built = subst (λ (found : List (List ℕ)). IsOutput command found text) (sym are) may in
     let good = good_of_any 3 1 blocks three.good in
     let sound = recursion_from_All (λ (fun : Function). IsSound fun.blocks fun.edges) (functions_of blocks) (good_texts_are_sound 1 blocks good.lines) in
-    let is = built_accepted options.scaled options.edges one.file options.base (sampled_by (loading_of options.map one.file) one.file (lines_of two.file)) blocks text built sound (omega (arith, small)) in
+    let is = built_accepted options.repairs one.file options.base (sampled_by (loading_of options.map one.file) one.file (lines_of two.file)) blocks text built sound (omega (arith, small)) in
     subst (λ (found : List (List ℕ)). answer_of_command files (check cfg out) ≡ writes (check cfg out) (file_at 2 found ∷ text ∷ [])) are
     (checks files cfg out blocks text three.there there good.all (good_text (functions_of blocks) text small is.good) is.passes)

@@ -55,6 +55,11 @@ both_lines {P} one other are also = record {
   passed = all_append P are.lines also.lines are.passed also.passed;
 }
 
+-- Lines, where they are asked for.
+pub asked_lines : {P : List ℕ → Type 0} (asked : Bool) (text : List ℕ) → AreLinesOf P text → AreLinesOf P (if asked then text else [])
+asked_lines true text are = are
+asked_lines false text are = no_lines
+
 each_lines : {P : List ℕ → Type 0} {X : Type 0} (f : X → List ℕ) (xs : List X) → ((x : X) → AreLinesOf P (f x)) → AreLinesOf P (flat_map f xs)
 each_lines f [] are = no_lines
 each_lines f (x ∷ xs) are = both_lines (f x) (flat_map f xs) (are x) (each_lines f xs are)

@@ -1,5 +1,6 @@
 -- What `merge` answers where `profile` may write the text.
-use Rattle.std.proofs.Common.{◌≡◌, ℕ, ◌≤◌, Bool, true, false, is_some, List, [], ◌∷◌, ◌++◌, length, None, Some, refl, sym, ap, ◌∙◌, subst}
+use Rattle.std.proofs.Common.{◌≡◌, ℕ, ◌≤◌, Bool, is_some, List, [], ◌∷◌, ◌++◌, length, None, Some, refl, sym, ap, ◌∙◌, subst}
+use Rattle.std.specs.Prelude.{if◌then◌else◌}
 use Rattle.std.proofs.lemmas.Bool.{le-ltb}
 use Rattle.std.proofs.lemmas.List.{append_assoc}
 use Rattle.refusal.specs.Place.{size_item}
@@ -14,6 +15,7 @@ use Rattle.sample_model.specs.Judging.{first_bad_of_text}
 use Rattle.spelling_laws.specs.Told.{CanBeWritten, IsComment, text_with}
 use Rattle.way_laws.proofs.ToldLemmas.{profiles_can_be_told}
 use Rattle.report_model.specs.Report.{Sampled, report_text}
+use Rattle.output_model.specs.declared.options.RepairOptions.{RepairOptions}
 use Rattle.output_model.specs.Built.{IsBuilt, count_of_way, edges_of}
 use Rattle.output_model.specs.Output.{loading_of, output_text, sampled_by}
 use Rattle.output_model.specs.Program.{Program, program_of, way_at}
@@ -25,7 +27,7 @@ use Rattle.command_model.specs.Files.{file_at, first_bad_of_blocks, first_bad_of
 use Rattle.command_model.specs.Options.{Options}
 use Rattle.command_laws.specs.Merged.{BuiltIsMerged, ProfiledIsMerged}
 use Rattle.command_laws.proofs.AnswerLemmas.{clean_names, has_file, same_contents}
-use Rattle.command_laws.proofs.LineLemmas.{AreLinesOf, augmentations_comments, both_lines, report_comments}
+use Rattle.command_laws.proofs.LineLemmas.{AreLinesOf, asked_lines, augmentations_comments, both_lines, report_comments}
 use Rattle.command_laws.proofs.BlockLemmas.{names_are_fields}
 use Rattle.command_laws.proofs.CommentLemmas.{repairs_comments}
 use Rattle.command_laws.proofs.RepairLemmas.{all_readable}
@@ -95,21 +97,17 @@ record HasBehind (p : Profile) (text : List ℕ) : Type 0 where
   wrote : text ≡ profile_text p ++ behind
   comments : AreLinesOf IsComment behind
 
-built_behind : (scaled edges : Bool) (program : Program) (sampled : Sampled) (blocks text : List ℕ)
-    → IsBuiltBy scaled edges program sampled (functions_of blocks) text → HasBehind (profile_of program sampled) text
-built_behind false edges program sampled blocks text built = record {
-  behind = built.repairs ++ report_text (classes_of program) sampled;
-  wrote = built.spelled;
-  comments = behind_comments edges program sampled blocks text built;
-}
-built_behind true edges program sampled blocks text is =
-    let line = augmentations_line is.augmentations in
+built_behind : (options : RepairOptions) (program : Program) (sampled : Sampled) (blocks text : List ℕ)
+    → IsBuiltBy options program sampled (functions_of blocks) text → HasBehind (profile_of program sampled) text
+built_behind options program sampled blocks text is =
+    let line = if options.scaled then augmentations_line is.augmentations else [] in
     let built = is.is_built in
     let rest = built.repairs ++ report_text (classes_of program) sampled in
     record {
       behind = rest ++ line;
       wrote = is.spelled ∙ ap (λ t. t ++ line) built.spelled ∙ append_assoc (profile_text (profile_of program sampled)) rest line;
-      comments = both_lines rest line (behind_comments edges program sampled blocks is.built built) (augmentations_comments is.augmentations);
+      comments = both_lines rest line (behind_comments options.edges program sampled blocks is.built built)
+          (asked_lines options.scaled (augmentations_line is.augmentations) (augmentations_comments is.augmentations));
     }
 
 pub built_is_merged : BuiltIsMerged
@@ -122,5 +120,5 @@ built_is_merged files options bin perf cfg out contents text again answers may s
     let good : first_bad_of_text 2 (file_at 1 contents) ≡ None = subst (λ (found : List (List ℕ)). first_bad_of_text 2 (file_at 1 found) ≡ None) are two.good in
     let program = program_in options contents in
     let sampled = sampled_in options contents in
-    let has = built_behind options.scaled options.edges program sampled (file_at 2 contents) text may in
+    let has = built_behind options.repairs program sampled (file_at 2 contents) text may in
     merged_again files (profile_of program sampled) has.behind out text again has.wrote has.comments small (can_be_told options contents good) there

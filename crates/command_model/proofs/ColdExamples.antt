@@ -6,10 +6,10 @@ use Rattle.command_model.specs.Command.{cold, cold_profile, command_of}
 use Rattle.command_model.specs.Options.{Options, map_name, options_of}
 
 abbrev plain : Options
-plain = record { map = None; base = false; edges = false; scaled = false }
+plain = record { map = None; base = false; repairs = record { edges = false; scaled = false } }
 
 abbrev based : Options
-based = record { map = None; base = true; edges = false; scaled = false }
+based = record { map = None; base = true; repairs = record { edges = false; scaled = false } }
 
 -- An option stands in front, once, and no words of `pgo` ask for it.
 words : (cold_of (codes "bin" ∷ codes "prof" ∷ []) ≡ Some (cold plain (codes "bin") (codes "prof")))
@@ -24,7 +24,7 @@ unfolding cold_of command_of options_of map_name
 words = (refl, refl, refl, refl, refl, refl, refl, refl, refl)
 
 abbrev both : Options
-both = record { map = Some (codes "y"); base = true; edges = false; scaled = false }
+both = record { map = Some (codes "y"); base = true; repairs = record { edges = false; scaled = false } }
 
 -- Behind `profile` stand the words of `pgo profile`. Two words are a binary and a profile, whatever they are.
 profile_words : (cold_of (codes "profile" ∷ codes "bin" ∷ codes "perf" ∷ []) ≡ Some (cold_profile plain (codes "bin") (codes "perf")))

@@ -42,10 +42,10 @@ unfolding command_of
 words = (refl, refl, refl, refl, refl)
 
 abbrev plain : Options
-plain = record { map = None; base = false; edges = false; scaled = false }
+plain = record { map = None; base = false; repairs = record { edges = false; scaled = false } }
 
 abbrev based : Options
-based = record { map = None; base = true; edges = false; scaled = false }
+based = record { map = None; base = true; repairs = record { edges = false; scaled = false } }
 
 -- an option stands in front, once
 words_of_where : (command_of (codes "where" ∷ codes "a" ∷ codes "0x1F" ∷ []) ≡ Some (where_ plain (codes "a") 0x1f))
@@ -60,8 +60,8 @@ words_of_where = (refl, refl, refl, refl, refl, refl, refl)
 
 -- options in any order, each once, and a name that is not empty
 words_of_profile : (command_of (codes "profile" ∷ codes "a" ∷ codes "p" ∷ []) ≡ Some (profile plain (codes "a") (codes "p")))
-    × (command_of (codes "profile" ∷ codes "--base" ∷ codes "--map=/bin/x" ∷ codes "a" ∷ codes "p" ∷ []) ≡ Some (profile (record { map = Some (codes "/bin/x"); base = true; edges = false; scaled = false }) (codes "a") (codes "p")))
-    × (command_of (codes "profile" ∷ codes "--map=y" ∷ codes "a" ∷ codes "p" ∷ []) ≡ Some (profile (record { map = Some (codes "y"); base = false; edges = false; scaled = false }) (codes "a") (codes "p")))
+    × (command_of (codes "profile" ∷ codes "--base" ∷ codes "--map=/bin/x" ∷ codes "a" ∷ codes "p" ∷ []) ≡ Some (profile (record { map = Some (codes "/bin/x"); base = true; repairs = record { edges = false; scaled = false } }) (codes "a") (codes "p")))
+    × (command_of (codes "profile" ∷ codes "--map=y" ∷ codes "a" ∷ codes "p" ∷ []) ≡ Some (profile (record { map = Some (codes "y"); base = false; repairs = record { edges = false; scaled = false } }) (codes "a") (codes "p")))
     × (command_of (codes "profile" ∷ codes "--map=" ∷ codes "a" ∷ codes "p" ∷ []) ≡ None)
     × (command_of (codes "profile" ∷ codes "--map=y" ∷ codes "--map=y" ∷ codes "a" ∷ codes "p" ∷ []) ≡ None)
     × (command_of (codes "profile" ∷ codes "--base" ∷ codes "--base" ∷ codes "a" ∷ codes "p" ∷ []) ≡ None)
@@ -71,10 +71,10 @@ unfolding command_of options_of map_name
 words_of_profile = (refl, refl, refl, refl, refl, refl, refl, refl)
 
 -- the same with edges, and three files
-words_of_build : (command_of (codes "build" ∷ codes "--edges" ∷ codes "--base" ∷ codes "a" ∷ codes "p" ∷ codes "c" ∷ []) ≡ Some (build (record { map = None; base = true; edges = true; scaled = false }) (codes "a") (codes "p") (codes "c")))
+words_of_build : (command_of (codes "build" ∷ codes "--edges" ∷ codes "--base" ∷ codes "a" ∷ codes "p" ∷ codes "c" ∷ []) ≡ Some (build (record { map = None; base = true; repairs = record { edges = true; scaled = false } }) (codes "a") (codes "p") (codes "c")))
     × (command_of (codes "build" ∷ codes "--edges" ∷ codes "--edges" ∷ codes "a" ∷ codes "p" ∷ codes "c" ∷ []) ≡ None)
     × (command_of (codes "build" ∷ codes "a" ∷ codes "p" ∷ []) ≡ None)
-    × (command_of (codes "build" ∷ codes "--scaled" ∷ codes "a" ∷ codes "p" ∷ codes "c" ∷ []) ≡ Some (build (record { map = None; base = false; edges = false; scaled = true }) (codes "a") (codes "p") (codes "c")))
+    × (command_of (codes "build" ∷ codes "--scaled" ∷ codes "a" ∷ codes "p" ∷ codes "c" ∷ []) ≡ Some (build (record { map = None; base = false; repairs = record { edges = false; scaled = true } }) (codes "a") (codes "p") (codes "c")))
     × (command_of (codes "build" ∷ codes "--scaled" ∷ codes "--scaled" ∷ codes "a" ∷ codes "p" ∷ codes "c" ∷ []) ≡ None)
     × (command_of (codes "profile" ∷ codes "--scaled" ∷ codes "a" ∷ codes "p" ∷ []) ≡ None)
 unfolding command_of options_of map_name

@@ -21,10 +21,10 @@ use Rattle.command_model.specs.Files.{failed_line, first_bad_of_built}
 use Rattle.command_model.specs.Options.{Options, map_name, options_of}
 
 abbrev plain : Options
-plain = record { map = None; base = false; edges = false; scaled = false }
+plain = record { map = None; base = false; repairs = record { edges = false; scaled = false } }
 
 abbrev based : Options
-based = record { map = None; base = true; edges = false; scaled = false }
+based = record { map = None; base = true; repairs = record { edges = false; scaled = false } }
 
 -- three files, and no option but bases
 words_of_lift : (command_of (codes "lift" ∷ codes "b" ∷ codes "c" ∷ codes "o" ∷ []) ≡ Some (lift plain (codes "b") (codes "c") (codes "o")))

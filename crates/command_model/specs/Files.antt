@@ -154,8 +154,7 @@ IsOutput (where_ options bin address) contents text =
 IsOutput (profile options bin perf) contents text =
     text ≡ profile_output options.map options.base (file_at 0 contents) (file_at 1 contents)
 IsOutput (build options bin perf cfg) contents text =
-    IsBuiltOf options.map options.base options.edges options.scaled
-    (file_at 0 contents) (file_at 1 contents) (file_at 2 contents) text
+    IsBuiltOf options (file_at 0 contents) (file_at 1 contents) (file_at 2 contents) text
 IsOutput (check cfg out) contents text = text ≡ checked_text (length (functions_in 0 contents))
 IsOutput (make file n) contents text = text ≡ case_file file n
 IsOutput (make_sum n) contents text = IsSummaryOf (file_at 0 contents) (file_at 1 contents) (file_at 2 contents) text

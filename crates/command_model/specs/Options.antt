@@ -2,6 +2,7 @@
 use Rattle.std.specs.Prelude.{ℕ, ◌+◌, Bool, true, false, ◌&&◌, ◌||◌, nat_lt, nat_eq, List, [], ◌∷◌, take, drop, length, count_by, codes, Option, None, Some, is_some, slice_get, if◌then◌else◌}
 use Rattle.std.specs.List.{filter_map, list_all, starts_with}
 use Rattle.std.specs.Str.{bytes_eq}
+pub use Rattle.output_model.specs.Options.{Options}
 
 -- A word that begins with `--`, in front of the other words of a command, is an option.
 -- Why: It is one for every command, so `counts --x` is `Usage` and `merge 1 --x` reads a file.
@@ -20,17 +21,6 @@ options_in words = take (option_count words) words
 -- What stands behind the options.
 abbrev pub operands_of : List (List ℕ) → List (List ℕ)
 operands_of words = drop (option_count words) words
-
--- What the options of a command say. A command without one of them is carried out as where it is not given.
-pub record Options : Type 0 where
-  -- `--map=NAME`: the name of the binary in load lines, by which addresses are moved.
-  pub map : Option (List ℕ)
-  -- `--base`: bases stand in place of discriminators.
-  pub base : Bool
-  -- `--edges`: edges are weighed, and their weights told.
-  pub edges : Bool
-  -- `--scaled`: functions are repaired within a bound on augmentations, and these are counted.
-  pub scaled : Bool
 
 -- Which options a command has.
 pub record Has : Type 0 where
@@ -96,7 +86,9 @@ options_of has words =
     then Some (record {
       map = first_map words;
       base = nat_lt 0 (count_by is_base words);
-      edges = nat_lt 0 (count_by is_edges words);
-      scaled = nat_lt 0 (count_by is_scaled words);
+      repairs = record {
+        edges = nat_lt 0 (count_by is_edges words);
+        scaled = nat_lt 0 (count_by is_scaled words);
+      };
     })
     else None

@@ -22,7 +22,7 @@ texts_of words = map (λ w. w.items) words
 -- What options say, apart from where the words lie.
 abbrev pub told_options : Options → options.Options
 told_options said =
-    record { map = option_map (λ name. name.now) said.map; base = said.base; edges = said.edges; scaled = said.scaled }
+    record { map = option_map (λ name. name.now) said.map; base = said.base; repairs = said.repairs }
 
 abbrev pub told_has : Has → options.Has
 told_has has = record { map = has.map; base = has.base; edges = has.edges; scaled = has.scaled }

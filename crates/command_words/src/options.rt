@@ -6,6 +6,8 @@ ghost use Rattle.std.specs.Str.{bytes_eq};
 ghost use Rattle.command_model.specs.Options.{are_of as are_told, first_map, is_map as map_told, is_of as of_told, map_name as name_told, options_of as options_told};
 ghost use Rattle.command_words.specs.Words.{texts_of, told_has, told_options};
 
+use output_model::RepairOptions;
+
 /// The option for bases in place of discriminators.
 const BASE: &[u8] = b"--base";
 
@@ -24,11 +26,8 @@ pub struct Options<'a> {
     pub map: Option<&'a [u8]>,
     /// `--base`: whether bases stand in place of discriminators.
     pub base: bool,
-    /// `--edges`: whether edges are weighed, and their weights told.
-    pub edges: bool,
-    /// `--scaled`: whether functions are repaired within a bound on augmentations, and these are
-    /// counted.
-    pub scaled: bool,
+    /// `--edges` and `--scaled`: what is asked of repairs.
+    pub repairs: RepairOptions,
 }
 
 /// Which options a command has.
@@ -51,8 +50,10 @@ pub(crate) fn options_of(has: Has, words: &[Vec<u8>]) -> Option<Options<'_>>
     Some(Options {
         map: map_asked(words),
         base: times_of(BASE, words) > 0,
-        edges: times_of(EDGES, words) > 0,
-        scaled: times_of(SCALED, words) > 0,
+        repairs: RepairOptions {
+            edges: times_of(EDGES, words) > 0,
+            scaled: times_of(SCALED, words) > 0,
+        },
     })
 }
 

@@ -2,6 +2,7 @@ pub mod Built
 pub mod Cold
 pub mod Laws
 pub mod Lift
+pub mod Options
 pub mod Output
 pub mod Program
 pub mod Sampled

@@ -1,5 +1,5 @@
--- What `build` writes where networks are solved within a bound on augmentations: the same, and how many these were.
-use Rattle.std.specs.Prelude.{◌≡◌, ℕ, ◌+◌, ◌*◌, ◌≤◌, Bool, true, false, List, [], ◌∷◌, ◌++◌, codes, Option}
+-- What `build` writes, as it is asked for: the same, and how many augmentations were made, where these are bounded.
+use Rattle.std.specs.Prelude.{◌≡◌, ℕ, ◌+◌, ◌*◌, ◌≤◌, List, [], ◌∷◌, ◌++◌, codes, Option, if◌then◌else◌}
 use Rattle.std.specs.List.{AllZip}
 use Rattle.text_model.specs.Lines.{lines_of}
 use Rattle.text_model.specs.Numbers.{decimal_text}
@@ -11,7 +11,9 @@ use Rattle.report_model.specs.Report.{Sampled}
 use Rattle.repair_model.specs.Made.{EdgeTold, weighed_edges}
 use Rattle.scaling_model.specs.Bound.{StartWithin, most_digits, phase_bound}
 use Rattle.weight_model.specs.Blocks.{IsWeightOf}
+use Rattle.output_model.specs.declared.options.RepairOptions.{RepairOptions}
 use Rattle.output_model.specs.Built.{IsBuilt, count_of_way, edges_of}
+use Rattle.output_model.specs.Options.{Options}
 use Rattle.output_model.specs.Output.{loading_of, sampled_by}
 use Rattle.output_model.specs.Program.{Program, program_of, way_at}
 
@@ -42,23 +44,20 @@ AreAllAugmentations key count edges (fun ∷ funs) augmentations =
 unfoldable pub augmentations_line : ℕ → List ℕ
 augmentations_line augmentations = codes "# augmentations " ++ (decimal_text augmentations ++ codes "\n")
 
--- A text is what is built of a program, its samples and functions, and behind it the number of augmentations.
-pub record IsBuiltScaled (edges : Bool) (program : Program) (sampled : Sampled) (funs : List Function) (text : List ℕ)
+-- A text is what is built of a program, its samples and functions, and behind it the number of augmentations, where
+-- it is asked for.
+pub record IsBuiltBy
+    (options : RepairOptions) (program : Program) (sampled : Sampled) (funs : List Function) (text : List ℕ)
     : Type 0 where
   pub built : List ℕ
-  pub is_built : IsBuilt edges program sampled funs built
+  pub is_built : IsBuilt options.edges program sampled funs built
   pub augmentations : ℕ
-  pub counted : AreAllAugmentations (way_at program) (count_of_way program sampled) (edges_of edges program sampled)
-      funs augmentations
-  pub spelled : text ≡ built ++ augmentations_line augmentations
-
--- What is built, as it is asked for.
-abbrev pub IsBuiltBy : Bool → Bool → Program → Sampled → List Function → List ℕ → Type 0
-IsBuiltBy true edges program sampled funs text = IsBuiltScaled edges program sampled funs text
-IsBuiltBy false edges program sampled funs text = IsBuilt edges program sampled funs text
+  pub counted : AreAllAugmentations
+      (way_at program) (count_of_way program sampled) (edges_of options.edges program sampled) funs augmentations
+  pub spelled : text ≡ built ++ (if options.scaled then augmentations_line augmentations else [])
 
 -- What may be written of a good binary, a good branch text and a good block text.
-abbrev pub IsBuiltOf : Option (List ℕ) → Bool → Bool → Bool → List ℕ → List ℕ → List ℕ → List ℕ → Type 0
-IsBuiltOf name base edges scaled binary text blocks out =
-    IsBuiltBy scaled edges (program_of binary base) (sampled_by (loading_of name binary) binary (lines_of text))
-    (functions_of blocks) out
+abbrev pub IsBuiltOf : Options → List ℕ → List ℕ → List ℕ → List ℕ → Type 0
+IsBuiltOf options binary text blocks out =
+    IsBuiltBy options.repairs (program_of binary options.base)
+    (sampled_by (loading_of options.map binary) binary (lines_of text)) (functions_of blocks) out

@@ -1,5 +1,5 @@
 -- A block text that was read, and what is written of it with the others.
-use Rattle.std.proofs.Common.{◌≡◌, ◌≤◌, ◌^◌, ℕ, Bool, true, List, [], ◌∷◌, length, map, Option, None, Some, Bor, ap, subst, sym, ◌∙◌, arith}
+use Rattle.std.proofs.Common.{◌≡◌, ◌≤◌, ◌^◌, ℕ, Bool, true, List, [], ◌∷◌, length, map, Option, None, Some, ap, subst, sym, ◌∙◌, arith}
 use Rattle.std.specs.List.{All}
 use Rattle.std.specs.Option.{option_map}
 use Rattle.std.proofs.lemmas.List.{length-append, length-map}
@@ -23,6 +23,8 @@ use Rattle.output_model.specs.Output.{sampled_by}
 use Rattle.output_model.specs.Program.{program_of}
 use Rattle.output_model.specs.Scaled.{IsBuiltBy, IsBuiltOf}
 use Rattle.command_model.specs.Files.{max_block_bytes}
+use Rattle.command_words.specs.declared.options.Options.{Options}
+use Rattle.command_words.specs.Words.{told_options}
 use Rattle.program_edge.proofs.SamplesLemmas.{same-loading}
 
 -- What holds of each function of a good text holds of each that was read.
@@ -66,14 +68,14 @@ read_few text funs within are =
     omega (arith, all, lines, same, mapped, most)
 
 -- The output of a binary, of what was counted of a branch text, and of a block text.
-pub built : (bytes : List ℕ) (base : Bool) (binary : Binary) (map_to : Option (Bor (List ℕ))) (loads : List LoadSegment) (counts : Tally) (text blocks out : List ℕ) (edges scaled : Bool) (funs : List Fun)
-    → IsBinary bytes base binary → loads ≡ binary.loads.items
+pub built : (bytes : List ℕ) (options : Options) (binary : Binary) (loads : List LoadSegment) (counts : Tally) (text blocks out : List ℕ) (funs : List Fun)
+    → IsBinary bytes options.base binary → loads ≡ binary.loads.items
     → ((file : List ℕ) (base : Bool) (loading : Option LoadMap) (lines : List (List ℕ)) → IsBinary file base binary → counts.with_ranges ≡ true → Tells loading lines counts
-    → IsBuiltBy scaled edges (program_of file base) (sampled_by loading file lines) (map function_of funs) out)
-    → counts.with_ranges ≡ true → Tells (option_map (λ name. record { name = name.now; segments = loads }) map_to) (lines_of text) counts
+    → IsBuiltBy options.repairs (program_of file base) (sampled_by loading file lines) (map function_of funs) out)
+    → counts.with_ranges ≡ true → Tells (option_map (λ name. record { name = name.now; segments = loads }) options.map) (lines_of text) counts
     → map function_of funs ≡ functions_of blocks
-    → IsBuiltOf (option_map (λ name. name.now) map_to) base edges scaled bytes text blocks out
-built bytes base binary map_to loads counts text blocks out edges scaled funs is same made ranged tells are =
-    let with_funs = made bytes base (option_map (λ name. record { name = name.now; segments = loads }) map_to) (lines_of text) is ranged tells in
-    subst (λ l. IsBuiltBy scaled edges (program_of bytes base) (sampled_by l bytes (lines_of text)) (functions_of blocks) out) (same-loading map_to loads bytes (same ∙ is.loads_are))
-    (subst (λ fs. IsBuiltBy scaled edges (program_of bytes base) (sampled_by (option_map (λ name. record { name = name.now; segments = loads }) map_to) bytes (lines_of text)) fs out) are with_funs)
+    → IsBuiltOf (told_options options) bytes text blocks out
+built bytes options binary loads counts text blocks out funs is same made ranged tells are =
+    let with_funs = made bytes options.base (option_map (λ name. record { name = name.now; segments = loads }) options.map) (lines_of text) is ranged tells in
+    subst (λ l. IsBuiltBy options.repairs (program_of bytes options.base) (sampled_by l bytes (lines_of text)) (functions_of blocks) out) (same-loading options.map loads bytes (same ∙ is.loads_are))
+    (subst (λ fs. IsBuiltBy options.repairs (program_of bytes options.base) (sampled_by (option_map (λ name. record { name = name.now; segments = loads }) options.map) bytes (lines_of text)) fs out) are with_funs)

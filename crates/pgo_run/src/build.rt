@@ -36,6 +36,6 @@ pub(crate) fn output<I: Inputs>(
     let counts = sampled(alloc, inputs, perf, options.map, &binary.loads)?;
     let block_text = read_file(alloc, inputs, 3, blocks, MAX_BLOCK_BYTES)?;
     let funs = in_file(3, cfg_text::read(alloc, &block_text, 3))?;
-    let text = build(alloc, binary, counts, &funs, options.edges, options.scaled)?;
+    let text = build(alloc, binary, counts, &funs, options.repairs)?;
     Ok(text)
 }

@@ -15,6 +15,7 @@ use crate::solver::Solver;
 use block_weights::{EdgeSamples, SegmentCounts};
 use cfg_text::Fun;
 use key_types::Seg;
+use output_model::RepairOptions;
 use refusal::NoMemory;
 use std::alloc::Global;
 
@@ -23,9 +24,9 @@ use std::alloc::Global;
 ///
 /// `segments` tell the key of each address, and `counts` has the count of each key at its number,
 /// from which blocks have their weights. `edges` are what was sampled of edges; without it their
-/// weights are unknown and are not told. With `scaled` each network whose counts to start from are
-/// small enough is solved within a bound on augmentations, and the answer is how many these were
-/// together, which tells nothing without it. There are at most 2^29 functions.
+/// weights are unknown and are not told. Where `options` are scaled each network whose counts to
+/// start from are small enough is solved within a bound on augmentations, and the answer is how
+/// many these were together, which tells nothing without it. There are at most 2^29 functions.
 ///
 /// # Errors
 /// `NoMemory`, and the repairs of the functions in front were appended.
@@ -35,7 +36,7 @@ pub fn write(
     segments: &[Seg],
     counts: &[u64],
     edges: Option<&EdgeSamples>,
-    scaled: bool,
+    options: RepairOptions,
     out: &mut Vec<u8>,
 ) -> Result<u64, NoMemory>
     requires segments { AreSegments segments.now }
@@ -51,7 +52,7 @@ pub fn write(
         (map function_of funs.now) augmentations) }
 {
     let counted = SegmentCounts::new(alloc, segments, counts)?;
-    write_all(alloc, funs, &counted, edges, scaled, out)
+    write_all(alloc, funs, &counted, edges, options, out)
 }
 
 /// Appends the repair of each of these functions, in order.
@@ -60,7 +61,7 @@ fn write_all(
     funs: &[Fun<'_>],
     counted: &SegmentCounts<'_>,
     edges: Option<&EdgeSamples>,
-    scaled: bool,
+    options: RepairOptions,
     out: &mut Vec<u8>,
 ) -> Result<u64, NoMemory>
     requires small { All (λ count. count < 2 ^ bound_bits) counted.now.counts }
@@ -74,7 +75,7 @@ fn write_all(
         (key_told counted.now.segments) (count_in counted.now.counts) (edges_told edges.entry)
         (map function_of funs.now) augmentations) }
 {
-    let mut solver = Solver::new(scaled);
+    let mut solver = Solver::new(options.scaled);
     for fun in funs {
         write_one(alloc, fun, counted, edges, &mut solver, out)?;
     }

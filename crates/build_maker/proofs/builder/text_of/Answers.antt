@@ -14,8 +14,8 @@ returns c = λ program sampled is.
     let told : IsProfileOf program sampled names c.segments-segments.result.now profile =
     subst (λ (segments : List Seg). IsProfileOf program sampled names segments profile) (sym c.segments-segments.ensures) is.profile in
     let (repairs, appended, repaired) = c.in_ok-augmentations.ensures.repaired in
-    let built = built_of program sampled names c.segments-segments.result.now profile c.args.edges branches funs told is.tallied
+    let built = built_of program sampled names c.segments-segments.result.now profile c.args.options.edges branches funs told is.tallied
     c.new-out.result.items c.push_lines.new.out.items c.push_repairs.new.out.items repairs c.push_report.new.out.items c.new-out.ensures.items c.in_ok-push_lines.ensures.appended appended repaired
     c.in_ok-push_report.ensures.appended in
-    built_by c.args.scaled program sampled names c.segments-segments.result.now profile c.args.edges branches funs told is.tallied
+    built_by program sampled names c.segments-segments.result.now profile c.args.options branches funs told is.tallied
     c.push_report.new.out.items c.push_augmentations.new.out.items c.in_ok-augmentations.augmentations built c.in_ok-augmentations.ensures.counted c.in_ok-push_augmentations.ensures

@@ -78,5 +78,5 @@ returns-clause-carried g c =
     let second = counted first.0 c.in_ok-counts.ensures.read c.sampled.ensures.store in
     let third = good c.read-2.result _ second.1 c.in_ok-block_text.ensures.read c.in_ok-block_text.ensures.within c.read_file-2.ensures.store c.deref-3.ensures.value (sized-blocks 3) c.read-2.ensures (sym c.in_file-2.ensures ∙ c.in_ok-funs.was) in
     all third.0 refl
-    (where-told _ second.2 (λ files tells. built c.deref.result.now c.args.options.base c.in_ok-binary.binary c.args.options.map c.deref-2.result.now c.in_ok-counts.counts second.0 c.deref-3.result.now c.in_ok-text.text.items
-    c.args.options.edges c.args.options.scaled c.deref-4.result.now first.1 c.deref-2.ensures.value c.in_ok-text.ensures c.in_ok-counts.ensures.ranged tells (ap (map function_of) c.deref-4.ensures.value ∙ third.1)))
+    (where-told _ second.2 (λ files tells. built c.deref.result.now c.args.options c.in_ok-binary.binary c.deref-2.result.now c.in_ok-counts.counts second.0 c.deref-3.result.now c.in_ok-text.text.items
+    c.deref-4.result.now first.1 c.deref-2.ensures.value c.in_ok-text.ensures c.in_ok-counts.ensures.ranged tells (ap (map function_of) c.deref-4.ensures.value ∙ third.1)))

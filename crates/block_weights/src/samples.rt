@@ -39,17 +39,20 @@ impl Model for EdgeSamples {
 impl EdgeSamples {
     /// Puts branches and ranges that ran in order. The times of either add up to less than 2^32.
     ///
-    /// It takes a sort of each.
+    /// It takes a sort of each. Branches are sorted where they stand.
     ///
     /// # Errors
     /// `NoMemory`.
-    pub fn new(alloc: Global, branches: &[Pair], ran: &[RanRange]) -> Result<EdgeSamples, NoMemory>
-        requires branches { branches_taken branches.now < 2 ^ 32 }
+    pub fn new(
+        alloc: Global,
+        mut branches: Vec<Pair>,
+        ran: &[RanRange],
+    ) -> Result<EdgeSamples, NoMemory>
+        requires branches { branches_taken branches.items < 2 ^ 32 }
         requires ran { times_of ran.now < 2 ^ 32 }
-        ensures { IfOk result (Tell branches.now ran.now) }
+        ensures { IfOk result (Tell branches.items ran.now) }
     {
         let passing = sweep(alloc, &behind_firsts(alloc, ran)?)?;
-        let mut branches = Vec::from_slice(alloc, branches)?;
         branches.sort_unstable_by_key(|branch| rank(branch.to, branch.from));
         let sums = sums_of(alloc, &branches)?;
         Ok(EdgeSamples {

@@ -3,7 +3,8 @@ ghost use Rattle.std.specs.Prelude.{◌≡◌, ◌≤◌, ◌++◌, ◌^◌, ℕ
 ghost use Rattle.std.specs.List.{All};
 ghost use Rattle.binary_places.specs.Binary.{IsBinary};
 ghost use Rattle.block_weights.specs.Counts.{count_in};
-ghost use Rattle.branch_counts.specs.Table.{total_in};
+ghost use Rattle.block_weights.specs.Sampled.{Tell};
+ghost use Rattle.branch_counts.specs.Table.{Tallies, total_in};
 ghost use Rattle.branch_counts.specs.Tally.{Tells};
 ghost use Rattle.cfg_text.specs.Fun.{function_of};
 ghost use Rattle.flow_model.specs.Sound.{IsSound};
@@ -16,18 +17,19 @@ ghost use Rattle.repair_model.specs.Made.{AreRepairsOf};
 ghost use Rattle.output_model.specs.Output.{sampled_by};
 ghost use Rattle.output_model.specs.Program.{Program, program_of};
 ghost use Rattle.output_model.specs.Scaled.{AreAllAugmentations, IsBuiltBy, augmentations_line};
-ghost use Rattle.profile_writer.specs.Profile.{ran as ranges_run};
+ghost use Rattle.profile_writer.specs.Profile.{IsProfileOf, ran as ranges_run};
 ghost use Rattle.build_maker.specs.Edges.{edges_by};
-ghost use Rattle.profile_maker.specs.Profiled.{IsProfiled};
 
-use binary_places::Binary;
+use binary_places::{Binary, Placed};
 use block_weights::EdgeSamples;
 use branch_counts::Counts;
 use cfg_text::Fun;
 use key_types::Seg;
 use output_model::RepairOptions;
 use profile_maker::{Profiled, profile_of};
+use profile_writer::Profile;
 use refusal::NoMemory;
+use sample_model::Pair;
 use std::alloc::Global;
 use text_scan::push_number;
 
@@ -55,33 +57,40 @@ pub fn build(
         → IsBuiltBy options (program_of file base) (sampled_by loading file lines)
         (map function_of funs.now) out.items) }
 {
-    let made = profile_of(alloc, binary, counts, funs)?;
-    text_of(alloc, &made, funs, options)
+    let Profiled {
+        profile,
+        placed,
+        branches,
+        ..
+    } = profile_of(alloc, binary, counts, funs)?;
+    text_of(alloc, &profile, &placed, branches, funs, options)
 }
 
 /// The lines of a profile, a repair of each function by its counts, the report, and the line that
 /// tells a number of augmentations where it is asked for.
 fn text_of(
     alloc: Global,
-    made: &Profiled<'_>,
+    profile: &Profile,
+    placed: &Placed<'_>,
+    branches: Vec<Pair>,
     funs: &[Fun<'_>],
     options: RepairOptions,
 ) -> Result<Vec<u8>, NoMemory>
-    requires segments { AreSegments made.now.placed.map.segments }
-    requires names { All (IsOf made.now.placed.names) made.now.profile.lines }
-    requires few_branches { total_in made.now.branches.items ≤ max_branches }
+    requires segments { AreSegments placed.now.map.segments }
+    requires names { All (IsOf placed.now.names) profile.now.lines }
+    requires few_branches { total_in branches.items ≤ max_branches }
     requires sound { All (λ fun. IsSound fun.blocks fun.edges) funs.now }
     requires few { length funs.now ≤ 2 ^ 29 }
     ensures { IfOk result (λ out. (program : Program) (sampled : Sampled)
-        → IsProfiled program sampled made.now.placed.names made.now.placed.map.segments
-        made.now.profile made.now.branches.items made.now.total
+        → IsProfileOf program sampled placed.now.names placed.now.map.segments profile.now
+        → Tallies sampled.branches branches.items
         → IsBuiltBy options program sampled (map function_of funs.now) out.items) }
 {
-    let segments = made.placed.map.segments();
+    let segments = placed.map.segments();
     let mut out = Vec::new(alloc);
-    made.profile.push_lines(&made.placed.names, &mut out)?;
-    let augmentations = push_repairs(alloc, made, segments, funs, options, &mut out)?;
-    made.profile.push_report(&mut out)?;
+    profile.push_lines(&placed.names, &mut out)?;
+    let augmentations = push_repairs(alloc, profile, branches, segments, funs, options, &mut out)?;
+    profile.push_report(&mut out)?;
     push_augmentations(&mut out, options.scaled, augmentations)?;
     Ok(out)
 }
@@ -105,31 +114,45 @@ fn push_augmentations(out: &mut Vec<u8>, asked: bool, augmentations: u64) -> Res
 /// ranges that ran.
 fn push_repairs(
     alloc: Global,
-    made: &Profiled<'_>,
+    profile: &Profile,
+    branches: Vec<Pair>,
     segments: &[Seg],
     funs: &[Fun<'_>],
     options: RepairOptions,
     out: &mut Vec<u8>,
 ) -> Result<u64, NoMemory>
     requires segments { AreSegments segments.now }
-    requires few_branches { total_in made.now.branches.items ≤ max_branches }
+    requires few_branches { total_in branches.items ≤ max_branches }
     requires sound { All (λ fun. IsSound fun.blocks fun.edges) funs.now }
     requires few { length funs.now ≤ 2 ^ 29 }
     ensures repaired { OnOk result ((text : List ℕ) × (out.new.items ≡ out.old.items ++ text)
-        × AreRepairsOf (key_told segments.now) (count_in made.now.profile.counts)
-        (edges_by options.edges made.now.branches.items (ranges_run made.now.profile))
+        × AreRepairsOf (key_told segments.now) (count_in profile.now.counts)
+        (edges_by options.edges branches.items (ranges_run profile.now))
         (map function_of funs.now) text) }
     ensures counted { IfOk result (λ augmentations. AreAllAugmentations
-        (key_told segments.now) (count_in made.now.profile.counts)
-        (edges_by options.edges made.now.branches.items (ranges_run made.now.profile))
+        (key_told segments.now) (count_in profile.now.counts)
+        (edges_by options.edges branches.items (ranges_run profile.now))
         (map function_of funs.now) augmentations) }
 {
-    let counts = made.profile.counts();
+    let counts = profile.counts();
     if options.edges {
-        let ran = made.profile.ran(alloc)?;
-        let samples = EdgeSamples::new(alloc, &made.branches, &ran)?;
+        let samples = edge_samples(alloc, profile, branches)?;
         repair_maker::write(alloc, funs, segments, counts, Some(&samples), options, out)
     } else {
+        drop(branches);
         repair_maker::write(alloc, funs, segments, counts, None, options, out)
     }
+}
+
+/// The branches, and the ranges of a profile that ran, in order.
+fn edge_samples(
+    alloc: Global,
+    profile: &Profile,
+    branches: Vec<Pair>,
+) -> Result<EdgeSamples, NoMemory>
+    requires { total_in branches.items ≤ max_branches }
+    ensures { IfOk result (Tell branches.items (ranges_run profile.now)) }
+{
+    let ran = profile.ran(alloc)?;
+    EdgeSamples::new(alloc, branches, &ran)
 }

@@ -8,8 +8,11 @@ use binary_places::read;
 use cold_maker::cold;
 use command_words::Options;
 use io_edge::Inputs;
-use program_edge::{Halt, MAX_BINARY_BYTES, MAX_PROFILE_BYTES, in_file, read_file};
+use program_edge::{BINARY, Halt, MAX_BINARY_BYTES, MAX_PROFILE_BYTES, in_file, read_file};
 use std::alloc::Global;
+
+/// The number of the profile text.
+const PROFILE: u8 = 2;
 
 /// What is written for the binary and the profile text in these files.
 ///
@@ -28,9 +31,9 @@ pub(crate) fn of_text<I: Inputs>(
         (I.opens inputs.old) (I.opens inputs.new) (I.faults inputs.old) (I.faults inputs.new) }
     ensures store { I.store inputs.new ≡ I.store inputs.old }
 {
-    let file = read_file(alloc, inputs, 1, binary, MAX_BINARY_BYTES)?;
-    let binary = in_file(1, read(alloc, &file, options.base))?;
-    let profile = read_file(alloc, inputs, 2, profile, MAX_PROFILE_BYTES)?;
-    let text = in_file(2, cold(alloc, binary, &profile, 2))?;
+    let file = read_file(alloc, inputs, BINARY, binary, MAX_BINARY_BYTES)?;
+    let binary = in_file(BINARY, read(alloc, &file, options.base))?;
+    let profile = read_file(alloc, inputs, PROFILE, profile, MAX_PROFILE_BYTES)?;
+    let text = in_file(PROFILE, cold(alloc, binary, &profile, PROFILE))?;
     Ok(text)
 }

@@ -8,8 +8,11 @@ use binary_places::read;
 use build_maker::build;
 use command_words::Options;
 use io_edge::Inputs;
-use program_edge::{Halt, MAX_BINARY_BYTES, MAX_BLOCK_BYTES, in_file, read_file, sampled};
+use program_edge::{BINARY, Halt, MAX_BINARY_BYTES, MAX_BLOCK_BYTES, in_file, read_file, sampled};
 use std::alloc::Global;
+
+/// The number of the block text.
+const BLOCKS: u8 = 3;
 
 /// What `build` writes for the binary, the branch text and the block text in these files.
 ///
@@ -31,11 +34,11 @@ pub(crate) fn output<I: Inputs>(
         (I.opens inputs.old) (I.opens inputs.new) (I.faults inputs.old) (I.faults inputs.new) }
     ensures store { I.store inputs.new ≡ I.store inputs.old }
 {
-    let file = read_file(alloc, inputs, 1, binary, MAX_BINARY_BYTES)?;
-    let binary = in_file(1, read(alloc, &file, options.base))?;
+    let file = read_file(alloc, inputs, BINARY, binary, MAX_BINARY_BYTES)?;
+    let binary = in_file(BINARY, read(alloc, &file, options.base))?;
     let counts = sampled(alloc, inputs, perf, options.map, &binary.loads)?;
-    let block_text = read_file(alloc, inputs, 3, blocks, MAX_BLOCK_BYTES)?;
-    let funs = in_file(3, cfg_text::read(alloc, &block_text, 3))?;
+    let block_text = read_file(alloc, inputs, BLOCKS, blocks, MAX_BLOCK_BYTES)?;
+    let funs = in_file(BLOCKS, cfg_text::read(alloc, &block_text, BLOCKS))?;
     let text = build(alloc, binary, counts, &funs, options.repairs)?;
     Ok(text)
 }

@@ -9,6 +9,11 @@ use program_edge::{Halt, MAX_BLOCK_BYTES, MAX_REPAIR_BYTES, in_file, read_file};
 use repair_check::failed_line;
 use std::alloc::Global;
 
+// The number of each file.
+const BLOCKS: u8 = 1;
+
+const REPAIRS: u8 = 2;
+
 /// What `check` writes for the block text and the repair text in these files.
 ///
 /// # Errors
@@ -24,10 +29,13 @@ pub(crate) fn output<I: Inputs>(
         (I.opens inputs.old) (I.opens inputs.new) (I.faults inputs.old) (I.faults inputs.new) }
     ensures store { I.store inputs.new ≡ I.store inputs.old }
 {
-    let block_text = read_file(alloc, inputs, 1, blocks, MAX_BLOCK_BYTES)?;
-    let funs = in_file(1, cfg_text::read(alloc, &block_text, 1))?;
-    let repair_text = read_file(alloc, inputs, 2, repairs, MAX_REPAIR_BYTES)?;
-    let repairs = in_file(2, repair_text::read(alloc, &repair_text, 2, &funs))?;
+    let block_text = read_file(alloc, inputs, BLOCKS, blocks, MAX_BLOCK_BYTES)?;
+    let funs = in_file(BLOCKS, cfg_text::read(alloc, &block_text, BLOCKS))?;
+    let repair_text = read_file(alloc, inputs, REPAIRS, repairs, MAX_REPAIR_BYTES)?;
+    let repairs = in_file(
+        REPAIRS,
+        repair_text::read(alloc, &repair_text, REPAIRS, &funs),
+    )?;
     let failed = failed_line(alloc, &funs, &repairs)?;
     if let Some(line) = failed {
         return Err(Halt::CheckFailed(line));

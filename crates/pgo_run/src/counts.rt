@@ -10,6 +10,9 @@ use io_edge::Inputs;
 use program_edge::{Halt, count_text, open_file};
 use std::alloc::Global;
 
+/// The number of the branch text.
+const PERF: u8 = 1;
+
 /// What `counts` writes for the branch text in this file.
 ///
 /// # Errors
@@ -26,13 +29,13 @@ pub(crate) fn output<I: Inputs>(alloc: Global, perf: &[u8], inputs: &mut I) -> R
 
 /// The branches of the branch text in file 1, of this name.
 fn branches<I: Inputs>(alloc: Global, perf: &[u8], inputs: &mut I) -> Result<Counts, Halt>
-    ensures read { TakesFile (CountsFile 1 None) 1 perf.now (I.store inputs.old) result
+    ensures read { TakesFile (CountsFile PERF None) PERF perf.now (I.store inputs.old) result
         (I.opens inputs.old) (I.opens inputs.new) (I.faults inputs.old) (I.faults inputs.new) }
     ensures store { I.store inputs.new ≡ I.store inputs.old }
 {
-    open_file(inputs, 1, perf)?;
-    let reader = Reader::new(alloc, 1)?;
+    open_file(inputs, PERF, perf)?;
+    let reader = Reader::new(alloc, PERF)?;
     let mut counts = Counts::of_branches(alloc)?;
-    count_text(inputs, 1, reader, &mut counts)?;
+    count_text(inputs, PERF, reader, &mut counts)?;
     Ok(counts)
 }

@@ -8,8 +8,15 @@ use binary_places::read;
 use command_words::Options;
 use io_edge::Inputs;
 use lift_maker::{Lifted, lift};
-use program_edge::{Halt, MAX_BINARY_BYTES, MAX_BLOCK_BYTES, MAX_REPAIR_BYTES, in_file, read_file};
+use program_edge::{
+    BINARY, Halt, MAX_BINARY_BYTES, MAX_BLOCK_BYTES, MAX_REPAIR_BYTES, in_file, read_file,
+};
 use std::alloc::Global;
+
+// The number of each file behind the binary.
+const BLOCKS: u8 = 2;
+
+const BUILT: u8 = 3;
 
 /// What `lift` writes for the binary, the block text and what was built in these files.
 ///
@@ -31,12 +38,12 @@ pub(crate) fn output<I: Inputs>(
         (I.opens inputs.old) (I.opens inputs.new) (I.faults inputs.old) (I.faults inputs.new) }
     ensures store { I.store inputs.new ≡ I.store inputs.old }
 {
-    let file = read_file(alloc, inputs, 1, binary, MAX_BINARY_BYTES)?;
-    let binary = in_file(1, read(alloc, &file, options.base))?;
-    let block_text = read_file(alloc, inputs, 2, blocks, MAX_BLOCK_BYTES)?;
-    let funs = in_file(2, cfg_text::read(alloc, &block_text, 2))?;
-    let text = read_file(alloc, inputs, 3, built, MAX_REPAIR_BYTES)?;
-    let lifted = in_file(3, lift(alloc, binary, &funs, &text, 3))?;
+    let file = read_file(alloc, inputs, BINARY, binary, MAX_BINARY_BYTES)?;
+    let binary = in_file(BINARY, read(alloc, &file, options.base))?;
+    let block_text = read_file(alloc, inputs, BLOCKS, blocks, MAX_BLOCK_BYTES)?;
+    let funs = in_file(BLOCKS, cfg_text::read(alloc, &block_text, BLOCKS))?;
+    let text = read_file(alloc, inputs, BUILT, built, MAX_REPAIR_BYTES)?;
+    let lifted = in_file(BUILT, lift(alloc, binary, &funs, &text, BUILT))?;
     match lifted {
         Lifted::Text(out) => Ok(out),
         Lifted::Failed(line) => Err(Halt::CheckFailed(line)),

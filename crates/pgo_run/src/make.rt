@@ -21,9 +21,12 @@ use branch_stacks::{Counts, read_text};
 use build_maker::summarize;
 use case_maker::{CasePart, CaseStop, make};
 use cfg_text::Fun;
-use program_edge::{Halt, MAX_BINARY_BYTES, MAX_BLOCK_BYTES, in_file, too_large};
+use program_edge::{BINARY, Halt, MAX_BINARY_BYTES, MAX_BLOCK_BYTES, PERF, in_file, too_large};
 use refusal::{NoMemory, Stop, refuse_if};
 use std::alloc::Global;
+
+/// The number of the block text.
+const BLOCKS: u8 = 3;
 
 /// A file of the generated case of so many functions. No file is opened.
 ///
@@ -47,10 +50,10 @@ pub(crate) fn summary_output(alloc: Global, functions: u64) -> Result<Vec<u8>, H
         Carries (make_sum functions) store result opens opens faults faults }
 {
     let file = case_file(alloc, CasePart::Bin, functions)?;
-    let binary = in_file(1, binary_in(alloc, &file))?;
-    let counts = in_file(2, samples_of(alloc, functions))?;
+    let binary = in_file(BINARY, binary_in(alloc, &file))?;
+    let counts = in_file(PERF, samples_of(alloc, functions))?;
     let block_text = case_file(alloc, CasePart::Cfg, functions)?;
-    let text = in_file(3, summary_of(alloc, binary, counts, &block_text))?;
+    let text = in_file(BLOCKS, summary_of(alloc, binary, counts, &block_text))?;
     Ok(text)
 }
 
@@ -62,7 +65,7 @@ fn summary_of(
     block_text: &[u8],
 ) -> Result<Vec<u8>, Stop>
     requires { (file : List ℕ) × IsBinary file false binary }
-    ensures { JudgesUnlessNoMemory (first_bad_of_blocks 3 block_text.now) result
+    ensures { JudgesUnlessNoMemory (first_bad_of_blocks BLOCKS block_text.now) result
         (λ out. (file perf : List ℕ) → IsBinary file false binary.entry
         → counts.with_ranges ≡ true → Tells None (lines_of perf) counts
         → IsSummaryOf file perf block_text.now out.items) }
@@ -89,29 +92,29 @@ fn binary_in(alloc: Global, file: &[u8]) -> Result<Binary<'_>, Stop>
     ensures { JudgesUnlessNoMemory (first_bad_of_binary file.now) result
         (IsBinary file.now false) }
 {
-    judge_size(1, file, MAX_BINARY_BYTES)?;
+    judge_size(BINARY, file, MAX_BINARY_BYTES)?;
     read(alloc, file, false)
 }
 
 /// The samples in the branch text of the case, which is file 2.
 fn samples_of(alloc: Global, functions: u64) -> Result<Counts, Stop>
-    ensures { JudgesUnlessNoMemory (first_bad_of_text 2 (file_told perf_file functions)) result
+    ensures { JudgesUnlessNoMemory (first_bad_of_text PERF (file_told perf_file functions)) result
         (λ counts. (counts.with_ranges ≡ true)
         × Tells None (lines_of (file_told perf_file functions)) counts) }
 {
     let text = case_file(alloc, CasePart::Perf, functions)?;
     let mut counts = Counts::new(alloc)?;
-    read_text(&text, 2, &mut counts)?;
+    read_text(&text, PERF, &mut counts)?;
     Ok(counts)
 }
 
 /// The functions of a block text, which is file 3.
 fn functions_in(alloc: Global, text: &[u8]) -> Result<Vec<Fun<'_>>, Stop>
-    ensures { JudgesUnlessNoMemory (first_bad_of_blocks 3 text.now) result
+    ensures { JudgesUnlessNoMemory (first_bad_of_blocks BLOCKS text.now) result
         (λ funs. map function_of funs.items ≡ functions_of text.now) }
 {
-    judge_size(3, text, MAX_BLOCK_BYTES)?;
-    cfg_text::read(alloc, text, 3)
+    judge_size(BLOCKS, text, MAX_BLOCK_BYTES)?;
+    cfg_text::read(alloc, text, BLOCKS)
 }
 
 /// Refuses a file that is larger than this.

@@ -8,6 +8,9 @@ use merge_maker::summarize;
 use program_edge::{Halt, MAX_PROFILE_BYTES, in_file, read_file};
 use std::alloc::Global;
 
+/// The number of the profile text.
+const PROFILE: u8 = 1;
+
 /// What `summary` writes for the profile text in this file.
 ///
 /// # Errors
@@ -17,7 +20,7 @@ pub(crate) fn output<I: Inputs>(alloc: Global, file: &[u8], inputs: &mut I) -> R
         (I.opens inputs.old) (I.opens inputs.new) (I.faults inputs.old) (I.faults inputs.new) }
     ensures store { I.store inputs.new ≡ I.store inputs.old }
 {
-    let text = read_file(alloc, inputs, 1, file, MAX_PROFILE_BYTES)?;
-    let lines = in_file(1, summarize(alloc, &text, 1))?;
+    let text = read_file(alloc, inputs, PROFILE, file, MAX_PROFILE_BYTES)?;
+    let lines = in_file(PROFILE, summarize(alloc, &text, PROFILE))?;
     Ok(lines)
 }

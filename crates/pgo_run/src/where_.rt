@@ -14,7 +14,7 @@ use binary_places::{Asked, Binary, Placed, places, read};
 use command_words::Options;
 use io_edge::Inputs;
 use key_types::Places;
-use program_edge::{Halt, MAX_BINARY_BYTES, in_file, read_file};
+use program_edge::{BINARY, Halt, MAX_BINARY_BYTES, in_file, read_file};
 use refusal::{NoMemory, Stop};
 use std::alloc::Global;
 
@@ -34,8 +34,8 @@ pub(crate) fn output<I: Inputs>(
         (I.opens inputs.old) (I.opens inputs.new) (I.faults inputs.old) (I.faults inputs.new) }
     ensures store { I.store inputs.new ≡ I.store inputs.old }
 {
-    let file = read_file(alloc, inputs, 1, binary, MAX_BINARY_BYTES)?;
-    let line = in_file(1, line_of(alloc, &file, options.base, address))?;
+    let file = read_file(alloc, inputs, BINARY, binary, MAX_BINARY_BYTES)?;
+    let line = in_file(BINARY, line_of(alloc, &file, options.base, address))?;
     Ok(line)
 }
 

@@ -17,8 +17,8 @@ mod top_call;
 pub use branch_text::count_text;
 pub use halt::{Halt, in_file};
 pub use order::{
-    MAX_BINARY_BYTES, MAX_BLOCK_BYTES, MAX_PROFILE_BYTES, MAX_REPAIR_BYTES, open_file, read_file,
-    too_large,
+    BINARY, MAX_BINARY_BYTES, MAX_BLOCK_BYTES, MAX_PROFILE_BYTES, MAX_REPAIR_BYTES, PERF,
+    open_file, read_file, too_large,
 };
 pub use samples::{FromSamples, from_samples, sampled};
 pub use status::{LINE_ROOM, Status, status_line};

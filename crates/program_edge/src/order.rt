@@ -9,6 +9,12 @@ use io_edge::{Inputs, ReadStop, read_whole};
 use refusal::{Kind, Place};
 use std::alloc::Global;
 
+/// The number of the binary, in each command that has one.
+pub const BINARY: u8 = 1;
+
+/// The number of the branch text, in each command that has a binary too.
+pub const PERF: u8 = 2;
+
 /// The most bytes of a binary.
 pub const MAX_BINARY_BYTES: u64 = 1 << 30;
 

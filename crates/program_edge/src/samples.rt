@@ -20,7 +20,7 @@ ghost use Rattle.program_edge.specs.Samples.{CountsFile};
 
 use crate::branch_text::count_text;
 use crate::halt::{Halt, in_file};
-use crate::order::{MAX_BINARY_BYTES, open_file, read_file};
+use crate::order::{BINARY, MAX_BINARY_BYTES, PERF, open_file, read_file};
 use binary_places::{Binary, read};
 use branch_stacks::{Counts, Reader};
 use command_words::Options;
@@ -41,28 +41,28 @@ pub fn sampled<I: Inputs>(
     map: Option<&[u8]>,
     loads: &[LoadSegment],
 ) -> Result<Counts, Halt>
-    ensures read { TakesFile (CountsFile 2
+    ensures read { TakesFile (CountsFile PERF
         (option_map (λ name. record { name = name.now; segments = loads.now }) map.entry))
-        2 perf.now (I.store inputs.old) result
+        PERF perf.now (I.store inputs.old) result
         (I.opens inputs.old) (I.opens inputs.new) (I.faults inputs.old) (I.faults inputs.new) }
     ensures ranged { IfOk result (λ counts. counts.with_ranges ≡ true) }
     ensures store { I.store inputs.new ≡ I.store inputs.old }
 {
-    open_file(inputs, 2, perf)?;
+    open_file(inputs, PERF, perf)?;
     let reader = reader_of(alloc, map, loads)?;
     let mut counts = Counts::new(alloc)?;
-    count_text(inputs, 2, reader, &mut counts)?;
+    count_text(inputs, PERF, reader, &mut counts)?;
     Ok(counts)
 }
 
 /// A reader of file 2 that moves addresses, where the binary has a name in load lines.
 fn reader_of(alloc: Global, map: Option<&[u8]>, loads: &[LoadSegment]) -> Result<Reader, NoMemory>
     ensures { IfOk result (λ reader. reader ≡ new_reading_by
-        (option_map (λ name. record { name = name.now; segments = loads.now }) map.entry) 2) }
+        (option_map (λ name. record { name = name.now; segments = loads.now }) map.entry) PERF) }
 {
     match map {
-        Some(name) => Reader::with_loads(alloc, 2, name, loads),
-        None => Reader::new(alloc, 2),
+        Some(name) => Reader::with_loads(alloc, PERF, name, loads),
+        None => Reader::new(alloc, PERF),
     }
 }
 
@@ -114,8 +114,8 @@ pub fn from_samples<C: FromSamples, I: Inputs>(
         (I.opens inputs.old) (I.opens inputs.new) (I.faults inputs.old) (I.faults inputs.new) }
     ensures store { I.store inputs.new ≡ I.store inputs.old }
 {
-    let file = read_file(alloc, inputs, 1, binary, MAX_BINARY_BYTES)?;
-    let binary = in_file(1, read(alloc, &file, options.base))?;
+    let file = read_file(alloc, inputs, BINARY, binary, MAX_BINARY_BYTES)?;
+    let binary = in_file(BINARY, read(alloc, &file, options.base))?;
     let counts = sampled(alloc, inputs, perf, options.map, &binary.loads)?;
     let text = C::make(alloc, binary, counts)?;
     Ok(text)

@@ -18,7 +18,7 @@ invariant_of-result c =
     let same = c.deref.ensures.value ∙ c.in_ok-behind_firsts.ensures.same in (
       record {
         rise = IsNonDecreasingBy-from_sort_by_key (λ branch. rank branch.to branch.from) _ c.sort_unstable_by_key.ensures.sorted (λ a r q k. search rules);
-        taken_fits = omega (arith, c.requires.branches, sum_by-IsPermutation (λ (b : Pair). b.times) _ _ c.sort_unstable_by_key.ensures.permutation, ap branches_taken c.in_ok-branches.ensures.items);
+        taken_fits = omega (arith, c.requires.branches, sum_by-IsPermutation (λ (b : Pair). b.times) _ _ c.sort_unstable_by_key.ensures.permutation);
         passed_fits = λ a. passed_fits c.args.ran.now _ _ a same c.in_ok-passing.ensures c.requires.ran;
       },
       subst (λ branches. AreSums branches c.in_ok-sums.sums.items) c.deref-2.ensures.value c.in_ok-sums.ensures,
@@ -28,6 +28,6 @@ pub returns : goal.returns
 returns c =
     let same = c.deref.ensures.value ∙ c.in_ok-behind_firsts.ensures.same in
     record {
-      taken_same = taken-permutation _ _ c.sort_unstable_by_key.ensures.permutation ∙ ap taken c.in_ok-branches.ensures.items;
+      taken_same = taken-permutation _ _ c.sort_unstable_by_key.ensures.permutation;
       passed_same = passed_steps c.args.ran.now _ _ same c.in_ok-passing.ensures;
     }

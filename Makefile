@@ -23,11 +23,13 @@ all help:
 	@echo 'make demo                                    a program before and behind its profile, with what it gains (clang, qemu-user)'
 	@echo 'make prove                                   the gate: proves, builds and tests every crate by rt, in hours'
 
-# The scripts stand with their packages in share/pgo/contrib, where they find the programs in the folder above.
+# The scripts stand with their packages in share/pgo/contrib, where they find the programs in the folder above. Beside these stands
+# of which sources they are, with their sums (`made`).
 install:
 	$(INSTALL) -d '$(bin)' '$(share)/contrib' '$(man)'
 	$(INSTALL) -m 755 release/pgo release/pgo-cold '$(bin)'
 	$(INSTALL) -m 644 $(wildcard docs/*.1) '$(man)'
+	$(INSTALL) -m 644 release/made '$(share)'
 	$(INSTALL) -m 755 $(scripts) '$(share)/contrib'
 	for file in $(packages:contrib/%=%); do \
 	    $(INSTALL) -d "$(share)/contrib/$${file%/*}" && $(INSTALL) -m 644 "contrib/$$file" "$(share)/contrib/$$file" || exit; \

@@ -26,7 +26,7 @@ ci)
     ;;
 esac
 """
-VERSION, COLD_VERSION = b"pgo 0.1.0\n", b"pgo-cold 0.1.0\n"
+VERSION, COLD_VERSION = b"pgo 1.0.0\n", b"pgo-cold 1.0.0\n"
 OTHERS = "pgo: the sources here are not those of release/pgo, which runs as it is; ./pgo --build proves and builds them: "
 
 

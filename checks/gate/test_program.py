@@ -151,7 +151,7 @@ class Words(Program):
 
     def test_help(self):
         told = bytes_of(EXPECTED / "help.expected")
-        self.answers("the version", DONE, "pgo 0.1.0\n", "", "--version")
+        self.answers("the version", DONE, "pgo 1.0.0\n", "", "--version")
         self.answers("the help", DONE, told, "", "--help")
         self.answers("the help by a letter", DONE, told, "", "-h")
         self.answers(

@@ -56,7 +56,7 @@ class OlderSystems(Case):
             shutil.copy(path, self.folder)
         words = [self.folder / "ld-linux-x86-64.so.2", "--library-path", self.folder]
         for name in ("pgo", "pgo-cold"):
-            self.expects(name, run(*words, TOP / "release" / name, "--version"), 0, f"{name} 0.1.0\n")
+            self.expects(name, run(*words, TOP / "release" / name, "--version"), 0, f"{name} 1.0.0\n")
 
 
 class Installed(Case):
@@ -69,7 +69,9 @@ class Installed(Case):
         self.assertEqual(ran.status, 0, ran.said)
         bin_folder = stage / "opt" / "pgo" / "bin"
         for name in ("pgo", "pgo-cold"):
-            self.expect(run(bin_folder / name, "--version"), 0, f"{name} 0.1.0\n")
+            self.expect(run(bin_folder / name, "--version"), 0, f"{name} 1.0.0\n")
+        made = stage / "opt" / "pgo" / "share" / "pgo" / "made"
+        self.assertEqual(made.read_bytes(), (TOP / "release" / "made").read_bytes())
         for page in ("pgo.1", "pgo-cold.1"):
             self.assertTrue((stage / "opt" / "pgo" / "share" / "man" / "man1" / page).is_file())
         scripts = sorted(path.name for path in bin_folder.iterdir())

@@ -25,6 +25,10 @@ use std::marker::Model;
 /// What the range lists of a file come to from places on, so that a list to which many entries
 /// refer, and lists that end in one another, are read once for a base address. What is kept belongs
 /// to one file.
+// Why: What a list of 32 entries and more comes to is kept from its first entry on, and from each
+// 32nd further on: a mark takes a hundred bytes, an entry two or more. A reader looks for a mark at
+// its first entry and behind 32, so that short lists cost no search. Of two bases at one place the
+// last one read stays. Places are no freer than the file is long, and need no hash by a key.
 #[derive(Drop)]
 pub struct Lists {
     of_pairs: IndexMap<u64, Tail>,

@@ -83,7 +83,7 @@ exit status:
 ";
 
 /// What `--version` prints.
-const VERSION: &[u8] = b"pgo 0.1.0\n";
+const VERSION: &[u8] = b"pgo 1.0.0\n";
 
 /// The answer to words that ask for one, where they are the only ones.
 // Why: `--help` and `--version` are `main`'s: the top call knows neither, and any other word beside

@@ -34,7 +34,7 @@ The exit status and the lines on the error output are those of `pgo`.
 ";
 
 /// What `--version` prints.
-const VERSION: &[u8] = b"pgo-cold 0.1.0\n";
+const VERSION: &[u8] = b"pgo-cold 1.0.0\n";
 
 /// The answer to words that ask for one, where they are the only ones.
 pub(crate) fn answer_to(words: &[Vec<u8>]) -> Option<&'static [u8]> {

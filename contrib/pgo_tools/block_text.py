@@ -5,6 +5,7 @@ from typing import NamedTuple, Optional
 
 from pgo_tools.cli import REFUSED, Trouble
 from pgo_tools.files import lines_of
+from pgo_tools.numbers import number_of
 
 BLOCK = re.compile(r"block ([0-9]+) 0x([0-9a-fA-F]+) 0x([0-9a-fA-F]+)( exit)?((?: [^ ]+)*)")
 EDGE = re.compile(r"edge ([0-9]+) ([0-9]+)((?: [^ ]+)*)")
@@ -40,14 +41,6 @@ class Function:
         self.blocks, self.edges = [], []
         # What stood before: pairs of edges, and addresses of blocks in order.
         self.pairs, self.starts = set(), []
-
-
-def number_of(digits, bits, base=10):
-    digits = digits.lstrip("0") or "0"
-    value = int(digits, base) if len(digits) <= bits else 1 << bits
-    if value >> bits:
-        raise ValueError
-    return value
 
 
 def bound_of(words, is_block):

@@ -1,10 +1,12 @@
 """The list of profiles that are to be merged: names with weights, and what the files show before any is merged."""
 import collections
 import os
+import re
 
 from pgo_tools import profile_text
 from pgo_tools.cli import FAILED, USAGE, Trouble, given
 from pgo_tools.names import text_of
+from pgo_tools.numbers import decimal
 from pgo_tools.tree import File
 
 MOST_WEIGHT = 65535
@@ -17,11 +19,10 @@ def weighed(line):
     weight, tab, name = line.partition("\t")
     if not (tab and weight.isascii() and weight.isdigit()):
         return File(line, 1)
-    # Python refuses to read thousands of digits, of zeros too.
-    digits = weight.lstrip("0")
-    if not 1 <= len(digits) <= len(str(MOST_WEIGHT)) or int(digits) > MOST_WEIGHT:
+    match = re.fullmatch(decimal(5), weight)
+    if not match or not 1 <= int(match[1]) <= MOST_WEIGHT:
         raise Trouble(f"{name}: a weight of {weight}", USAGE, f"weights are from 1 to {MOST_WEIGHT}")
-    return File(name, int(digits))
+    return File(name, int(match[1]))
 
 
 def from_input(zeros):

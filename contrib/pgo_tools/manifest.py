@@ -11,6 +11,7 @@ from typing import List, NamedTuple, Optional
 
 from pgo_tools.cli import FAILED, Trouble
 from pgo_tools.files import opened, put_in_place
+from pgo_tools.numbers import decimal
 
 FORM = "merge-tree 1"
 BLOCK = 1 << 20
@@ -18,9 +19,9 @@ BLOCK = 1 << 20
 WRITTEN = 3
 
 # A body line's count, a function's head, a line of another kind than blank ones and comments, and the build that was sampled.
-# Behind any zeros a number has 20 digits at most: pgo refuses what has more, and Python would not read thousands.
-COUNT = re.compile(rb"\n +[0-9.]+: 0*([0-9]{1,20})(?![^ \n])")
-HEAD = re.compile(rb"\n[^ \n#][^\n]*:0*([0-9]{1,20})(?![^\n])")
+# Behind any zeros a number has 20 digits at most: pgo refuses what has more.
+COUNT = re.compile(rb"\n +[0-9.]+: %s(?![^ \n])" % decimal(20).encode())
+HEAD = re.compile(rb"\n[^ \n#][^\n]*:%s(?![^\n])" % decimal(20).encode())
 SAYS = re.compile(rb"\n *[^ \n#]")
 BUILD = re.compile(rb"\n# build ([^\r\n]*)")
 

@@ -8,6 +8,7 @@ from typing import NamedTuple, Optional, Union
 
 from pgo_tools.cli import REFUSED, Trouble
 from pgo_tools.files import lines_of
+from pgo_tools.numbers import number_of
 
 MOST_SPACES = 256
 NAME = r"[^\x00-\x20\x7f:#!0-9][^\x00-\x20\x7f:]*"
@@ -69,14 +70,6 @@ def refused(path, number, kind, line=""):
     return Trouble(f"{path}: refused at {number}: {kind}", REFUSED, helps)
 
 
-def number_of(digits, bits):
-    """The number of these digits; a ValueError where it has more bits."""
-    digits = (digits or "0").lstrip("0") or "0"
-    if len(digits) > 20 or int(digits) >> bits:
-        raise ValueError
-    return int(digits)
-
-
 def parsed(depth, line):
     """What a line says, its spaces taken away, or None where it has none of the forms."""
     try:
@@ -85,13 +78,13 @@ def parsed(depth, line):
             return match and FunctionLine(match[1], number_of(match[2], 64), number_of(match[3], 64))
         match = CALL.fullmatch(line)
         if match:
-            return CallLine(number_of(match[1], 16), number_of(match[2], 32), match[3], number_of(match[4], 64))
+            return CallLine(number_of(match[1], 16), number_of(match[2] or "0", 32), match[3], number_of(match[4], 64))
         match = BODY.fullmatch(line)
         if not match:
             return None
         targets = [each.rpartition(":") for each in match[4].split(" ")[1:]]
         told = tuple((name, number_of(times, 64)) for name, _, times in targets)
-        return BodyLine(number_of(match[1], 16), number_of(match[2], 32), number_of(match[3], 64), told)
+        return BodyLine(number_of(match[1], 16), number_of(match[2] or "0", 32), number_of(match[3], 64), told)
     except ValueError:
         return None
 

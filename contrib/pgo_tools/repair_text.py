@@ -4,9 +4,9 @@ from typing import NamedTuple, Optional
 
 from pgo_tools.cli import REFUSED, Trouble
 from pgo_tools.files import lines_of
+from pgo_tools.numbers import number_of
 
-# Numbers of 128 bits at most, behind any zeros.
-NUMBER = "0*[0-9]{1,39}"
+NUMBER = "[0-9]+"
 WEIGHT = rf"(\?|{NUMBER})"
 FUNCTION = re.compile(r"# function ([^ ]+) (?:(flow)|cut ([01]))")
 FLOW_BLOCK = re.compile(rf"# block ({NUMBER}) weight {WEIGHT} count ({NUMBER}) in (-?{NUMBER}) out (-?{NUMBER})")
@@ -39,13 +39,13 @@ class Repair:
         self.blocks, self.edges, self.end = [], [], None
 
 
-def number_of(text):
-    # Python refuses to read thousands of digits, of zeros too.
-    return int(text.lstrip("-0") or "0") * (-1 if text.startswith("-") else 1)
+def value_of(text):
+    """The number that a text is; a ValueError where it has more than 128 bits."""
+    return number_of(text.lstrip("-"), 128) * (-1 if text.startswith("-") else 1)
 
 
 def weight_of(text):
-    return None if text in (None, "?") else number_of(text)
+    return None if text in (None, "?") else value_of(text)
 
 
 def functions(file, path="the repair"):
@@ -60,7 +60,10 @@ def functions(file, path="the repair"):
             repair = match and Repair(match[1], match[2] or "cut", int(match[3] or 0), number)
             good = bool(match)
         else:
-            good = add(repair, shown)
+            try:
+                good = add(repair, shown)
+            except ValueError:
+                good = False
         if not good:
             raise Trouble(f"{path}: line {number} is none of a repair: {line.rstrip()[:60]!r}", REFUSED)
         if repair.end is not None:
@@ -76,18 +79,18 @@ def add(repair, line):
     is_flow = repair.kind == "flow"
     match = (FLOW_BLOCK if is_flow else CUT_BLOCK).fullmatch(line)
     if match:
-        if number_of(match[1]) != len(repair.blocks) or repair.edges:
+        if value_of(match[1]) != len(repair.blocks) or repair.edges:
             return False
-        told = [number_of(each) for each in match.groups()[2:]]
+        told = [value_of(each) for each in match.groups()[2:]]
         repair.blocks.append(Block(weight_of(match[2]), *(told if is_flow else [None, *told])))
         return True
     match = EDGE.fullmatch(line)
     if match and is_flow:
-        tail, head = number_of(match[1]), number_of(match[2])
-        repair.edges.append(Edge(tail, head, weight_of(match[3]), number_of(match[4])))
+        tail, head = value_of(match[1]), value_of(match[2])
+        repair.edges.append(Edge(tail, head, weight_of(match[3]), value_of(match[4])))
         return max(tail, head) < len(repair.blocks)
     match = END.fullmatch(line)
     if match and bool(match[2]) != is_flow and repair.blocks:
-        repair.end = tuple(number_of(each) for each in match.groups() if each is not None)
+        repair.end = tuple(value_of(each) for each in match.groups() if each is not None)
         return True
     return False

@@ -3,10 +3,12 @@ import re
 from typing import NamedTuple
 
 from pgo_tools.files import lines_of
+from pgo_tools.numbers import decimal
 
-UNMAPPED = re.compile(r"# unmapped ([A-Za-z]+) 0x([0-9a-f]{1,16}) 0x([0-9a-f]{1,16}) ([0-9]{1,20})")
-SUM = re.compile(r"# (branches|entries|inside|augmentations|ranges (?:ran|reversed|outside|crossing)) ([0-9]{1,20})")
-UNITS = re.compile(r"# units read ([0-9]{1,20}) passed ([0-9]{1,20})")
+COUNT = decimal(20)
+UNMAPPED = re.compile(rf"# unmapped ([A-Za-z]+) 0x([0-9a-f]{{1,16}}) 0x([0-9a-f]{{1,16}}) {COUNT}")
+SUM = re.compile(rf"# (branches|entries|inside|augmentations|ranges (?:ran|reversed|outside|crossing)) {COUNT}")
+UNITS = re.compile(rf"# units read {COUNT} passed {COUNT}")
 BUILD = re.compile(r"# build ([0-9a-f]+)")
 
 

@@ -9,6 +9,7 @@ from typing import NamedTuple
 
 from pgo_tools.cli import REFUSED, Trouble
 from pgo_tools.names import printable, text_of
+from pgo_tools.numbers import decimal
 from pgo_tools.programs import as_file, call, tool
 
 VERSIONS = range(30, 13, -1)
@@ -68,15 +69,15 @@ def note_all(found, lines):
 
 def note(found, entry):
     """Keeps where a function begins: a definition says it better than a declaration."""
-    line = entry.get("decl_line", "")
-    if entry.get("tag") != "subprogram" or not re.fullmatch("[0-9]{1,9}", line):
+    line = re.fullmatch(decimal(9), entry.get("decl_line", ""))
+    if entry.get("tag") != "subprogram" or not line:
         return
     defines = "declaration" not in entry
     for name in {entry.get(it) for it in ("name", "linkage_name", "specification", "abstract_origin")} - {None}:
         if name not in found or defines > found[name][0]:
             # A definition in the same file as its declaration does not say it again.
             file = entry.get("decl_file") or found.get(name, ("", ""))[1]
-            found[name] = (defines, file, int(line))
+            found[name] = (defines, file, int(line[1]))
 
 
 def places(binary, addresses):
@@ -97,7 +98,7 @@ def places(binary, addresses):
         return {}
     found = {}
     for address, line in zip(addresses, told):
-        match = re.fullmatch(r"(.+?):([0-9]{1,9})(?::[0-9]+)?(?: \(discriminator [0-9]+\))?\n?", line)
+        match = re.fullmatch(rf"(.+?):{decimal(9)}(?::[0-9]+)?(?: \(discriminator [0-9]+\))?\n?", line)
         if match and match[1] != "??" and int(match[2]):
             found[address] = Place(match[1], int(match[2]))
     return found

@@ -12,6 +12,7 @@ from typing import List, NamedTuple, Optional
 
 from pgo_tools.cli import FAILED, USAGE, Trouble
 from pgo_tools.files import opened, put_in_place
+from pgo_tools.numbers import decimal
 
 FORM = "merge-tree's tree 1"
 
@@ -96,7 +97,7 @@ class Tree(NamedTuple):
 
 def part_of(tree, word):
     """The part that LEVEL.NUMBER names."""
-    match = re.fullmatch(r"([0-9]{1,9})\.([0-9]{1,9})", word)
+    match = re.fullmatch(rf"{decimal(9)}\.{decimal(9)}", word)
     part = Part(int(match[1]), int(match[2])) if match else None
     if part not in tree.parts():
         counts = ", ".join(f"{level}.0 to {level}.{count - 1}" for level, count in enumerate(tree.counts(), 1))

@@ -25,7 +25,7 @@ find_holds p [] x here = absurd cc
 find_holds p (y ∷ ys) x here = holds_step p y x (find p ys) (p y) refl (find_holds p ys x) here
 
 -- an entry that was found by an offset begins there
-pub begins_itself : (entries : List Entry) (at : ℕ) (entry : Entry) → entry_beginning_at entries at ≡ Some entry → entry_beginning_at entries entry.at ≡ Some entry
+begins_itself : (entries : List Entry) (at : ℕ) (entry : Entry) → entry_beginning_at entries at ≡ Some entry → entry_beginning_at entries entry.at ≡ Some entry
 begins_itself entries at entry here =
     let same : entry.at ≡ at = eqb-true entry.at at (find_holds (λ (e : Entry). e.at == at) entries entry here) in
     subst (λ n. entry_beginning_at entries n ≡ Some entry) (sym same) here

@@ -1,5 +1,5 @@
 // The attributes on a way that count.
-ghost use Rattle.std.specs.Prelude.{◌≡◌, ◌∷◌, [], List, IfOk, IfSome, IsTrue, Some};
+ghost use Rattle.std.specs.Prelude.{◌≡◌, ◌∷◌, [], List, IfOk, IfSome, Some};
 ghost use Rattle.unit_model.specs.Entries.{Entry as entry_told};
 ghost use Rattle.unit_model.specs.Units.{Units as units_told};
 ghost use Rattle.tree_model.specs.Way.{entry_beginning_at as beginning_told, way_from};
@@ -58,7 +58,8 @@ impl<'a> Findings<'a> {
 }
 
 /// The first attributes on the way from an entry on, with so many steps at most, of a way that
-/// began at an offset in the file. `listed` says that the entry was found by its own offset.
+/// began at an offset in the file. `begins_at` is the offset by which the entry was found, where it
+/// was found by one.
 ///
 /// # Errors
 /// What `next_on_way` answers on the way, and `OriginTooLong` where the way began, for one step
@@ -68,23 +69,23 @@ pub(crate) fn findings_from<'a>(
     began: u64,
     steps: u32,
     entry: &Entry<'a, '_>,
-    listed: bool,
+    begins_at: Option<u64>,
 ) -> Result<Findings<'a>, Place>
-    requires { IsTrue listed
-        → beginning_told info.now.units.now.entries entry.now.at ≡ Some entry.now }
+    requires { IfSome begins_at
+        (λ at. beginning_told info.now.units.now.entries at ≡ Some entry.now) }
     ensures found { FindsOn result (way_from (info_of info.now) began steps entry.now) }
     ensures listed { IfOk result (AreListed info.now.units.now) }
 {
     let next = match next_on_way(info, entry) {
         Ok(Some(next)) => next,
-        Ok(None) => return Ok(found_in(entry, listed)),
+        Ok(None) => return Ok(found_in(entry, begins_at)),
         Err(place) => return Err(place),
     };
     if steps == 0 {
         return Err(Place::in_binary(began as usize, Kind::OriginTooLong));
     }
-    let rest = findings_from(info, began, steps - 1, &next, true)?;
-    Ok(before(&found_in(entry, listed), &rest))
+    let rest = findings_from(info, began, steps - 1, &next, Some(next.at))?;
+    Ok(before(&found_in(entry, begins_at), &rest))
 }
 
 /// What a way says that begins with an entry of these attributes, where the rest of it says the
@@ -105,44 +106,36 @@ fn before<'a>(own: &Findings<'a>, rest: &Findings<'a>) -> Findings<'a>
 }
 
 /// What a way of one entry says.
-fn found_in<'a>(entry: &Entry<'a, '_>, listed: bool) -> Findings<'a>
+fn found_in<'a>(entry: &Entry<'a, '_>, begins_at: Option<u64>) -> Findings<'a>
     ensures found { AreFound (entry.now ∷ []) result }
-    ensures listed { (units : units_told) → (IsTrue listed
-        → beginning_told units.entries entry.now.at ≡ Some entry.now) → AreListed units result }
+    ensures listed { (units : units_told)
+        → IfSome begins_at (λ at. beginning_told units.entries at ≡ Some entry.now)
+        → AreListed units result }
 {
     Findings {
-        linkage: held_in(entry, DW_AT_LINKAGE_NAME, listed),
-        mips_linkage: held_in(entry, DW_AT_MIPS_LINKAGE_NAME, listed),
-        name: held_in(entry, DW_AT_NAME, listed),
-        line: held_in(entry, DW_AT_DECL_LINE, listed),
+        linkage: held_in(entry, DW_AT_LINKAGE_NAME, begins_at),
+        mips_linkage: held_in(entry, DW_AT_MIPS_LINKAGE_NAME, begins_at),
+        name: held_in(entry, DW_AT_NAME, begins_at),
+        line: held_in(entry, DW_AT_DECL_LINE, begins_at),
     }
 }
 
 /// The attribute of a name that an entry has.
 #[tactic(auto, using(crate::proofs::FoundLemmas::held_lemmas))]
-fn held_in<'a>(entry: &Entry<'a, '_>, name: u64, listed: bool) -> Option<Held<'a>>
+fn held_in<'a>(entry: &Entry<'a, '_>, name: u64, begins_at: Option<u64>) -> Option<Held<'a>>
     ensures found { option_map held_of result ≡ first_on name (entry.now ∷ []) }
-    ensures listed { (units : units_told) → (IsTrue listed
-        → beginning_told units.entries entry.now.at ≡ Some entry.now)
+    ensures listed { (units : units_told)
+        → IfSome begins_at (λ at. beginning_told units.entries at ≡ Some entry.now)
         → IfSome result (IsListed units) }
 {
     match attribute(&entry.found, name) {
         Some(found) => Some(Held {
             unit: entry.unit,
-            stands_in: begins_at(entry, listed),
+            stands_in: begins_at,
             name: found.name,
             at: found.at,
             value: found.value,
         }),
         None => None,
     }
-}
-
-/// Where an entry begins that was found by that offset.
-fn begins_at(entry: &Entry<'_, '_>, listed: bool) -> Option<u64>
-    ensures { (units : units_told) → (IsTrue listed
-        → beginning_told units.entries entry.now.at ≡ Some entry.now)
-        → IfSome result (λ at. beginning_told units.entries at ≡ Some entry.now) }
-{
-    if listed { Some(entry.at) } else { None }
 }

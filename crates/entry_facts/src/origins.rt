@@ -76,20 +76,20 @@ impl Origins {
     }
 
     /// The name and the line that the way from an entry on says, with so many steps at most, of a
-    /// way that began at an offset in the file. `listed` says that the entry was found by its own
-    /// offset.
+    /// way that began at an offset in the file. `begins_at` is the offset by which the entry was
+    /// found, where it was found by one.
     fn said<'a>(
         &mut self,
         info: &Info<'a, '_>,
         began: u64,
         steps: u32,
         entry: &Entry<'a, '_>,
-        listed: bool,
+        begins_at: Option<u64>,
         names: &mut Names<'a>,
     ) -> Result<Origin, Stop>
         requires room { length names.old < 2 ^ 32 - 1 }
-        requires begins { IsTrue listed
-            → beginning_told info.now.units.now.entries entry.now.at ≡ Some entry.now }
+        requires begins { IfSome begins_at
+            (λ at. beginning_told info.now.units.now.entries at ≡ Some entry.now) }
         requires known { Remembers (sections_of info.now.texts.now) (info_of info.now) names.old
             self.old }
         ensures told { GivesOrigin names.new result (said_on (sections_of info.now.texts.now)
@@ -98,7 +98,7 @@ impl Origins {
         ensures known { Remembers (sections_of info.now.texts.now) (info_of info.now) names.new
             self.new }
     {
-        let findings = findings_from(info, began, steps, entry, listed)?;
+        let findings = findings_from(info, began, steps, entry, begins_at)?;
         let name = self.texts.number_said(info, findings.naming(), names)?;
         Ok(Origin {
             name,
@@ -125,7 +125,7 @@ impl Origins {
         ensures known { Remembers (sections_of info.now.texts.now) (info_of info.now) names.new
             self.new }
     {
-        let origin = self.said(info, began, MAX_STEPS - 1, next, true, names)?;
+        let origin = self.said(info, began, MAX_STEPS - 1, next, Some(at), names)?;
         self.keep(at, origin)?;
         Ok(origin)
     }
@@ -161,14 +161,14 @@ impl Origins {
             self.new }
     {
         let Some(at) = leads_on(info, entry) else {
-            return self.said(info, entry.at, MAX_STEPS, entry, false, names);
+            return self.said(info, entry.at, MAX_STEPS, entry, None, names);
         };
         if let Some(origin) = self.known_at(at) {
             return Ok(origin);
         }
         match entry_beginning_at(info.units, u128::from(at)) {
             Some(next) => self.worked_out(info, entry.at, at, &next, names),
-            None => self.said(info, entry.at, MAX_STEPS, entry, false, names),
+            None => self.said(info, entry.at, MAX_STEPS, entry, None, names),
         }
     }
 }

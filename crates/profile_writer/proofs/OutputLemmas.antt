@@ -3,6 +3,7 @@ use Rattle.std.proofs.Common.{◌≡◌, ◌<◌, ℕ, ◌+◌, ◌^◌, nat_lt,
 use Rattle.std.proofs.lemmas.List.Sums.{sum_by-cons}
 use Rattle.std.specs.List.{All, filter_map}
 use Rattle.std.proofs.lemmas.Bool.Decides.{nat_tests}
+use Rattle.cold_model.proofs.ColdLemmas.{none_besides}
 use Rattle.cold_model.specs.Cold.{standing_lines_of}
 use Rattle.profile_model.specs.Hits.{hits_at}
 use Rattle.key_types.specs.Numbers.{IsNumbered}
@@ -15,10 +16,9 @@ use Rattle.report_model.specs.declared.class.Class.{Class}
 use Rattle.report_model.specs.declared.class.RangeClass.{RangeClass}
 use Rattle.report_model.specs.Branches.{branch_class}
 use Rattle.report_model.specs.Ranges.{range_class}
-use Rattle.profile_laws.proofs.CountLemmas.{lines_are_by_counts}
 use Rattle.profile_laws.specs.Counts.{CountTheSame}
-use Rattle.profile_model.specs.Profile.{lines_of}
 use Rattle.profile_model.specs.Text.{text_of_lines}
+use Rattle.profile_model.specs.Ways.{Way}
 use Rattle.profile_report.specs.Classed.{classed_by}
 use Rattle.profile_report.specs.declared.classed.Classed.{Classed}
 use Rattle.profile_report.specs.declared.report.BranchUnits.{BranchUnits}
@@ -40,7 +40,7 @@ use Rattle.profile_writer.proofs.BranchLemmas.{heads_alike, rows_given, targets_
 use Rattle.profile_writer.proofs.ClassLemmas.{classes_told, report_alike}
 use Rattle.profile_writer.proofs.CountLemmas.{counted_alike, counts_alike, hits_alike, passed_alike}
 use Rattle.profile_writer.specs.Items.{call_in, head_in, ran_in}
-use Rattle.profile_writer.specs.Profile.{IsProfileOf, IsProfileWithCold, total_of_line}
+use Rattle.profile_writer.specs.Profile.{IsProfileOf, IsProfileWith, IsProfileWithCold, Parts, total_of_line}
 use Rattle.profile_writer.specs.Told.{TellsProgram, TellsSampled}
 
 -- a line has its total as it is told
@@ -92,24 +92,16 @@ module _ (program : Program) (sampled : Sampled) (all : List (List ℕ)) (keys :
         heads = heads_alike program all keys segments place function entered shown sampled.branches branch_rows rows.of_branches counts calls;
       }
 
-  pub lines_alike : (counts : List ℕ) → Given all keys (filter_map (call_in place) branches) (filter_map head_in branches)
-      → length counts ≡ length keys → AreCountsOfPlaces segments (hits_at (filter_map ran_in ranges)) counts
-      → ((address : ℕ) → nat_lt address (2 ^ 64) ≡ false → hits_at (filter_map ran_in ranges) address ≡ 0)
-      → lines_of (said all keys counts (filter_map (call_in place) branches) (filter_map head_in branches)) ≡ lines_of (profile_of program sampled)
-  lines_alike counts given len are beyond =
-      lines_are_by_counts (said all keys counts (filter_map (call_in place) branches) (filter_map head_in branches)) (profile_of program sampled)
-      (said_the_same counts given len are beyond)
-
-  -- what is made is the profile
-  pub profile_alike : (bs : List (Classed Class)) → bs ≡ branches → (rs : List (Classed RangeClass)) → rs ≡ ranges
+  -- what is made is the profile, with lines for some ways besides
+  pub profile_alike : (besides : List Way) (bs : List (Classed Class)) → bs ≡ branches → (rs : List (Classed RangeClass)) → rs ≡ ranges
       → IsNumbered all → IsNumbered keys → All (HasNames (length all)) keys
       → (lines : List Line) (counts : List ℕ)
-      → map (told all) lines ≡ lines_of (said all keys counts (filter_map (call_in place) bs) (filter_map head_in bs))
+      → map (told all) lines ≡ standing_lines_of besides (said all keys counts (filter_map (call_in place) bs) (filter_map head_in bs))
       → length counts ≡ length keys → AreCountsOfPlaces segments (hits_at (filter_map ran_in rs)) counts
       → ((address : ℕ) → nat_lt address (2 ^ 64) ≡ false → hits_at (filter_map ran_in rs) address ≡ 0)
       → (cs : List (Classed Class)) → cs ≡ branches → (ds : List (Classed RangeClass)) → ds ≡ ranges
-      → IsProfileOf program sampled all segments (record { lines = lines; counts = counts; branches = cs; ranges = ds; units = units })
-  profile_alike bs bs_are rs rs_are names_apart keys_apart key_names lines counts lines_are len counts_are beyond cs cs_are ds ds_are =
+      → IsProfileWith program sampled all segments besides (record { lines = lines; counts = counts; branches = cs; ranges = ds; units = units })
+  profile_alike besides bs bs_are rs rs_are names_apart keys_apart key_names lines counts lines_are len counts_are beyond cs cs_are ds ds_are =
       let given : Given all keys (filter_map (call_in place) branches) (filter_map head_in branches) = record {
         names_apart = names_apart;
         keys_apart = keys_apart;
@@ -119,12 +111,11 @@ module _ (program : Program) (sampled : Sampled) (all : List (List ℕ)) (keys :
       subst (λ (xs : List (Classed RangeClass)). AreCountsOfPlaces segments (hits_at (filter_map ran_in xs)) counts) rs_are counts_are in
       let none_beyond : (address : ℕ) → nat_lt address (2 ^ 64) ≡ false → hits_at (filter_map ran_in ranges) address ≡ 0 =
       λ address far. ap (λ (xs : List (Classed RangeClass)). hits_at (filter_map ran_in xs) address) (sym rs_are) ∙ beyond address far in
-      let lines_same : map (told all) lines ≡ lines_of (profile_of program sampled) =
-      lines_are ∙ ap (λ (xs : List (Classed Class)). lines_of (said all keys counts (filter_map (call_in place) xs) (filter_map head_in xs))) bs_are
-      ∙ lines_alike counts given len counts_told none_beyond in
       record {
-        written = ap text_of_lines lines_same;
-        totalled = totals_told all lines ∙ ap totals_in lines_same;
+        written = lines_are
+            ∙ ap (λ (xs : List (Classed Class)). standing_lines_of besides (said all keys counts (filter_map (call_in place) xs) (filter_map head_in xs))) bs_are
+            ∙ standing_lines_by_counts besides (said all keys counts (filter_map (call_in place) branches) (filter_map head_in branches)) (profile_of program sampled)
+            (said_the_same counts given len counts_told none_beyond);
         classes = classes_told place function entered;
         classed = record {
           branch_rows = branch_rows;
@@ -143,42 +134,27 @@ module _ (program : Program) (sampled : Sampled) (all : List (List ℕ)) (keys :
         passing = ap (λ (xs : List (Classed RangeClass)). passed (filter_map ran_in xs)) ds_are ∙ passed_alike program sampled function range_rows shown.functions rows.of_ranges;
       }
 
-  -- so is what is made with the lines that never ran
-  pub cold_alike : (bs : List (Classed Class)) → bs ≡ branches → (rs : List (Classed RangeClass)) → rs ≡ ranges
-      → IsNumbered all → IsNumbered keys → All (HasNames (length all)) keys
-      → (lines : List Line) (counts : List ℕ)
-      → map (told all) lines ≡ standing_lines_of (first_ways all keys (length keys)) (said all keys counts (filter_map (call_in place) bs) (filter_map head_in bs))
-      → length counts ≡ length keys → AreCountsOfPlaces segments (hits_at (filter_map ran_in rs)) counts
-      → ((address : ℕ) → nat_lt address (2 ^ 64) ≡ false → hits_at (filter_map ran_in rs) address ≡ 0)
-      → (cs : List (Classed Class)) → cs ≡ branches → (ds : List (Classed RangeClass)) → ds ≡ ranges
-      → IsProfileWithCold program sampled all keys (record { lines = lines; counts = counts; branches = cs; ranges = ds; units = units })
-  cold_alike bs bs_are rs rs_are names_apart keys_apart key_names lines counts lines_are len counts_are beyond cs cs_are ds ds_are =
-      let given : Given all keys (filter_map (call_in place) branches) (filter_map head_in branches) = record {
-        names_apart = names_apart;
-        keys_apart = keys_apart;
-        given = rows_given program all keys segments place function entered shown branch_rows key_names branches refl;
-      } in
-      let counts_told : AreCountsOfPlaces segments (hits_at (filter_map ran_in ranges)) counts =
-      subst (λ (xs : List (Classed RangeClass)). AreCountsOfPlaces segments (hits_at (filter_map ran_in xs)) counts) rs_are counts_are in
-      let none_beyond : (address : ℕ) → nat_lt address (2 ^ 64) ≡ false → hits_at (filter_map ran_in ranges) address ≡ 0 =
-      λ address far. ap (λ (xs : List (Classed RangeClass)). hits_at (filter_map ran_in xs) address) (sym rs_are) ∙ beyond address far in
-      let ways = first_ways all keys (length keys) in
-      record {
-        written = lines_are
-            ∙ ap (λ (xs : List (Classed Class)). standing_lines_of ways (said all keys counts (filter_map (call_in place) xs) (filter_map head_in xs))) bs_are
-            ∙ standing_lines_by_counts ways (said all keys counts (filter_map (call_in place) branches) (filter_map head_in branches)) (profile_of program sampled)
-            (said_the_same counts given len counts_told none_beyond);
-        classes = classes_told place function entered;
-        classed = record {
-          branch_rows = branch_rows;
-          range_rows = range_rows;
-          branches_are = cs_are;
-          ranges_are = ds_are;
-          of_branches = rows.of_branches;
-          of_ranges = rows.of_ranges;
-          in_order = rows.in_order;
-          read = rows.read;
-          passed = rows.passed;
-        };
-        reported = report_alike program all keys segments place function entered shown sampled;
-      }
+-- with none besides it is the profile itself
+pub with_none : (program : Program) (sampled : Sampled) (names : List (List ℕ)) (segments : List Seg) (parts : Parts)
+    → IsProfileWith program sampled names segments [] parts → IsProfileOf program sampled names segments parts
+with_none program sampled names segments parts is =
+    let lines_are = is.written ∙ none_besides (profile_of program sampled) in
+    record {
+      written = ap text_of_lines lines_are;
+      totalled = totals_told names parts.lines ∙ ap totals_in lines_are;
+      classes = is.classes;
+      classed = is.classed;
+      reported = is.reported;
+      counted = is.counted;
+      passing = is.passing;
+    }
+
+-- with the ways of all keys it is that with the lines that never ran
+pub with_all : (program : Program) (sampled : Sampled) (names : List (List ℕ)) (keys : List Key) (segments : List Seg) (known : ℕ) (parts : Parts) → known ≡ length keys
+    → IsProfileWith program sampled names segments (first_ways names keys known) parts → IsProfileWithCold program sampled names keys parts
+with_all program sampled names keys segments known parts all is = record {
+  written = is.written ∙ ap (λ n. standing_lines_of (first_ways names keys n) (profile_of program sampled)) all;
+  classes = is.classes;
+  classed = is.classed;
+  reported = is.reported;
+}

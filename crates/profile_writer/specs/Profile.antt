@@ -9,6 +9,7 @@ use Rattle.key_types.specs.declared.places.Seg.{Seg}
 use Rattle.sample_model.specs.Limits.{max_branches}
 use Rattle.profile_model.specs.Profile.{lines_of}
 use Rattle.profile_model.specs.Text.{profile_text, text_of_lines}
+use Rattle.profile_model.specs.Ways.{Way}
 use Rattle.profile_model.specs.declared.ran_range.RanRange.{RanRange}
 use Rattle.report_model.specs.declared.class.Class.{Class}
 use Rattle.report_model.specs.declared.class.RangeClass.{RangeClass}
@@ -68,6 +69,20 @@ pub record IsProfileOf
     : Type 0 where
   pub written : lines_text names parts ≡ profile_text (profile_of program sampled)
   pub totalled : total_of parts ≡ totals_in (lines_of (profile_of program sampled))
+  pub classes : Classes
+  pub classed : Tells classes sampled parts.branches parts.ranges parts.units
+  pub reported : report_text classes sampled ≡ report_text (classes_of program) sampled
+  pub counted : (address : ℕ)
+      → option_map (λ key. slice_index parts.counts key.0) (key_told segments address)
+      ≡ option_map (count_of_way program sampled) (way_at program address)
+  pub passing : passed (ran parts) ≡ ran_past program sampled
+
+-- The same with a line for each of these ways whose function stands there.
+pub record IsProfileWith
+    (program : Program) (sampled : Sampled) (names : List (List ℕ)) (segments : List Seg) (besides : List Way)
+    (parts : Parts)
+    : Type 0 where
+  pub written : map (told names) parts.lines ≡ standing_lines_of besides (profile_of program sampled)
   pub classes : Classes
   pub classed : Tells classes sampled parts.branches parts.ranges parts.units
   pub reported : report_text classes sampled ≡ report_text (classes_of program) sampled

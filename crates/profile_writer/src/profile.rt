@@ -7,11 +7,12 @@ ghost use Rattle.key_types.specs.Segments.{AreSegments};
 ghost use Rattle.profile_model.specs.Hits.{times_of};
 ghost use Rattle.profile_report.specs.Told.{Tells};
 ghost use Rattle.profile_tree.specs.Known.{HasNames};
+ghost use Rattle.profile_tree.specs.Standing.{first_ways};
 ghost use Rattle.profile_tree.specs.Told.{IsOf};
 ghost use Rattle.report_model.specs.Report.{Classes, Sampled, report_text};
 ghost use Rattle.sample_model.specs.Limits.{max_branches};
 ghost use Rattle.output_model.specs.Program.{Program};
-ghost use Rattle.profile_writer.specs.Profile.{IsProfileOf, IsProfileWithCold, lines_text, ran as ranges_run, total_of, total_of_line};
+ghost use Rattle.profile_writer.specs.Profile.{IsProfileOf, IsProfileWith, IsProfileWithCold, lines_text, ran as ranges_run, total_of, total_of_line};
 ghost use Rattle.profile_writer.specs.Told.{TellsProgram, TellsSampled};
 
 use crate::counted::ran_of;
@@ -138,17 +139,12 @@ impl Profile {
         requires few_ranges { total_in samples.now.ranges.now ≤ max_branches }
         requires shown { (program : Program) × TellsProgram program names.now keys.now segments.now
             (P.place_of places.now) (P.function_of places.now) (P.entry_name_of places.now) }
-        ensures told { IfOk result (λ profile. known ≡ 0 → (program : Program) (sampled : Sampled)
+        ensures told { IfOk result (λ profile. (program : Program) (sampled : Sampled)
             → TellsProgram program names.now keys.now segments.now
             (P.place_of places.now) (P.function_of places.now) (P.entry_name_of places.now)
             → TellsSampled sampled samples.now.branches.now samples.now.ranges.now samples.now.units
-            → IsProfileOf program sampled names.now segments.now profile) }
-        ensures cold { IfOk result (λ profile. known ≡ length keys.now
-            → (program : Program) (sampled : Sampled)
-            → TellsProgram program names.now keys.now segments.now
-            (P.place_of places.now) (P.function_of places.now) (P.entry_name_of places.now)
-            → TellsSampled sampled samples.now.branches.now samples.now.ranges.now samples.now.units
-            → IsProfileWithCold program sampled names.now keys.now profile) }
+            → IsProfileWith program sampled names.now segments.now
+            (first_ways names.now keys.now known) profile) }
         ensures names { IfOk result (λ profile. All (IsOf names.now) profile.lines) }
     {
         keys.each_once();

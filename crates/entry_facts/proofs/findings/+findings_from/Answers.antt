@@ -14,7 +14,7 @@ returns-in-Ok-None-clause-found t c = (
 pub findings_from-requires : goal.findings_from-requires
 findings_from-requires t c = (
   omega arith,
-  λ _. next_begins (info_of c.args.info.now) c.args.entry.now c.in-Ok-Some.next (sym c.in-Ok-Some.ensures ∙ ap Ok c.in-Ok-Some.field-0-is),
+  next_begins (info_of c.args.info.now) c.args.entry.now c.in-Ok-Some.next (sym c.in-Ok-Some.ensures ∙ ap Ok c.in-Ok-Some.field-0-is),
 )
 
 pub returns-clause-found : goal.returns-clause-found

@@ -4,6 +4,6 @@ use Rattle.entry_facts.proofs.findings.held_in.Goals as goal
 
 pub returns-in-Some-clause-listed : goal.returns-in-Some-clause-listed
 returns-in-Some-clause-listed c = λ units listed.
-    IfSome-all _ _ c.begins_at.result
+    IfSome-all _ _ c.args.begins_at
     (λ at here. listed_held units c.args.entry.now _ c.args.name at c.in-Some.found _ (sym c.in-Some.ensures) here c.entry.view_is c.found.view_is)
-    (c.begins_at.ensures units listed)
+    listed

@@ -1,11 +1,7 @@
 use Rattle.dwarf_strings.specs.Meaning.{sections_of}
 use Rattle.entry_facts.specs.Meaning.{info_of}
-use Rattle.entry_facts.proofs.ListedLemmas.{begins_itself}
 use Rattle.entry_facts.proofs.MemoLemmas.{IsKnown-told, Remembers-added}
 use Rattle.entry_facts.proofs.origins.Origins.worked_out.Goals as goal
-
-pub said-requires-clause-begins : goal.said-requires-clause-begins
-said-requires-clause-begins c = λ _. begins_itself c.args.info.now.units.now.entries c.args.at c.args.next.now c.requires.begins
 
 pub returns-in_err-keep-clause-known : goal.returns-in_err-keep-clause-known
 returns-in_err-keep-clause-known c =

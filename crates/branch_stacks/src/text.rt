@@ -2,7 +2,6 @@
 ghost use Rattle.std.specs.Prelude.{◌≡◌, ◌+◌, ◌<◌, ◌≤◌, ◌∷◌, ◌++◌, [], length, IsErrOf, OnErr, OnOk, vec_capacity, None};
 ghost use Rattle.text_model.specs.Lines.{lines_of};
 ghost use Rattle.refusal.specs.Place.{JudgesUnlessNoMemory};
-ghost use Rattle.refusal.specs.declared.place.Stop.TheVariants.{Refused};
 ghost use Rattle.sample_model.specs.Judging.{first_bad_of_text, judged_lines_of};
 ghost use Rattle.sample_model.specs.Line.{branches_of_line};
 ghost use Rattle.sample_model.specs.Limits.{max_branches};
@@ -64,11 +63,15 @@ pub(crate) fn count_line(
     ensures capacity { vec_capacity branches.new ≡ vec_capacity branches.old }
 {
     if let Err(kind) = read_line(line.bytes, branches) {
-        return Err(refused(file, line.number, kind));
+        return Err(Stop::Refused(Place::on_line(file, line.number, kind)));
     }
     match count_branches(line.bytes, branches, loads, counts) {
         Ok(()) => Ok(()),
-        Err(CountsStop::TooMany) => Err(refused(file, line.number, Kind::TooManyBranches)),
+        Err(CountsStop::TooMany) => Err(Stop::Refused(Place::on_line(
+            file,
+            line.number,
+            Kind::TooManyBranches,
+        ))),
         Err(CountsStop::NoMemory) => Err(Stop::NoMemory),
     }
 }
@@ -97,11 +100,4 @@ fn count_branches(
         None => counts.add_stack(branches),
         Some(loads) => loads.count(line, branches, counts),
     }
-}
-
-/// The refusal of a text at the line of this number.
-fn refused(file: u8, at: u64, kind: Kind) -> Stop
-    ensures { result ≡ Refused (record { file = file; at = at; kind = kind }) }
-{
-    Stop::Refused(Place { file, at, kind })
 }

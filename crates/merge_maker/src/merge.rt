@@ -87,11 +87,9 @@ impl<'a> Merge<'a> {
     {
         match self.sums.add(part, u64::from(weight.get())) {
             Ok(()) => Ok(()),
-            Err(MergeStop::CountTooLarge(line)) => Err(Stop::Refused(Place {
-                file,
-                at: line,
-                kind: Kind::CountTooLarge,
-            })),
+            Err(MergeStop::CountTooLarge(line)) => {
+                Err(Stop::Refused(Place::on_line(file, line, Kind::CountTooLarge)))
+            }
             Err(MergeStop::NoMemory) => Err(Stop::NoMemory),
         }
     }

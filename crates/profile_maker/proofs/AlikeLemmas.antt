@@ -2,7 +2,7 @@
 use Rattle.std.proofs.Common.{◌≡◌, ◌+◌, ◌<◌, ℕ, Bool, true, false, cond, ◌&&◌, List, [], ◌∷◌, map, Option, refl, sym, ap, ◌∙◌, arith, inl, inr, leb-true}
 use Rattle.std.specs.Prelude.{count_by, filter, nat_le, not, sum_by, if◌then◌else◌}
 use Rattle.std.specs.List.{All, AllByRecursion}
-use Rattle.std.proofs.lemmas.Bool.{cases_Bool, true≢false}
+use Rattle.std.proofs.lemmas.Bool.{and_parts, cases_Bool, true≢false}
 use Rattle.std.proofs.lemmas.List.Elements.{All-contains, All-from_recursion, All-map, All-weaker, recursion_from_All}
 use Rattle.std.proofs.lemmas.List.Sums.{sum_by-cons}
 use Rattle.block_model.specs.Function.{Function}
@@ -73,10 +73,6 @@ some_counted test P Goal (p ∷ pairs) each all some = elim (cases_Bool (test p)
 
 -- ---- addresses that ran
 
-split_and : (a b : Bool) → (a && b) ≡ true → (a ≡ true) × (b ≡ true)
-split_and true b is = (refl, is)
-split_and false b is = absurd (true≢false (sym is))
-
 ran_is : (class : RangeClass) → is_class Ran class ≡ true → class ≡ Ran
 ran_is Ran is = refl
 ran_is Reversed is = absurd (true≢false (sym is))
@@ -87,8 +83,8 @@ ran_is Crossing is = absurd (true≢false (sym is))
 in_range : (function : ℕ → Option ℕ) (marks : List Bool) (address to from : ℕ) → AsksAt function marks to
     → (is_class Ran (range_class function to from) && (nat_le to address && nat_le address from)) ≡ true → AsksAt function marks address
 in_range function marks address to from asked over =
-    let ran = split_and (is_class Ran (range_class function to from)) (nat_le to address && nat_le address from) over in
-    let ends = split_and (nat_le to address) (nat_le address from) ran.1 in
+    let ran = and_parts (is_class Ran (range_class function to from)) (nat_le to address && nat_le address from) over in
+    let ends = and_parts (nat_le to address) (nat_le address from) ran.1 in
     let one = (ran_is_one_function function to from).0 (ran_is (range_class function to from) ran.0) in
     ap (asks marks) (one.2 address (leb-true to address ends.0) (leb-true address from ends.1)) ∙ asked
 

@@ -1,13 +1,12 @@
 -- Whatever is counted of a binary is the way of a key.
 use Rattle.std.proofs.Common.{◌≡◌, ℕ, Bool, List, [], ◌∷◌, ◌++◌, map, Option, None, Some, refl, subst}
 use Rattle.std.specs.List.{AllByRecursion, cons_option, filter_map}
-use Rattle.std.specs.declared.cmp.Ordering.{Ordering}
-use Rattle.std.specs.declared.cmp.Ordering.TheVariants.{Less, Equal, Greater}
 use Rattle.key_types.specs.declared.key.Frame.{Frame}
 use Rattle.key_types.specs.declared.key.Key.{Key}
 use Rattle.chain_model.specs.Places as by_number
-use Rattle.profile_model.specs.Orders.{ordered, placed, way_cmp, with_item}
+use Rattle.profile_model.specs.Orders.{way_cmp}
 use Rattle.profile_model.specs.Ways.{Way, to_body, to_call}
+use Rattle.profile_tree.proofs.ListLemmas.{all_ordered}
 use Rattle.profile_laws.specs.Totals.{EndsInBody, IsKeyWay}
 use Rattle.binary_model.specs.Places.{in_names, place_among, place_of_address, way_of}
 use Rattle.key_types.specs.Numbers.{name_of}
@@ -31,23 +30,6 @@ told_way names by_number.no_line way e = cc
 told_way names (by_number.has_key key) way e =
     let same : way_of names key ≡ way = cc in
     subst IsKeyWay same (key_way names key)
-
-all_placed : {T : Type 0} (P : T → Type 0) (o : Ordering) (x y : T) (items more : List T)
-    → P x → P y → AllByRecursion P items → AllByRecursion P more → AllByRecursion P (placed o x y items more)
-all_placed P Less x y items more px py all all_more = (px, (py, all))
-all_placed P Equal x y items more px py all all_more = (py, all)
-all_placed P Greater x y items more px py all all_more = (py, all_more)
-
-all_with_item : {T : Type 0} (P : T → Type 0) (cmp : T → T → Ordering) (x : T) (items : List T)
-    → P x → AllByRecursion P items → AllByRecursion P (with_item cmp x items)
-all_with_item P cmp x [] px all = (px, all)
-all_with_item P cmp x (y ∷ items) px all =
-    all_placed P (cmp x y) x y items (with_item cmp x items) px all.0 all.1 (all_with_item P cmp x items px all.1)
-
-all_ordered : {T : Type 0} (P : T → Type 0) (cmp : T → T → Ordering) (items : List T)
-    → AllByRecursion P items → AllByRecursion P (ordered cmp items)
-all_ordered P cmp [] all = all
-all_ordered P cmp (x ∷ items) all = all_with_item P cmp x (ordered cmp items) all.0 (all_ordered P cmp items all.1)
 
 all_cons : {T : Type 0} (P : T → Type 0) (item : Option T) (items : List T)
     → ((x : T) → item ≡ Some x → P x) → AllByRecursion P items → AllByRecursion P (cons_option item items)

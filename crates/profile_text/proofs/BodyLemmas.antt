@@ -6,6 +6,9 @@ use Rattle.std.proofs.lemmas.List.{length_push, map-append}
 use Rattle.std.proofs.lemmas.Option.{slice_get_within}
 use Rattle.refusal.specs.declared.kind.Kind.{Kind}
 use Rattle.refusal.specs.declared.kind.Kind.TheVariants.{KeyTwice}
+use Rattle.refusal.specs.declared.place.ItemStop.{ItemStop}
+use Rattle.refusal.specs.declared.place.ItemStop.TheVariants.{Refused, NoMemory}
+use Rattle.refusal.specs.Place.{JudgesItem}
 use Rattle.key_types.specs.Numbers.{Adds, IsNumbered}
 use Rattle.key_types.specs.declared.key.Key.{Key}
 use Rattle.key_types.specs.declared.ids.KeyId.{KeyId}
@@ -21,12 +24,10 @@ use Rattle.profile_text.proofs.OpenLemmas.{path_more, kept_on, kept_grows, steps
 use Rattle.profile_text.proofs.SeenLemmas.{ways_more, seen_again, seen_first, seen_keys, seen_body}
 use Rattle.profile_text.proofs.ToldLemmas.{told_more}
 use Rattle.profile_text.proofs.NamedLemmas.{names_more, keys_named, opening_named}
-use Rattle.profile_text.specs.Draft.{Kept, AreGiven, AreGrown, AreSeen, IsPath, IsRead, TellNumbers, AreOld, AreTargetsPut, PutsTargets, JudgesLine, names_of, room_of, target_number}
+use Rattle.profile_text.specs.Draft.{Kept, AreGiven, AreGrown, AreSeen, IsPath, IsRead, TellNumbers, AreOld, AreTargetsPut, PutsTargets, names_of, room_of, target_number}
 use Rattle.profile_text.specs.Path.{IsKeyAt}
 use Rattle.profile_text.specs.Stamps.{IsStamped}
 use Rattle.profile_text.specs.declared.draft.ProfileDraft.{ProfileDraft}
-use Rattle.profile_text.specs.declared.draft.ProfileDraftStop.{ProfileDraftStop}
-use Rattle.profile_text.specs.declared.draft.ProfileDraftStop.TheVariants.{Refused, NoMemory}
 use Rattle.profile_text.specs.declared.item.Item.{Item}
 use Rattle.profile_text.specs.declared.item.What.TheVariants.{Count}
 use Rattle.profile_text.specs.declared.said.Location.{Location}
@@ -149,12 +150,12 @@ body_read names more keys more_keys draft after before numbers depth location ke
         is.told (λ n x known. known) (omega arith) kept (kept_grows keys more_keys kept) (slice_get_within more_keys id.0 key there)
         (λ last last_keys behind keys_behind. ap (λ way. record { line = at; what = count way; times = n }) (key_way last last_keys behind keys_behind)))
 
-pub judged_by_targets : (cause : Option Kind) (names : List (List ℕ)) (items : List Item) (at : ℕ) (key : KeyId) (targets : List (List ℕ × ℕ)) (result : Result (Unit {0}) ProfileDraftStop)
+pub judged_by_targets : (cause : Option Kind) (names : List (List ℕ)) (items : List Item) (at : ℕ) (key : KeyId) (targets : List (List ℕ × ℕ)) (result : Result (Unit {0}) ItemStop)
     (more : List (List ℕ)) (stamps : List ℕ) (after : List Item) (P : Type 0)
     → PutsTargets names items at key targets result more stamps after
     → (has_twice (names_of targets) ≡ false → AreTargetsPut names items at key targets more stamps after → (cause ≡ None) × P)
     → (has_twice (names_of targets) ≡ true → cause ≡ Some KeyTwice)
-    → JudgesLine cause result P
+    → JudgesItem cause result P
 judged_by_targets cause names items at key targets (Ok done) more stamps after P puts good twice = good puts.0 puts.1
 judged_by_targets cause names items at key targets (Err (Refused kind)) more stamps after P puts good twice = twice puts.1 ∙ ap Some (sym puts.0)
 judged_by_targets cause names items at key targets (Err NoMemory) more stamps after P puts good twice = tt

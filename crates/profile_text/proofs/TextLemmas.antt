@@ -4,7 +4,9 @@ use Rattle.std.specs.Prelude.{◌==◌}
 use Rattle.std.specs.List.{enumerate_from, onto_first, slice_split}
 use Rattle.std.proofs.lemmas.List.Splits.{slice_split-cons_yes, slice_split-cons_no}
 use Rattle.refusal.specs.declared.kind.Kind.{Kind}
-use Rattle.refusal.specs.Place.{first_bad, JudgesUnlessNoMemory}
+use Rattle.refusal.specs.Place.{first_bad, JudgesUnlessNoMemory, stop_on_line}
+use Rattle.refusal.specs.declared.place.ItemStop.{ItemStop}
+use Rattle.refusal.specs.declared.place.ItemStop.TheVariants as item_stops
 use Rattle.refusal.specs.declared.place.Stop.{Stop}
 use Rattle.refusal.specs.declared.place.Stop.TheVariants.{Refused, NoMemory}
 use Rattle.key_types.specs.declared.key.Key.{Key}
@@ -21,7 +23,7 @@ use Rattle.profile_tree.specs.Known.{HasNames}
 use Rattle.profile_text.proofs.NamedLemmas.{each_named, items_once, named_each}
 use Rattle.profile_text.proofs.OpenLemmas.{kept_on, path_none}
 use Rattle.profile_text.proofs.SeenLemmas.{nothing_seen}
-use Rattle.profile_text.specs.Draft.{AreGrown, IsNew, IsRead, TellNumbers}
+use Rattle.profile_text.specs.Draft.{AreGrown, IsNew, IsRead, TakesLine, TellNumbers}
 use Rattle.profile_text.specs.Text.{Whole, whole_of, bytes_of, IsLeft, GoesOn, TellText}
 use Rattle.profile_text.specs.declared.draft.ProfileDraft.{ProfileDraft}
 use Rattle.profile_text.specs.declared.item.Item.{Item}
@@ -70,7 +72,7 @@ judged_line file whole names keys draft line rest left kept =
     ∙ ap (λ lines. first_bad (items_from file left.before lines)) (kept_first line.number line.bytes.now rest kept)
     ∙ ap first_bad (judged_first file left.before line.number line.bytes.now (kept_lines rest))
 
-pub left_refused : (file : ℕ) (whole : Whole) (names : List (List ℕ)) (keys : List Key) (draft : ProfileDraft) (line : TextLine) (rest : List (ℕ × List ℕ)) (kind : Kind)
+left_refused : (file : ℕ) (whole : Whole) (names : List (List ℕ)) (keys : List Key) (draft : ProfileDraft) (line : TextLine) (rest : List (ℕ × List ℕ)) (kind : Kind)
     (more : List (List ℕ)) (more_keys : List Key) (after : ProfileDraft)
     → IsLeft file whole names keys draft ((line.number, line.bytes.now) ∷ rest) → is_passed line.bytes.now ≡ false
     → ((before : List Line) (numbers : List Number) → IsRead names keys draft before numbers → cause_of_line before (line_of line.bytes.now) ≡ Some kind)
@@ -78,6 +80,15 @@ pub left_refused : (file : ℕ) (whole : Whole) (names : List (List ℕ)) (keys 
 left_refused file whole names keys draft line rest kind more more_keys after left kept takes =
     judged_line file whole names keys draft line rest left kept
     ∙ ap (λ cause. first_bad (item file line.number cause ∷ items_from file (with_line left.before (line_of line.bytes.now)) (kept_lines rest))) (takes left.before left.numbers left.read)
+
+pub left_stopped : (file : ℕ) (whole : Whole) (names : List (List ℕ)) (keys : List Key) (draft : ProfileDraft) (line : TextLine) (rest : List (ℕ × List ℕ)) (stop : ItemStop)
+    (answer : Stop) (more : List (List ℕ)) (more_keys : List Key) (after : ProfileDraft)
+    → IsLeft file whole names keys draft ((line.number, line.bytes.now) ∷ rest) → is_passed line.bytes.now ≡ false
+    → TakesLine names keys draft line (Err stop) more more_keys after → answer ≡ stop_on_line file line.number stop
+    → GoesOn file whole rest (Err answer) more more_keys after
+left_stopped file whole names keys draft line rest (item_stops.Refused kind) answer more more_keys after left kept takes is =
+    rw is (left_refused file whole names keys draft line rest kind more more_keys after left kept takes)
+left_stopped file whole names keys draft line rest item_stops.NoMemory answer more more_keys after left kept takes is = rw is tt
 
 pub left_taken : (file : ℕ) (whole : Whole) (names : List (List ℕ)) (keys : List Key) (draft : ProfileDraft) (line : TextLine) (rest : List (ℕ × List ℕ))
     (more : List (List ℕ)) (more_keys : List Key) (after : ProfileDraft)

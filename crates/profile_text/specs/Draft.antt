@@ -1,9 +1,11 @@
 -- A profile text that is being read.
-use Rattle.std.specs.Prelude.{◌≡◌, ◌↔◌, ◌⊎◌, ℕ, ◌<◌, ◌≤◌, nat_le, nat_lt, ⊤, Bool, true, false, List, [], ◌∷◌, ◌++◌, ◌+◌, length, map, take, slice_get, slice_index, Option, None, Some, Result, Ok, Err, Contains}
+use Rattle.std.specs.Prelude.{◌≡◌, ◌↔◌, ◌⊎◌, ℕ, ◌<◌, ◌≤◌, nat_le, nat_lt, ⊤, Bool, true, false, List, [], ◌∷◌, ◌++◌, ◌+◌, length, map, take, slice_get, slice_index, Option, Some, Result, Ok, Err, Contains}
 use Rattle.std.specs.List.{AllByRecursion}
 use Rattle.refusal.specs.declared.kind.Kind.{Kind}
 use Rattle.refusal.specs.declared.kind.Kind.TheVariants.{TooDeep, BadIndent, KeyTwice}
-use Rattle.refusal.specs.Place.{first_cause}
+use Rattle.refusal.specs.declared.place.ItemStop.{ItemStop}
+use Rattle.refusal.specs.declared.place.ItemStop.TheVariants.{Refused, NoMemory}
+use Rattle.refusal.specs.Place.{JudgesItem, first_cause}
 use Rattle.key_types.specs.Numbers.{Adds, IsNumbered}
 use Rattle.key_types.specs.declared.ids.KeyId.{KeyId}
 use Rattle.key_types.specs.declared.key.Key.{Key}
@@ -20,8 +22,6 @@ use Rattle.profile_tree.specs.Said.{way_at}
 use Rattle.profile_tree.specs.Steps.{NumberedStep, at_function, at_line, at_call, name_at, named, steps_of}
 use Rattle.profile_text.specs.Path.{opening}
 use Rattle.profile_text.specs.declared.draft.ProfileDraft.{ProfileDraft}
-use Rattle.profile_text.specs.declared.draft.ProfileDraftStop.{ProfileDraftStop}
-use Rattle.profile_text.specs.declared.draft.ProfileDraftStop.TheVariants.{Refused, NoMemory}
 use Rattle.profile_text.specs.declared.item.Item.{Item}
 use Rattle.profile_text.specs.declared.item.What.{What}
 use Rattle.profile_text.specs.declared.item.What.TheVariants.{Head, Count, Target}
@@ -118,7 +118,7 @@ pub record TargetsSoFar
 
 -- Targets are put where no name stands twice.
 abbrev pub PutsTargets :
-    List (List ℕ) → List Item → ℕ → KeyId → List (List ℕ × ℕ) → Result (Unit {0}) ProfileDraftStop
+    List (List ℕ) → List Item → ℕ → KeyId → List (List ℕ × ℕ) → Result (Unit {0}) ItemStop
     → List (List ℕ) → List ℕ → List Item → Type 0
 PutsTargets names items at key targets (Ok done) more stamps after =
     (has_twice (names_of targets) ≡ false) × AreTargetsPut names items at key targets more stamps after
@@ -187,12 +187,6 @@ pub record IsNew (draft : ProfileDraft) : Type 0 where
 abbrev pub cause_of_depth : ℕ → ℕ → Option Kind
 cause_of_depth lines depth = first_cause ((nat_lt max_depth depth, TooDeep) ∷ (nat_lt lines depth, BadIndent) ∷ [])
 
--- A line is refused for its cause; without one, P holds. Where memory was refused nothing is told.
-abbrev pub JudgesLine : Option Kind → Result (Unit {0}) ProfileDraftStop → Type 0 → Type 0
-JudgesLine cause (Ok done) P = (cause ≡ None) × P
-JudgesLine cause (Err (Refused kind)) P = cause ≡ Some kind
-JudgesLine cause (Err NoMemory) P = ⊤
-
 -- Names, keys and opened lines grew, each by no more than so many, and kept their numbers.
 pub record AreGrown
     (room : ℕ) (names : List (List ℕ)) (keys opened : List Key)
@@ -210,11 +204,11 @@ room_of line = 1 + length (targets_on line)
 
 -- A line is taken in behind those that were read.
 abbrev pub TakesIn :
-    List (List ℕ) → List Key → ProfileDraft → ℕ → Line → Result (Unit {0}) ProfileDraftStop
+    List (List ℕ) → List Key → ProfileDraft → ℕ → Line → Result (Unit {0}) ItemStop
     → List (List ℕ) → List Key → ProfileDraft → Type 0
 TakesIn names keys draft at line result more more_keys after =
     (before : List Line) (numbers : List Number) → IsRead names keys draft before numbers
-    → JudgesLine (cause_of before line) result
+    → JudgesItem (cause_of before line) result
     (IsRead more more_keys after (line ∷ before) (numbers ++ numbers_on at (way_of before line) line)
     × AreGrown (room_of line) names keys draft.opened more more_keys after.opened)
 
@@ -233,11 +227,11 @@ pub record IsOpened (path : List NumberedStep) (opened : List Key) (fresh : Bool
 
 -- The same for a line in bytes, which can have the form of none.
 abbrev pub TakesLine :
-    List (List ℕ) → List Key → ProfileDraft → TextLine → Result (Unit {0}) ProfileDraftStop
+    List (List ℕ) → List Key → ProfileDraft → TextLine → Result (Unit {0}) ItemStop
     → List (List ℕ) → List Key → ProfileDraft → Type 0
 TakesLine names keys draft line result more more_keys after =
     (before : List Line) (numbers : List Number) → IsRead names keys draft before numbers
-    → JudgesLine (cause_of_line before (line_of line.bytes.now)) result
+    → JudgesItem (cause_of_line before (line_of line.bytes.now)) result
     (IsRead more more_keys after (with_line before (line_of line.bytes.now))
     (numbers ++ numbers_of_line line.number before (line_of line.bytes.now))
     × AreGrown (length line.bytes.now) names keys draft.opened more more_keys after.opened)

@@ -1,10 +1,9 @@
 // A profile text that is being read, line by line.
-ghost use Rattle.std.specs.Prelude.{◌≡◌, ◌<◌, ◌≤◌, ◌+◌, ◌-◌, ◌^◌, ◌++◌, ◌∷◌, [], length, map, IfOk, OnOk, List, ℕ};
+ghost use Rattle.std.specs.Prelude.{◌≡◌, ◌<◌, ◌+◌, ◌-◌, ◌^◌, ◌++◌, ◌∷◌, [], length, map, IfOk, OnOk, List, ℕ};
 ghost use Rattle.key_types.specs.declared.key.Key.{Key};
 ghost use Rattle.profile_model.specs.Profile.{body_line, call_line, function_line};
 ghost use Rattle.profile_text.specs.Draft as spec;
 ghost use Rattle.profile_text.specs.Said.{pair_of};
-ghost use Rattle.profile_text.specs.declared.draft.ProfileDraftStop.TheVariants.{NoMemory as no_memory};
 
 use crate::item::{Item, Profile, What};
 use crate::path::Path;
@@ -12,7 +11,7 @@ use crate::said::{Location, Named};
 use crate::stamps::Stamps;
 use item_lists::Items;
 use key_types::{Frame, KeyId, Keys, Names};
-use refusal::{Kind, NoMemory};
+use refusal::{ItemStop, Kind, NoMemory};
 use std::alloc::{AllocFailed, Global};
 
 /// The most spaces that a line may begin with.
@@ -20,23 +19,6 @@ const MAX_DEPTH: usize = 256;
 
 /// The place of a line that can be open, which is told by its steps alone.
 const NO_PLACE: Location = Location { offset: 0, disc: 0 };
-
-/// Why a line was not taken in.
-#[derive(Clone, Copy, Debug, PartialEq, Eq)]
-pub(crate) enum ProfileDraftStop {
-    /// The line breaks the format, for this cause.
-    Refused(Kind),
-    /// Memory was refused.
-    NoMemory,
-}
-
-impl From<NoMemory> for ProfileDraftStop {
-    ghost from_gives = { λ _ stop. stop ≡ no_memory };
-
-    fn from(_: NoMemory) -> Self {
-        ProfileDraftStop::NoMemory
-    }
-}
 
 /// What was read so far: the lines that are open, and what tells whether a line stood before.
 #[derive(Drop)]
@@ -84,7 +66,7 @@ impl ProfileDraft {
         name: &'a [u8],
         head: u64,
         names: &mut Names<'a>,
-    ) -> Result<(), ProfileDraftStop>
+    ) -> Result<(), ItemStop>
         requires names { length names.old < 2 ^ 32 - 1 }
         requires opened { length self.old.opened < 2 ^ 32 - 1 }
         ensures read { (keys : List Key) (total : ℕ) → spec.TakesIn names.old keys self.old at
@@ -93,7 +75,7 @@ impl ProfileDraft {
         let id = names.add(name)?;
         self.path.begin(id);
         if !open_first(alloc, &self.path, &mut self.opened)? {
-            return Err(ProfileDraftStop::Refused(Kind::KeyTwice));
+            return Err(ItemStop::Refused(Kind::KeyTwice));
         }
         put(&mut self.items, at, What::Head(id), head)?;
         Ok(())
@@ -110,7 +92,7 @@ impl ProfileDraft {
         targets: &[Named<'a>],
         names: &mut Names<'a>,
         keys: &mut Keys,
-    ) -> Result<(), ProfileDraftStop>
+    ) -> Result<(), ItemStop>
         requires deep { 0 < depth }
         requires names { length names.old + length targets.now < 2 ^ 32 - 1 }
         requires keys { length keys.old < 2 ^ 32 - 1 }
@@ -119,13 +101,13 @@ impl ProfileDraft {
             names.new keys.new self.new }
     {
         if let Some(kind) = cause_of_depth(&self.path, depth) {
-            return Err(ProfileDraftStop::Refused(kind));
+            return Err(ItemStop::Refused(kind));
         }
         names.each_once();
         self.path.close(depth);
         let key = keys.add(self.path.key(alloc, location)?)?;
         if self.places.stamp(key.0, 1)? {
-            return Err(ProfileDraftStop::Refused(Kind::KeyTwice));
+            return Err(ItemStop::Refused(Kind::KeyTwice));
         }
         put(&mut self.items, at, What::Count(key), count)?;
         put_targets(&mut self.items, &mut self.called, at, key, targets, names)
@@ -139,7 +121,7 @@ impl ProfileDraft {
         location: Location,
         callee: Named<'a>,
         names: &mut Names<'a>,
-    ) -> Result<(), ProfileDraftStop>
+    ) -> Result<(), ItemStop>
         requires deep { 0 < depth }
         requires names { length names.old < 2 ^ 32 - 1 }
         requires opened { length self.old.opened < 2 ^ 32 - 1 }
@@ -148,7 +130,7 @@ impl ProfileDraft {
             callee.entry.times) result names.new keys self.new }
     {
         if let Some(kind) = cause_of_depth(&self.path, depth) {
-            return Err(ProfileDraftStop::Refused(kind));
+            return Err(ItemStop::Refused(kind));
         }
         let name = names.add(callee.name)?;
         self.path.close(depth);
@@ -158,7 +140,7 @@ impl ProfileDraft {
             disc: location.disc,
         })?;
         if !open_first(alloc, &self.path, &mut self.opened)? {
-            return Err(ProfileDraftStop::Refused(Kind::KeyTwice));
+            return Err(ItemStop::Refused(Kind::KeyTwice));
         }
         Ok(())
     }
@@ -172,7 +154,7 @@ fn put_targets<'a>(
     key: KeyId,
     targets: &[Named<'a>],
     names: &mut Names<'a>,
-) -> Result<(), ProfileDraftStop>
+) -> Result<(), ItemStop>
     requires { length names.old + length targets.now < 2 ^ 32 - 1 }
     ensures { spec.AreOld called.old (length items.old.items) (length names.old)
         → spec.PutsTargets names.old items.old.items at key (map pair_of targets.now) result
@@ -182,7 +164,7 @@ fn put_targets<'a>(
     for target in targets {
         let name = names.add(target.name)?;
         if called.stamp(name.0, stamp)? {
-            return Err(ProfileDraftStop::Refused(Kind::KeyTwice));
+            return Err(ItemStop::Refused(Kind::KeyTwice));
         }
         put(items, at, What::Target(key, name), target.times)?;
     }

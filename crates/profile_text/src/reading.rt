@@ -6,11 +6,11 @@ ghost use Rattle.profile_tree.specs.Known.{HasNames};
 ghost use Rattle.profile_text.specs.Draft as spec;
 ghost use Rattle.profile_text.specs.Text.{TakesOn, TellText};
 
-use crate::draft::{ProfileDraft, ProfileDraftStop};
+use crate::draft::ProfileDraft;
 use crate::item::Profile;
 use crate::said::{ProfileLine, is_passed, read_line};
 use key_types::{Keys, Names};
-use refusal::{Kind, Place, Stop};
+use refusal::{ItemStop, Kind, Stop};
 use std::alloc::Global;
 use text_scan::{Line, Lines};
 
@@ -110,12 +110,7 @@ fn take_in<'a>(
     }
     match take_line(alloc, draft, line, names, keys) {
         Ok(()) => Ok(()),
-        Err(ProfileDraftStop::Refused(kind)) => Err(Stop::Refused(Place {
-            file,
-            at: line.number,
-            kind,
-        })),
-        Err(ProfileDraftStop::NoMemory) => Err(Stop::NoMemory),
+        Err(stop) => Err(stop.on_line(file, line.number)),
     }
 }
 
@@ -126,7 +121,7 @@ fn take_line<'a>(
     line: Line<'a>,
     names: &mut Names<'a>,
     keys: &mut Keys,
-) -> Result<(), ProfileDraftStop>
+) -> Result<(), ItemStop>
     requires names { length names.old + length line.bytes.now < 2 ^ 32 - 1 }
     requires keys { length keys.old < 2 ^ 32 - 1 }
     requires opened { length draft.old.opened < 2 ^ 32 - 1 }
@@ -134,7 +129,7 @@ fn take_line<'a>(
         names.new keys.new draft.new }
 {
     let Some(said) = read_line(alloc, line.bytes)? else {
-        return Err(ProfileDraftStop::Refused(Kind::BadLine));
+        return Err(ItemStop::Refused(Kind::BadLine));
     };
     match said {
         ProfileLine::Function(name, _, head) => {

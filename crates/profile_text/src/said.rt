@@ -1,7 +1,6 @@
 // One line of a profile text, read apart from the others.
 ghost use Rattle.std.specs.Prelude.{◌≡◌, ◌==◌, ◌≤◌, not, length, map, position, IfOk};
 ghost use Rattle.std.specs.Option.{option_map};
-ghost use Rattle.text_model.specs.LineTests.{is_blank_line};
 ghost use Rattle.profile_model.specs.Reading as model;
 ghost use Rattle.profile_text.specs.Said.{meaning_of, pair_of, place_of};
 
@@ -9,7 +8,7 @@ use crate::parts::LineParts;
 use key_types::is_name;
 use refusal::NoMemory;
 use std::alloc::Global;
-use text_scan::{Fields, decimal};
+use text_scan::{decimal, is_blank_line};
 
 /// A function, with a number of it.
 #[derive(Clone, Copy, Debug)]
@@ -41,14 +40,7 @@ pub(crate) enum ProfileLine<'a> {
 pub(crate) fn is_passed(line: &[u8]) -> bool
     ensures { result ≡ model.is_passed line.now }
 {
-    is_blank(line) || line[spaces(line)..].starts_with(b"#")
-}
-
-/// Whether a line has no field.
-fn is_blank(line: &[u8]) -> bool
-    ensures { result ≡ is_blank_line line.now }
-{
-    Fields::new(line).next().is_none()
+    is_blank_line(line) || line[spaces(line)..].starts_with(b"#")
 }
 
 /// How many spaces a line begins with.

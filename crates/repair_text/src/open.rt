@@ -199,21 +199,15 @@ impl Told {
         }
     }
 
-    /// What was told behind a line that is not the last.
-    pub(crate) fn with(self, said: &RepairLine<'_>) -> Result<Told, NoMemory>
+    /// Adds what a line tells of a block or an edge.
+    pub(crate) fn add(&mut self, said: &RepairLine<'_>) -> Result<(), NoMemory>
         requires { is_end (meaning_of said.now) ≡ false }
-        ensures { IfOk result (λ told.
-            told_of told ≡ told_behind (told_of self) (meaning_of said.now)) }
+        ensures { OnOk result
+            (told_of self.new ≡ told_behind (told_of self.old) (meaning_of said.now)) }
     {
         match self {
-            Told::OpenCounts(mut counts) => {
-                counts.add(said)?;
-                Ok(Told::OpenCounts(counts))
-            }
-            Told::Sides(mut sides) => {
-                sides.add(said)?;
-                Ok(Told::Sides(sides))
-            }
+            Told::OpenCounts(counts) => counts.add(said),
+            Told::Sides(sides) => sides.add(said),
         }
     }
 

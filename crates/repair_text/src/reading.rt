@@ -1,5 +1,5 @@
 // A repair text, line by line.
-ghost use Rattle.std.specs.Prelude.{◌≡◌, [], false, map, None, Some, IfOk};
+ghost use Rattle.std.specs.Prelude.{◌≡◌, [], false, map, None, Some, IfOk, OnOk};
 ghost use Rattle.refusal.specs.Place.{JudgesUnlessNoMemory};
 ghost use Rattle.cfg_text.specs.Fun.{function_of};
 ghost use Rattle.repair_model.specs.Judging as judging;
@@ -70,7 +70,7 @@ pub fn read(alloc: Global, text: &[u8], file: u8, funs: &[Fun<'_>]) -> Result<Ve
         reading = reading.take_in(line, file)?;
     }
     if reading.is_unfinished() {
-        return Err(Stop::Refused(place(file, last + 1, Kind::Missing)));
+        return Err(Stop::Refused(Place::on_line(file, last + 1, Kind::Missing)));
     }
     Ok(reading.repairs)
 }
@@ -115,7 +115,7 @@ impl<'f, 'a> Reading<'f, 'a> {
             return Ok(self);
         }
         let Some((name, told)) = first_line(self.alloc, line.bytes) else {
-            return Err(Stop::Refused(place(file, line.number, Kind::BadLine)));
+            return Err(Stop::Refused(Place::on_line(file, line.number, Kind::BadLine)));
         };
         let told = told.with_room(self.left)?;
         self.begin(name, told, line.number, file)
@@ -126,10 +126,10 @@ impl<'f, 'a> Reading<'f, 'a> {
         ensures { Begins file at name.now self.entry told result }
     {
         let Some((fun, left)) = self.left.split_first() else {
-            return Err(Stop::Refused(place(file, at, Kind::Extra)));
+            return Err(Stop::Refused(Place::on_line(file, at, Kind::Extra)));
         };
         if name != fun.name {
-            return Err(Stop::Refused(place(file, at, Kind::WrongFunction)));
+            return Err(Stop::Refused(Place::on_line(file, at, Kind::WrongFunction)));
         }
         Ok(Reading {
             alloc: self.alloc,
@@ -144,23 +144,26 @@ impl<'f, 'a> Reading<'f, 'a> {
     }
 
     /// Takes in a line of the repair that is open.
-    fn inside(self, opened: Open<'f, 'a>, line: Line<'_>, file: u8) -> Result<Self, Stop>
+    fn inside(self, mut opened: Open<'f, 'a>, line: Line<'_>, file: u8) -> Result<Self, Stop>
         requires { self.opened ≡ None }
         ensures { TakesIn file line.entry (course_inside self.entry opened.entry)
             (done_of self.entry) result }
     {
         let Some(said) = read_line(line.bytes) else {
-            return Err(Stop::Refused(place(file, line.number, Kind::BadLine)));
+            return Err(Stop::Refused(Place::on_line(file, line.number, Kind::BadLine)));
         };
         if let Some(kind) = opened.told.cause_of(opened.fun, &said) {
-            return Err(Stop::Refused(place(file, line.number, kind)));
+            return Err(Stop::Refused(Place::on_line(file, line.number, kind)));
         }
         match said {
             RepairLine::EndOfFlow(cost) => Ok(self.keep(opened.told.close(opened.line, cost, 0))?),
             RepairLine::EndOfCut(least, most) => {
                 Ok(self.keep(opened.told.close(opened.line, least, most))?)
             }
-            said => Ok(self.with_open(opened.with(&said)?)),
+            said => {
+                opened.add(&said)?;
+                Ok(self.with_open(opened))
+            }
         }
     }
 
@@ -182,17 +185,13 @@ impl<'f, 'a> Reading<'f, 'a> {
 }
 
 impl<'f, 'a> Open<'f, 'a> {
-    /// The repair behind a line that tells of a block or an edge.
-    fn with(self, said: &RepairLine<'_>) -> Result<Self, NoMemory>
+    /// Adds what a line tells of a block or an edge.
+    fn add(&mut self, said: &RepairLine<'_>) -> Result<(), NoMemory>
         requires { is_end (meaning_of said.now) ≡ false }
-        ensures { IfOk result (λ opened.
-            open_of opened ≡ told_more (open_of self.entry) (meaning_of said.now)) }
+        ensures { OnOk result
+            (open_of self.new ≡ told_more (open_of self.old) (meaning_of said.now)) }
     {
-        Ok(Open {
-            line: self.line,
-            fun: self.fun,
-            told: self.told.with(said)?,
-        })
+        self.told.add(said)
     }
 }
 
@@ -205,11 +204,4 @@ fn first_line<'t>(alloc: Global, line: &'t [u8]) -> Option<(&'t [u8], Told)>
         RepairLine::Cut(name, root) => Some((name, Told::sides(alloc, root))),
         _ => None,
     }
-}
-
-/// The place of a line.
-fn place(file: u8, at: u64, kind: Kind) -> Place
-    ensures { result ≡ record { file = file; at = at; kind = kind } }
-{
-    Place { file, at, kind }
 }

@@ -1,5 +1,5 @@
 use Rattle.std.proofs.Common.{sym, ◌∙◌}
-use Rattle.profile_text.proofs.TextLemmas.{left_passed, left_refused, left_taken}
+use Rattle.profile_text.proofs.TextLemmas.{left_passed, left_stopped, left_taken}
 use Rattle.profile_text.proofs.reading.take_in.Goals as goal
 
 pub returns-then-is_passed : goal.returns-then-is_passed
@@ -11,7 +11,7 @@ returns-in-Ok c = λ whole rest left.
     left_taken c.args.file whole c.args.names.now c.args.keys.now c.args.draft.now c.args.line rest c.take_line.new.names c.take_line.new.keys c.take_line.new.draft
     left (sym c.is_passed.ensures ∙ c.if-is_passed.false) c.in-Ok.ensures
 
-pub returns-in-Err-Refused : goal.returns-in-Err-Refused
-returns-in-Err-Refused c = λ whole rest left.
-    left_refused c.args.file whole c.args.names.now c.args.keys.now c.args.draft.now c.args.line rest c.in-Err-Refused.kind c.take_line.new.names c.take_line.new.keys c.take_line.new.draft
-    left (sym c.is_passed.ensures ∙ c.if-is_passed.false) (rw c.in-Err-Refused.field-0-is at c.in-Err-Refused.ensures)
+pub returns-in-Err : goal.returns-in-Err
+returns-in-Err c = λ whole rest left.
+    left_stopped c.args.file whole c.args.names.now c.args.keys.now c.args.draft.now c.args.line rest c.in-Err.stop _ c.take_line.new.names c.take_line.new.keys c.take_line.new.draft
+    left (sym c.is_passed.ensures ∙ c.if-is_passed.false) c.in-Err.ensures c.on_line.ensures

@@ -31,7 +31,7 @@ pub returns-then-is_unfinished : goal.returns-then-is_unfinished
 returns-then-is_unfinished c =
     end_missing c.args.file c.loop-line.last _ _ (done_of c.loop-line.reading) (course_of c.loop-line.reading) c.loop-line.lines c.loop-line.invariant
     c.in_default.ensures.steps.0 (sym c.is_unfinished.ensures ∙ c.if-is_unfinished.true)
-    ∙ ap Some (sym c.place.ensures)
+    ∙ ap Some (sym c.on_line.ensures)
 
 pub returns : goal.returns
 returns c =

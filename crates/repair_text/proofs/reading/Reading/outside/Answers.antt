@@ -8,7 +8,7 @@ returns-then-not-starts_with c = passes c.args.line c.args.self c.requires (sym 
 
 pub returns-in_default : goal.returns-in_default
 returns-in_default c =
-    bad_first c.args.file c.args.line c.args.self c.requires (sym c.starts_with.ensures.value ∙ c.if-not-starts_with.false) c.in_default.ensures ∙ ap Some (sym c.place.ensures)
+    bad_first c.args.file c.args.line c.args.self c.requires (sym c.starts_with.ensures.value ∙ c.if-not-starts_with.false) c.in_default.ensures ∙ ap Some (sym c.on_line.ensures)
 
 pub returns : goal.returns
 returns c =

@@ -88,8 +88,13 @@ impl<'a> ListWalk<'a> {
         Ok(self.marks.push(mark)?)
     }
 
-    /// What is left of a list where the reader stands, if that is known: at the first entry, and at
-    /// each that a long list has further on.
+    /// Whether what is left of a list is looked up where the reader stands: at the first entry, and
+    /// at 32 in a row behind 32 entries, 64, 128 and so on, among which any list has a mark.
+    fn is_looked_up(&self) -> bool {
+        self.passed == 0 || (self.passed / LONG).is_power_of_two()
+    }
+
+    /// What is left of a list where the reader stands, if it is looked up there and known.
     fn rest(
         &self,
         alloc: Global,
@@ -105,7 +110,7 @@ impl<'a> ListWalk<'a> {
             (self.now.passed + rest.entries ≤ max_entries)
             × IsRest file resolve pairs self.now.cur self.now.base rest.entries rest.live.items)) }
     {
-        if self.passed > MAX_ENTRIES || (self.passed != 0 && self.passed < LONG) {
+        if self.passed > MAX_ENTRIES || !self.is_looked_up() {
             return Ok(None);
         }
         let most = MAX_ENTRIES - self.passed;

@@ -1,4 +1,6 @@
-use Rattle.std.proofs.Common.{◌<◌, Ok, arith, sym, ap, ◌∙◌}
+use Rattle.std.proofs.Common.{◌≡◌, ◌<◌, ℕ, Some, Ok, arith, sym, ap, subst, ◌∙◌}
+use Rattle.unit_model.specs.Entries.{Entry}
+use Rattle.tree_model.specs.Way.{entry_beginning_at}
 use Rattle.entry_facts.specs.Meaning.{info_of}
 use Rattle.entry_facts.proofs.ListedLemmas.{next_begins}
 use Rattle.entry_facts.proofs.StepLemmas.{way_from-end, way_from-more}
@@ -14,7 +16,8 @@ returns-in-Ok-None-clause-found t c = (
 pub findings_from-requires : goal.findings_from-requires
 findings_from-requires t c = (
   omega arith,
-  next_begins (info_of c.args.info.now) c.args.entry.now c.in-Ok-Some.next (sym c.in-Ok-Some.ensures ∙ ap Ok c.in-Ok-Some.field-0-is),
+  subst (λ (n : ℕ). entry_beginning_at c.args.info.now.units.now.entries n ≡ Some c.in-Ok-Some.next) (sym (ap (λ (e : Entry). e.at) c.next.view_is))
+      (next_begins (info_of c.args.info.now) c.args.entry.now c.in-Ok-Some.next (sym c.in-Ok-Some.ensures ∙ ap Ok c.in-Ok-Some.field-0-is)),
 )
 
 pub returns-clause-found : goal.returns-clause-found

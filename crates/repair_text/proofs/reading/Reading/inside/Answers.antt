@@ -22,9 +22,9 @@ returns-in_ok-keep-in-EndOfCut c =
     (rw c.in-EndOfCut.is at c.in-Some.ensures) (rw c.in-EndOfCut.is at (sym c.in_default-cause_of.ensures)) refl
     c.close-in-EndOfCut.ensures.told c.close-in-EndOfCut.ensures.line c.in_ok-keep-in-EndOfCut.ensures
 
-pub returns-in_default-said : goal.returns-in_default-said
-returns-in_default-said c =
+pub returns-in_ok-add-in_default-said : goal.returns-in_ok-add-in_default-said
+returns-in_ok-add-in_default-said c =
     let ends = no_end c.in-Some.said c.in_default-said.not-EndOfFlow c.in_default-said.not-EndOfCut in
     rw c.with_open.ensures
     (goes_on c.args.line c.args.self c.args.opened c.add.new.self _ c.in-Some.ensures
-    (sym c.in_default-cause_of.ensures) ends c.in_ok-add.ensures)
+    (sym c.in_default-cause_of.ensures) ends c.in_ok-add-in_default-said.ensures)

@@ -23,7 +23,7 @@ ends-rise from to (x ∷ xs) between (suc i) (suc j) d before within =
     ends-rise x.hi to xs between.2 i j d (omega (arith, before)) (omega (arith, within))
 
 -- spans that end at or before an address do not hold it
-none_held : (xs : List Span) (n a : ℕ) → ((k : ℕ) (d : Span) → k < n → k < length xs → (get_or xs k d).hi ≤ a) → owner_at (take n xs) a ≡ None
+pub none_held : (xs : List Span) (n a : ℕ) → ((k : ℕ) (d : Span) → k < n → k < length xs → (get_or xs k d).hi ≤ a) → owner_at (take n xs) a ≡ None
 none_held [] zero a ended = refl
 none_held [] (suc n) a ended = refl
 none_held (x ∷ xs) zero a ended = refl

@@ -5,6 +5,7 @@ use Rattle.std.specs.List.{AllByRecursion, AllZip, cons_option, range_with_len}
 use Rattle.std.proofs.lemmas.List.Elements.{All-contains_itself, All-weaker, recursion_from_All}
 use Rattle.std.proofs.lemmas.List.Sums.{length-filter, sum_by-cons}
 use Rattle.profile_laws.proofs.TotalLemmas.{Among}
+pub use Rattle.profile_laws.proofs.TotalLemmas.{filter_same as kept_alike}
 use Rattle.sample_model.specs.Pairs.{distinct_pairs, pair_lt, same_pair, with_pair}
 use Rattle.output_model.specs.Sampled.{largest}
 
@@ -26,10 +27,6 @@ zip_within P R S gives (x ∷ xs) (y ∷ ys) all is = (gives x y all.0 is.0, zip
 pub found_alike : {X Y : Type 0} (f g : X → Option Y) (xs : List X) → AllByRecursion (λ x. f x ≡ g x) xs → filter_map f xs ≡ filter_map g xs
 found_alike f g [] all = refl
 found_alike f g (x ∷ xs) all = λ i. cons_option (all.0 i) (found_alike f g xs all.1 i)
-
-pub kept_alike : {X : Type 0} (f g : X → Bool) (xs : List X) → AllByRecursion (λ x. f x ≡ g x) xs → filter f xs ≡ filter g xs
-kept_alike f g [] all = refl
-kept_alike f g (x ∷ xs) all = λ i. cond (all.0 i) (x ∷ kept_alike f g xs all.1 i) (kept_alike f g xs all.1 i)
 
 pub counted_alike : {X : Type 0} (f g : X → Bool) (xs : List X) → AllByRecursion (λ x. f x ≡ g x) xs → count_by f xs ≡ count_by g xs
 counted_alike f g xs all = sym (length-filter f xs) ∙ ap length (kept_alike f g xs all) ∙ length-filter g xs

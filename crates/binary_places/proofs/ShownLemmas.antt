@@ -29,7 +29,7 @@ by-table : (table : Option (List Sequence)) (address : ℕ)
 by-table None address = refl
 by-table (Some table) address = by-row (row_among table address)
 
-rows-agree : (tables : List (Option (List Sequence))) (unit address : ℕ) → rows_of tables unit address ≡ row_in tables unit address
+pub rows-agree : (tables : List (Option (List Sequence))) (unit address : ℕ) → rows_of tables unit address ≡ row_in tables unit address
 rows-agree tables unit address = by-table (option_and_then (λ table. table) (slice_get tables unit)) address
 
 pub places_shown : PlacesAreShown

@@ -1,13 +1,13 @@
 -- What a reader has read, as bytes come, lines end and the text does.
-use Rattle.std.proofs.Common.{◌≡◌, ℕ, suc, ◌+◌, ◌-◌, ◌<◌, ◌≤◌, nat_lt, Bool, true, false, ◌||◌, List, [], ◌∷◌, ◌++◌, length, take, drop, get_or, cond, min, Option, None, Some, Result, Ok, Err, refl, sym, ap, subst, ◌∙◌, arith}
+use Rattle.std.proofs.Common.{◌≡◌, ℕ, suc, ◌+◌, ◌-◌, ◌<◌, ◌≤◌, nat_lt, Bool, true, false, List, [], ◌∷◌, ◌++◌, length, take, drop, get_or, cond, min, Option, None, Some, Result, Ok, Err, refl, sym, ap, subst, ◌∙◌, arith}
 use Rattle.std.specs.Prelude.{filter}
-use Rattle.std.specs.List.{AllByRecursion, flat_map, list_any}
+use Rattle.std.specs.List.{AllByRecursion, flat_map}
 use Rattle.std.specs.Option.{option_map}
 use Rattle.std.proofs.lemmas.Bool.{eqb-true}
 use Rattle.std.proofs.lemmas.Bool.Decides.{nat_tests}
 use Rattle.std.proofs.lemmas.Grind.{flat_map-append}
 use Rattle.std.proofs.lemmas.List.{append-nil, append_assoc, length-append, length-take, take_all, take_min}
-use Rattle.std.proofs.lemmas.List.Folds.{list_any_none}
+use Rattle.std.proofs.lemmas.List.Folds.{list_any_none, list_any-append}
 use Rattle.std.proofs.Math.Seq.{split_at, take-append-add}
 use Rattle.memchr.specs.Find.{IsFirstByte, is_byte}
 use Rattle.refusal.specs.declared.place.Place.{Place}
@@ -62,12 +62,7 @@ settled text rest done lines parts =
     (same.0, rw (same.0, same.1) parts)
 
 none_of_both : (xs ys : List ℕ) → HasNoLineFeed xs → HasNoLineFeed ys → HasNoLineFeed (xs ++ ys)
-none_of_both [] ys first second = second
-none_of_both (x ∷ xs) ys first second = either (is_line_feed x) (list_any is_line_feed xs) (list_any is_line_feed (xs ++ ys)) first (λ rest. none_of_both xs ys rest second)
-  where
-    either : (a b c : Bool) → (a || b) ≡ false → (b ≡ false → c ≡ false) → (a || c) ≡ false
-    either true b c first rest = absurd (cc)
-    either false b c first rest = rest first
+none_of_both xs ys first second = rw (list_any-append is_line_feed xs ys, first) second
 
 -- bytes without a line feed make the open rest longer
 text_with_bytes : (text more rest : List ℕ) → IsTextOf text (ended_lines_of text) (lines_of text) rest → HasNoLineFeed more

@@ -2,14 +2,15 @@
 use Rattle.std.proofs.Common.{◌≡◌, ℕ, ◌≤◌, Bool, true, false, List, [], ◌∷◌, ◌++◌, length, map, Option, None, Some, refl, sym, ap, subst, ◌∙◌, arith}
 use Rattle.std.specs.List.{flat_map}
 use Rattle.std.proofs.lemmas.Grind.{flat_map-append}
-use Rattle.std.proofs.lemmas.List.{append-nil, append_assoc, length-append, length-map}
+use Rattle.std.proofs.lemmas.List.{append-nil, append_assoc}
 use Rattle.std.proofs.lemmas.List.Sums.{sum_by-cons}
 use Rattle.sample_model.specs.declared.load.Load.{Load}
 use Rattle.sample_model.specs.Line.{branches_of_line}
 use Rattle.sample_model.specs.Loads.{load_of, loads_of}
-use Rattle.sample_model.specs.Moves.{LoadMap, MovedBranch, branches_by, counted_branch, moved_branch, moved_line, moved_lines, moved_ranges, ranges_by}
+use Rattle.sample_model.specs.Moves.{LoadMap, MovedBranch, branches_by, counted_branch, moved_line, moved_lines, moved_ranges, ranges_by}
 use Rattle.sample_model.specs.Samples.{ranges_between, ranges_of_line, branches_of_lines, ranges_of_lines}
 use Rattle.sample_model.specs.declared.pair.Pair.{Pair}
+use Rattle.sample_model.proofs.MoveLemmas.{moved_branches}
 use Rattle.branch_stacks.specs.Loads.{met_in, AddsLine}
 use Rattle.branch_counts.specs.Table.{Tallies, IsTable, total_in}
 use Rattle.branch_counts.specs.Tally.{Tally, counted, total_of, AddsStack, Tells, IsCounted}
@@ -91,24 +92,9 @@ Tells-more (Some loading) lines line old new tells adds =
           (subst (λ (w : Bool). Tallies (ranges_by (Some loading) (counted w lines)) old.ranges) refl tells.ranges) adds.ranges);
     }
 
--- as many branches are counted as stand there
-moved_length : (loading : LoadMap) (before : List Load) (lines : List (List ℕ)) → length (flat_map (map counted_branch) (moved_lines loading before lines)) ≡ length (branches_of_lines lines)
-moved_length loading before [] = refl
-moved_length loading before (line ∷ lines) =
-    let moved = moved_line loading.segments before line in
-    let later = before ++ loads_of loading.name (line ∷ []) in
-    omega (
-      arith,
-      length-append (map counted_branch moved) (flat_map (map counted_branch) (moved_lines loading later lines)),
-      length-append (branches_of_line line) (branches_of_lines lines),
-      length-map moved counted_branch,
-      length-map (branches_of_line line) (moved_branch loading.segments before),
-      moved_length loading later lines,
-    )
-
 pub total_told : (loading : Option LoadMap) (lines : List (List ℕ)) (tally : Tally) → Tells loading lines tally → total_of tally ≡ length (branches_of_lines lines)
 total_told None lines tally tells = tells.branches.total
-total_told (Some loading) lines tally tells = tells.branches.total ∙ moved_length loading [] lines
+total_told (Some loading) lines tally tells = tells.branches.total ∙ moved_branches loading [] lines
 
 -- a table of nothing
 empty_table : (rows : List Pair) → IsTable rows → total_in rows ≤ 0 → Tallies [] rows

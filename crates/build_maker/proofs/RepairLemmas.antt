@@ -1,6 +1,7 @@
 -- Repairs by the numbers of keys are repairs by ways.
 use Rattle.std.proofs.Common.{◌≡◌, ◌≤◌, ℕ, nat_eq, nat_le, nat_lt, ◌&&◌, List, [], ◌∷◌, Option, None, Some, refl, sym, ap, subst, ◌∙◌}
 use Rattle.std.specs.Option.{option_map, unwrap_or}
+use Rattle.std.proofs.lemmas.Option.{none-some}
 use Rattle.block_model.specs.declared.parts.Weight.{Weight}
 use Rattle.block_model.specs.declared.parts.Weight.TheVariants.{Unknown, Known}
 use Rattle.block_model.specs.Function.{Function}
@@ -18,15 +19,12 @@ use Rattle.output_model.specs.Summary.{IsRepairCost}
 
 -- ---- weights of blocks
 
-no_some : {K : Type 0} (x : K) → None ≡ Some x → ⊥
-no_some x is = cc
-
 is_none : {K : Type 0} (f : K → ℕ) (o : Option K) → option_map f o ≡ None → o ≡ None
 is_none f None is = refl
-is_none f (Some x) is = absurd (no_some (f x) (sym is))
+is_none f (Some x) is = absurd (none-some (f x) (sym is))
 
 is_some_of : {K : Type 0} (f : K → ℕ) (o : Option K) (n : ℕ) → option_map f o ≡ Some n → (x : K) × (o ≡ Some x) × (f x ≡ n)
-is_some_of f None n is = absurd (no_some n is)
+is_some_of f None n is = absurd (none-some n is)
 is_some_of f (Some x) n is = (x, refl, ap (λ o. unwrap_or o 0) is)
 
 module _ {K L : Type 0} (key : ℕ → Option K) (count : K → ℕ) (way : ℕ → Option L) (count_of : L → ℕ)

@@ -35,9 +35,9 @@ use text_scan::push_number;
 
 /// The profile of a binary and its samples, then a repair of each of these functions, then the
 /// report. `counts` have the branches and the sampled ranges of a branch text, as they stand or
-/// moved by its load lines. Where `options` ask for it the edges of functions have weights too, and
-/// functions are repaired within a bound on augmentations, of which a last line tells how many
-/// there were. There are at most 2^29 functions.
+/// moved by its load lines. With `options.edges` the edges of functions have weights too. With
+/// `options.scaled` functions are repaired within a bound on augmentations, and a last line tells
+/// how many there were. There are at most 2^29 functions.
 ///
 /// # Errors
 /// `NoMemory`.

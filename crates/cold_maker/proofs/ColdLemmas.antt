@@ -1,5 +1,5 @@
 -- The keys of a binary are the places of its addresses.
-use Rattle.std.proofs.Common.{◌≡◌, ℕ, zero, suc, ◌<◌, ◌≤◌, ◌+◌, ◌-◌, ◌^◌, Bool, true, ◌||◌, List, [], ◌∷◌, ◌++◌, map, filter, length, Option, None, Some, Result, refl, sym, ap, subst, ◌∙◌, arith}
+use Rattle.std.proofs.Common.{◌≡◌, ℕ, zero, suc, ◌<◌, ◌≤◌, ◌+◌, ◌-◌, ◌^◌, Bool, ◌||◌, List, [], ◌∷◌, ◌++◌, map, filter, length, Option, Some, Result, refl, sym, ap, subst, ◌∙◌, arith}
 use Rattle.std.specs.Prelude.{if◌then◌else◌}
 use Rattle.std.specs.List.{filter_map, range_with_len}
 use Rattle.std.specs.Option.{option_map}
@@ -51,7 +51,7 @@ use Rattle.profile_writer.specs.Profile.{IsProfileWithCold, Parts}
 use Rattle.profile_writer.specs.Told.{TellsPlace}
 use Rattle.report_model.specs.Report.{Classes, Sampled, report_text}
 use Rattle.cold_maker.specs.Besides.{counted, first_ways}
-use Rattle.span_cover.specs.Asked.{asks}
+use Rattle.span_cover.proofs.AskedLemmas.{asks-all}
 
 -- ---- each key has an address
 
@@ -83,15 +83,11 @@ inside address near = range_among 0 (2 ^ 64) address (omega arith) (omega (arith
 
 -- ---- all places are asked for
 
-asks_all : (function : Option ℕ) → asks [] function ≡ true
-asks_all None = refl
-asks_all (Some function) = refl
-
 module _ (bytes : List ℕ) (base : Bool) (placed : Placed) (is : IsPlaced bytes base [] placed) where
   place_shown : (address : ℕ) → TellsPlace placed.names placed.keys (place_of_address bytes base address) (place_told placed.map address)
   place_shown address =
       subst (λ (b : Bool). TellsPlace placed.names placed.keys (if b then place_of_address bytes base address else lack_of (place_told placed.map address)) (place_told placed.map address))
-      (asks_all (function_of_address bytes address)) ((programs_shown bytes base [] placed is).places address)
+      (asks-all (function_of_address bytes address)) ((programs_shown bytes base [] placed is).places address)
 
   abbrev way_here : ℕ → Option Way
   way_here = program_told.way_at (program_of bytes base)

@@ -1,6 +1,7 @@
 -- Lines besides those of recorded keys.
-use Rattle.std.proofs.Common.{◌≡◌, List, [], ◌∷◌, ◌++◌, map, refl, sym, ap, ◌∙◌}
+use Rattle.std.proofs.Common.{◌≡◌, List, [], ◌∷◌, ◌++◌, map, sym, ap, ◌∙◌}
 use Rattle.std.specs.List.{flat_map}
+use Rattle.std.proofs.lemmas.List.{append-nil}
 use Rattle.profile_model.proofs.OrderLemmas.{ways_tell_apart}
 use Rattle.profile_model.specs.Laws.{has}
 use Rattle.profile_model.specs.Orders.{ordered, way_cmp}
@@ -12,14 +13,10 @@ use Rattle.profile_laws.specs.Counts.{CountTheSame}
 use Rattle.cold_model.specs.Cold.{lines_with, written_with}
 use Rattle.cold_model.specs.Laws.{LinesWithAreByCounts, NoneBesides}
 
-nothing_behind : {T : Type 0} (xs : List T) → xs ++ [] ≡ xs
-nothing_behind [] = refl
-nothing_behind (x ∷ xs) = ap (λ ys. x ∷ ys) (nothing_behind xs)
-
 pub none_besides : NoneBesides
 unfolding lines_with lines_of
 none_besides p =
-    ap (λ ways. map (line_at p) (ordered (way_cmp (total_of_function p)) (flat_map beginnings (recorded p ++ ways)))) (nothing_behind (entered p))
+    ap (λ ways. map (line_at p) (ordered (way_cmp (total_of_function p)) (flat_map beginnings (recorded p ++ ways)))) (append-nil (entered p))
 
 -- Lists in which the same ways stand give the same lines, whatever their order and however often a way stands in them.
 pub same_lines : (p : Profile) (ways others : List Way) → ((z : Way) → has (way_cmp (total_of_function p)) z ways ≡ has (way_cmp (total_of_function p)) z others)

@@ -9,6 +9,7 @@ use Rattle.refusal.specs.declared.kind.Kind.{Kind}
 use Rattle.refusal.specs.declared.kind.Kind.TheVariants.{NoEndLine}
 use Rattle.refusal.specs.declared.place.Place.{Place}
 use Rattle.refusal.specs.Place.{fails_at, first_bad, size_item}
+use Rattle.refusal.proofs.PlaceLemmas.{first_bad-none}
 use Rattle.text_model.specs.Fields.{fields_of, is_blank, is_filled}
 use Rattle.text_model.specs.Laws.{HasNoLineFeed, IsSpaced, spaced}
 use Rattle.text_model.specs.Lines.{is_line_feed, lines_of}
@@ -159,10 +160,6 @@ names_are_fields text = functions_named None (lines_of text) tt (lines_are text)
 
 -- ---- the number of the file
 
-none_bad : (here : Option Place) (rest : List (Option Place)) → first_bad (here ∷ rest) ≡ None → (here ≡ None) × (first_bad rest ≡ None)
-none_bad None rest none = (refl, none)
-none_bad (Some place) rest none = absurd cc
-
 good_first : (here : Option Place) (rest : List (Option Place)) → here ≡ None → first_bad rest ≡ None → first_bad (here ∷ rest) ≡ None
 good_first here rest is none = ap (λ (o : Option Place). first_bad (o ∷ rest)) is ∙ none
 
@@ -177,10 +174,10 @@ fails_of_any true one other none = absurd cc
 items_of_any : (file other number : ℕ) (opened : Option Function) (lines : List (List ℕ)) → first_bad (items_from file number opened lines) ≡ None → first_bad (items_from other number opened lines) ≡ None
 unfolding items_from
 items_of_any file other number opened [] none =
-    let here = none_bad (fails_at (is_some opened) (record { file = file; at = number; kind = NoEndLine })) [] none in
+    let here = first_bad-none (fails_at (is_some opened) (record { file = file; at = number; kind = NoEndLine })) [] none in
     good_first (fails_at (is_some opened) (record { file = other; at = number; kind = NoEndLine })) [] (fails_of_any (is_some opened) _ _ here.0) refl
 items_of_any file other number opened (line ∷ lines) none =
-    let here = none_bad (item file number (cause_of_line opened (line_of line))) _ none in
+    let here = first_bad-none (item file number (cause_of_line opened (line_of line))) _ none in
     good_first (item other number (cause_of_line opened (line_of line))) _ (item_of_any file other number (cause_of_line opened (line_of line)) here.0)
     (items_of_any file other (number + 1) (open_behind_line opened (line_of line)) lines here.1)
 
@@ -192,8 +189,8 @@ pub record IsGoodText (file : ℕ) (text : List ℕ) : Type 0 where
 pub good_of_any : (file other : ℕ) (text : List ℕ) → first_bad_of_blocks file text ≡ None → IsGoodText other text
 unfolding first_bad_of_blocks
 good_of_any file other text none =
-    let size = none_bad (size_item file max_block_bytes text) (first_bad_of_text file text ∷ []) none in
-    let lines = items_of_any file other 1 None (lines_of text) (none_bad (first_bad_of_text file text) [] size.1).0 in
+    let size = first_bad-none (size_item file max_block_bytes text) (first_bad_of_text file text ∷ []) none in
+    let lines = items_of_any file other 1 None (lines_of text) (first_bad-none (first_bad_of_text file text) [] size.1).0 in
     record {
       lines = lines;
       all = good_first (size_item other max_block_bytes text) (first_bad_of_text other text ∷ [])

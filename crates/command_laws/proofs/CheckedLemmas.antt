@@ -1,11 +1,11 @@
 -- What passed `check` is least.
 use Rattle.std.proofs.Common.{◌≡◌, ℕ, ◌≤◌, ◌<◌, ◌^◌, Bool, true, false, List, [], ◌∷◌, length, Option, None, Some, nat_lt, refl, arith, subst}
 use Rattle.std.specs.List.{AllByRecursion, AllZip}
-use Rattle.std.specs.Option.{option_or}
 use Rattle.std.proofs.lemmas.Bool.Decides.{nat_tests}
 use Rattle.std.proofs.lemmas.List.Elements.{recursion_from_All}
 use Rattle.refusal.specs.declared.place.Place.{Place}
 use Rattle.refusal.specs.Place.{fails_at, first_bad, size_item}
+use Rattle.refusal.proofs.PlaceLemmas.{option_or-none}
 use Rattle.block_model.specs.Function.{Function}
 use Rattle.block_model.specs.Text.{functions_of}
 use Rattle.flow_model.specs.Network.{Network}
@@ -65,17 +65,13 @@ least net (cut root ins outs) first second is =
     let fewer = subst (λ n. second < n) is.1 more in
     a_cut_shows_no_counts net (at_side root ins outs) (second, is.2, fewer)
 
-none_of_two : (here other : Option ℕ) → option_or here other ≡ None → (here ≡ None) × (other ≡ None)
-none_of_two None other none = (refl, none)
-none_of_two (Some n) other none = absurd cc
-
 all_least : (funs : List Function) (repairs : List (ℕ × Repair)) → AllByRecursion (λ (fun : Function). IsSound fun.blocks fun.edges) funs
     → AllZip IsToldOf funs repairs → checking.failed_line funs repairs ≡ None → AllZip IsLeastOf funs repairs
 all_least [] [] sound told passes = tt
 all_least [] (r ∷ repairs) sound told passes = told
 all_least (fun ∷ funs) [] sound told passes = told
 all_least (fun ∷ funs) ((line, r) ∷ repairs) sound told passes =
-    let both = none_of_two (failed_in fun line r) (checking.failed_line funs repairs) passes in (
+    let both = option_or-none (failed_in fun line r) (checking.failed_line funs repairs) passes in (
       least (network_by fun r) r.solution r.first r.second ((passing_lines_repair fun line r sound.0 told.0.whole).0 both.0),
       all_least funs repairs sound.1 told.1 both.1,
     )

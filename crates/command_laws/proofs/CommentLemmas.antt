@@ -1,6 +1,6 @@
 -- The lines of repairs are comments of a profile text.
-use Rattle.std.proofs.Common.{ℕ, suc, Bool, true, false, List, [], ◌∷◌, ◌++◌, length, map, None, Some, ℤ, pos, negsuc, refl}
-use Rattle.std.specs.Prelude.{codes, ⊤, slice_index_or}
+use Rattle.std.proofs.Common.{ℕ, suc, Bool, List, [], ◌∷◌, length, map, None, Some, ℤ, pos, negsuc, refl}
+use Rattle.std.specs.Prelude.{⊤, slice_index_or}
 use Rattle.std.specs.List.{AllByRecursion, enumerate_from}
 use Rattle.list_lemmas.proofs.Each.{all_append}
 use Rattle.text_model.specs.Laws.{HasNoLineFeed, ended}
@@ -9,27 +9,18 @@ use Rattle.block_model.specs.declared.parts.Weight.{Weight}
 use Rattle.block_model.specs.declared.parts.Weight.TheVariants.{Known, Unknown}
 use Rattle.block_model.specs.Function.{Function}
 use Rattle.repair_model.specs.Laws.{text_of_repairs}
-use Rattle.repair_model.specs.Line.{Line, begins_cut, begins_flow, bit_text, ends_cut, ends_flow, line_fields, line_text, spaced, tells_count, tells_edge, tells_sides, weight_text}
+use Rattle.repair_model.specs.Line.{Line, begins_cut, begins_flow, ends_cut, ends_flow, line_fields, line_text, tells_count, tells_edge, tells_sides, weight_text}
 use Rattle.repair_model.specs.Repair.{Repair, Solution, cut, flow, told_edges}
 use Rattle.repair_model.specs.Text.{first_line, last_line, line_of_block, line_of_edge, lines_of_blocks, lines_of_edges, lines_of_repair, numbers, text_of_lines}
+use Rattle.repair_model.proofs.BackLemmas.{bit_clean, spaced_clean}
 use Rattle.spelling_laws.specs.Told.{IsComment}
-use Rattle.command_laws.proofs.LineLemmas.{AreLinesOf, begins_comment, both_clean, both_lines, no_lines, number_clean, one_line}
+use Rattle.command_laws.proofs.LineLemmas.{AreLinesOf, begins_comment, both_lines, no_lines, number_clean, one_line}
 
 -- ---- one line
-
-spaced_clean : (fields : List (List ℕ)) → AllByRecursion HasNoLineFeed fields → HasNoLineFeed (spaced fields)
-spaced_clean [] clean = refl
-spaced_clean (field ∷ []) clean = clean.0
-spaced_clean (field ∷ next ∷ fields) clean =
-    both_clean (field ++ codes " ") (spaced (next ∷ fields)) (both_clean field (codes " ") clean.0 refl) (spaced_clean (next ∷ fields) clean.1)
 
 signed_clean : (z : ℤ) → HasNoLineFeed (signed_text z)
 signed_clean (pos n) = number_clean n
 signed_clean (negsuc n) = number_clean (suc n)
-
-bit_clean : (bit : Bool) → HasNoLineFeed (bit_text bit)
-bit_clean false = refl
-bit_clean true = refl
 
 weight_clean : (weight : Weight) → HasNoLineFeed (weight_text weight)
 weight_clean Unknown = refl

@@ -8,7 +8,6 @@ use Rattle.std.specs.Option.{option_map}
 use Rattle.std.proofs.lemmas.Bool.{ne_eqb, or_right}
 use Rattle.std.proofs.lemmas.Grind.{flat_map-append}
 use Rattle.std.proofs.lemmas.List.{append-nil}
-use Rattle.std.proofs.lemmas.List.Folds.{list_any-append}
 use Rattle.text_model.specs.Laws.{HasNoLineFeed, ended}
 use Rattle.text_model.specs.Lines.{is_line_feed}
 use Rattle.text_model.specs.LineTests.{is_blank_line}
@@ -21,6 +20,7 @@ use Rattle.profile_model.specs.Ways.{Kind, Step, Way, beginnings, body, call, fu
 use Rattle.profile_tree.proofs.ListLemmas.{SomeAll, all_append, all_beginnings, all_ordered}
 use Rattle.repair_model.specs.Laws.{IsPassedOver}
 use Rattle.repair_model.specs.Line.{begins_function}
+pub use Rattle.repair_model.proofs.BackLemmas.{both_clean}
 use Rattle.report_model.specs.declared.class.Reason.{Reason}
 use Rattle.report_model.specs.declared.class.Reason.TheVariants.{FromOutside, FromNameless, FromNoLine, ToOutside, ToNameless}
 use Rattle.report_model.specs.Report.{Classes, Sampled, branches_text, lines_for, number_line, ranges_text, reasons, report_text, units_text, unmapped_for, unmapped_line, word_of}
@@ -75,9 +75,6 @@ weaker {P} {Q} text gives are = record { lines = are.lines; joined = are.joined;
     each (line ∷ lines) all = (gives line all.0, each lines all.1)
 
 -- ---- no line feed
-
-pub both_clean : (xs ys : List ℕ) → HasNoLineFeed xs → HasNoLineFeed ys → HasNoLineFeed (xs ++ ys)
-both_clean xs ys one other = list_any-append is_line_feed xs ys ∙ ap (λ t. t || list_any is_line_feed ys) one ∙ other
 
 -- Digits are above any line feed, and above `#`.
 glyph_high : (upper : Bool) (d : ℕ) → 48 ≤ digit_glyph upper d

@@ -1,9 +1,10 @@
 -- The repairs that `build` writes are read as repairs of which no line fails.
-use Rattle.std.proofs.Common.{◌≡◌, ℕ, suc, ◌+◌, Bool, true, false, List, [], ◌∷◌, ◌++◌, length, map, Option, None, Some, refl, sym, ap, ◌∙◌, subst}
+use Rattle.std.proofs.Common.{◌≡◌, ℕ, ◌+◌, Bool, true, false, List, [], ◌∷◌, ◌++◌, length, map, Option, None, Some, refl, sym, ap, ◌∙◌, subst}
 use Rattle.std.specs.Prelude.{ℤ, is_some, if◌then◌else◌}
 use Rattle.std.specs.List.{AllByRecursion, AllZip, enumerate_from}
 use Rattle.std.specs.Option.{option_or}
 use Rattle.std.proofs.lemmas.List.{length-map}
+use Rattle.list_lemmas.proofs.Each.{length_all_zip as same_length}
 use Rattle.block_model.specs.declared.parts.Block.{Block}
 use Rattle.block_model.specs.declared.parts.Edge.{Edge}
 use Rattle.block_model.specs.declared.parts.Weight.{Weight}
@@ -25,6 +26,7 @@ use Rattle.repair_model.specs.Repair.{Repair, Solution, flow, cut, has_counts}
 use Rattle.flow_model.specs.Sides.{at_side}
 use Rattle.repair_model.specs.Text.{first_line, last_line, line_of_edge, lines_of_blocks, lines_of_edges, lines_of_repair, numbers, repair_text, text_of_lines}
 use Rattle.repair_model.proofs.CheckLemmas.{passing_lines_repair}
+use Rattle.repair_model.proofs.BackLemmas.{all_split}
 use Rattle.command_laws.proofs.BlockLemmas.{IsField}
 use Rattle.profile_tree.proofs.ListLemmas.{all_append}
 
@@ -61,12 +63,6 @@ cut_kept blocks edges weights f g root ins outs first second (sides, least, most
 
 -- ---- one function
 
-same_length : {A B : Type 0} (R : A → B → Type 0) (xs : List A) (ys : List B) → AllZip R xs ys → length ys ≡ length xs
-same_length R [] [] all = refl
-same_length R [] (y ∷ ys) all = absurd all
-same_length R (x ∷ xs) [] all = absurd all
-same_length R (x ∷ xs) (y ∷ ys) all = ap suc (same_length R xs ys all.1)
-
 -- A repair of a function as a text of repairs has it, which repairs the network that its own weights tell.
 pub record IsReadable (weighed : Bool) (fun : Function) (text : List ℕ) : Type 0 where
   pub repair : Repair
@@ -81,10 +77,6 @@ told_repair weights edge_weights solution first second =
 recast : {X Y : Type 0} (P Q : Y → Type 0) (f : X → Y) (xs : List X) → ((x : X) → P (f x) → Q (f x)) → AllByRecursion P (map f xs) → AllByRecursion Q (map f xs)
 recast P Q f [] each all = tt
 recast P Q f (x ∷ xs) each all = (each x all.0, recast P Q f xs each all.1)
-
-all_split : {X : Type 0} (P : X → Type 0) (xs ys : List X) → AllByRecursion P (xs ++ ys) → AllByRecursion P xs × AllByRecursion P ys
-all_split P [] ys all = (tt, all)
-all_split P (x ∷ xs) ys all = let rest = all_split P xs ys all.1 in ((all.0, rest.0), rest.1)
 
 edge_told : (weighed : Bool) (weights : List Weight) (solution : Solution) (placed : ℕ × Edge) → FitsBits (line_of_edge weighed weights solution placed) → CanBeTold (line_of_edge weighed weights solution placed)
 edge_told weighed weights solution (place, edge) fits = fits

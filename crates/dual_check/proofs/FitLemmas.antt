@@ -1,5 +1,5 @@
 -- What one unit more and one less cost.
-use Rattle.std.proofs.Common.{◌≡◌, ℕ, suc, ◌+◌, ◌-◌, ◌*◌, ◌<◌, ◌≤◌, arith, ap, sym, subst}
+use Rattle.std.proofs.Common.{◌≡◌, ℕ, ◌+◌, ◌-◌, ◌<◌, ◌≤◌, arith, ap, sym, subst}
 use Rattle.std.specs.Prelude.{ℤ, pos, ◌-ℤ◌, ◌≤ℤ◌, neg_ℤ, List, Bool, Option, Some, None}
 use Rattle.std.specs.Option.{option_map}
 use Rattle.std.proofs.lemmas.Int.{ints}
@@ -7,23 +7,7 @@ use Rattle.flow_model.specs.declared.arc.Arc.{Arc}
 use Rattle.flow_model.specs.Circulation.{cost_on}
 use Rattle.flow_model.specs.Cut.{IsCut, least_in, most_out}
 use Rattle.flow_model.specs.Prices.{IsBelow, FitsOn}
-
--- a unit above the weight costs `up`, and one below it saves `down`
-rises : (up down weight n : ℕ) → weight ≤ n
-    → up * ((n + 1) - weight) + down * (weight - (n + 1)) ≡ up * (n - weight) + down * (weight - n) + up
-rises up down weight n past =
-    let more : (n + 1) - weight ≡ suc (n - weight) = omega arith in
-    let none : weight - (n + 1) ≡ 0 = omega arith in
-    let nothing : weight - n ≡ 0 = omega arith in
-    rw (more, none, nothing) (omega arith)
-
-falls : (up down weight n : ℕ) → n < weight
-    → up * (n - weight) + down * (weight - n) ≡ up * ((n + 1) - weight) + down * (weight - (n + 1)) + down
-falls up down weight n before =
-    let more : weight - n ≡ suc (weight - (n + 1)) = omega arith in
-    let none : n - weight ≡ 0 = omega arith in
-    let nothing : (n + 1) - weight ≡ 0 = omega arith in
-    rw (more, none, nothing) (omega arith)
+use Rattle.residual_model.proofs.PushLemmas.{falls, rises}
 
 pub more_above : (arc : Arc) (n : ℕ) → arc.weight ≤ n → pos (cost_on arc (n + 1)) -ℤ pos (cost_on arc n) ≡ pos arc.up
 more_above arc n past = let step = rises arc.up arc.down arc.weight n past in omega (arith, ints, step)

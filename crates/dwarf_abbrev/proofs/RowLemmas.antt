@@ -2,7 +2,7 @@
 use Rattle.std.proofs.Common.{◌≡◌, ℕ, ◌+◌, ◌-◌, ◌<◌, ◌≤◌, true, cond, nat_le, nat_lt, List, [], ◌∷◌, ◌++◌, length, map, take, drop, zero, suc, not, None, Some, refl, sym, ap, subst, ◌∙◌, inl, inr, arith}
 use Rattle.std.specs.Prelude.{◌==◌, position, is_some, slice_range, slice_get}
 use Rattle.std.specs.List.{AllByRecursion, position_or_len}
-use Rattle.std.proofs.lemmas.List.{length-append, length-drop, drop-append-le, take-append-le, map-append, drop_at, take_all}
+use Rattle.std.proofs.lemmas.List.{length-append, length-drop, drop-append-le, take-append-le, map-append, drop_at, take_all, length-map}
 use Rattle.std.proofs.lemmas.Bool.Decides.{nat_tests}
 use Rattle.std.proofs.lemmas.List.Folds.{find_at}
 use Rattle.std.proofs.lemmas.Option.{slice_get_cases}
@@ -76,12 +76,8 @@ codes_of attrs (row ∷ rows) = ap (λ (cs : List ℕ). row.code ∷ cs) (codes_
 codes-are : (rows : AbbrevRows) → IsWhole rows → map (λ (a : Abbrev). a.code) (table_of rows) ≡ rows.codes
 codes-are rows is = codes_of rows.attrs.items rows.rows.items ∙ is.codes
 
-length-map : {X Y : Type 0} (f : X → Y) (xs : List X) → length (map f xs) ≡ length xs
-length-map f [] = refl
-length-map f (x ∷ xs) = let ih = length-map f xs in omega arith
-
 length-is : (rows : AbbrevRows) → length (table_of rows) ≡ length rows.rows.items
-length-is rows = length-map (abbrev_of_row rows.attrs.items) rows.rows.items
+length-is rows = length-map rows.rows.items (abbrev_of_row rows.attrs.items)
 
 position-map : (table : List Abbrev) (code : ℕ) → position_or_len (λ (a : Abbrev). a.code == code) table ≡ position_or_len (λ c. c == code) (map (λ (a : Abbrev). a.code) table)
 position-map [] code = refl
@@ -109,7 +105,7 @@ place-some rows code place is some =
     let table = table_of rows in
     let codes = codes-are rows is in
     let at = position-Some (λ c. c == code) rows.codes place 0 some in
-    let n : length table ≡ length rows.codes = sym (length-map (λ (a : Abbrev). a.code) table) ∙ ap (λ (cs : List ℕ). length cs) codes in
+    let n : length table ≡ length rows.codes = sym (length-map table (λ (a : Abbrev). a.code)) ∙ ap (λ (cs : List ℕ). length cs) codes in
     let first : position_or_len (λ (a : Abbrev). a.code == code) table ≡ place =
     position-map table code ∙ ap (λ (cs : List ℕ). position_or_len (λ c. c == code) cs) codes ∙ position_is rows.codes code place some in
     record {
@@ -122,7 +118,7 @@ unfolding find_code
 place-none rows code is none =
     let table = table_of rows in
     let codes = codes-are rows is in
-    let n : length table ≡ length rows.codes = sym (length-map (λ (a : Abbrev). a.code) table) ∙ ap (λ (cs : List ℕ). length cs) codes in
+    let n : length table ≡ length rows.codes = sym (length-map table (λ (a : Abbrev). a.code)) ∙ ap (λ (cs : List ℕ). length cs) codes in
     let past : length rows.codes ≤ position_or_len (λ c. c == code) rows.codes = position_past rows.codes code none in
     let first : position_or_len (λ (a : Abbrev). a.code == code) table ≡ position_or_len (λ c. c == code) rows.codes =
     position-map table code ∙ ap (λ (cs : List ℕ). position_or_len (λ c. c == code) cs) codes in
@@ -156,7 +152,7 @@ pub place-is : (rows : AbbrevRows) (code : ℕ) → IsWhole rows → position (�
 place-is rows code is =
     let table = table_of rows in
     let codes = codes-are rows is in
-    let n : length table ≡ length rows.codes = sym (length-map (λ (a : Abbrev). a.code) table) ∙ ap (λ (cs : List ℕ). length cs) codes in
+    let n : length table ≡ length rows.codes = sym (length-map table (λ (a : Abbrev). a.code)) ∙ ap (λ (cs : List ℕ). length cs) codes in
     let first : position_or_len (λ (a : Abbrev). a.code == code) table ≡ position_or_len (λ c. c == code) rows.codes =
     position-map table code ∙ ap (λ (cs : List ℕ). position_or_len (λ c. c == code) cs) codes in
     ap (λ k. cond (nat_lt k (length table)) (Some k) None) first

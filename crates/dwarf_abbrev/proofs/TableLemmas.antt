@@ -46,7 +46,7 @@ TableSoFar-end start old new cur next false so_far is read = (
 pub judged_table : (start cur : Cursor) (list : List Abbrev) → table start ≡ Ok (list, cur) → (refused_at (table start) ≡ None) × IsRead (table start) list
 judged_table start cur list is = (ap refused_at is, (cur, is))
 
-stopped : {T : Type 0} (r : Result T Stop) (stop : Stop) → IsErrAnd r (λ s. s ≡ stop) → r ≡ Err stop
+pub stopped : {T : Type 0} (r : Result T Stop) (stop : Stop) → IsErrAnd r (λ s. s ≡ stop) → r ≡ Err stop
 stopped (Ok x) stop is = absurd is
 stopped (Err s) stop is = ap Err is
 

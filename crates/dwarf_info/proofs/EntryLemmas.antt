@@ -1,7 +1,7 @@
 -- The entries of a unit, one by one.
-use Rattle.std.proofs.Common.{◌≡◌, ℕ, ◌+◌, ◌-◌, ◌<◌, ◌≤◌, Bool, true, false, cond, nat_lt, nat_le, List, [], ◌∷◌, ◌++◌, length, map, take, drop, None, Some, Result, Ok, Err, refl, sym, ap, subst, ◌∙◌, arith}
+use Rattle.std.proofs.Common.{◌≡◌, ℕ, ◌+◌, ◌-◌, ◌<◌, ◌≤◌, Bool, true, false, cond, nat_lt, nat_le, List, [], ◌∷◌, ◌++◌, length, take, drop, None, Some, Result, Ok, Err, refl, sym, ap, subst, ◌∙◌, arith}
 use Rattle.std.specs.Prelude.{slice_range}
-use Rattle.std.proofs.lemmas.List.{length-append, length-drop, drop-append-le, take-append-le, map-append, drop_at, take_all}
+use Rattle.std.proofs.lemmas.List.{length-append, length-drop, drop-append-le, take-append-le, map-append, drop_at, take_all, length-map}
 use Rattle.byte_view.specs.Cursor.{Cursor}
 use Rattle.refusal.specs.declared.place.Place.{Place}
 use Rattle.placed_view.specs.Reader.{behind, gives}
@@ -13,10 +13,12 @@ use Rattle.refusal.specs.declared.kind.Kind.TheVariants.{TooManyEntries}
 use Rattle.refusal.specs.declared.place.Stop.{Stop}
 use Rattle.refusal.specs.declared.place.Stop.TheVariants.{Refused, NoMemory}
 use Rattle.refusal.specs.Place.{fails_at, in_binary}
+use Rattle.refusal.proofs.PlaceLemmas.{fails_at-none}
 use Rattle.dwarf_info.specs.Values.{ReadsValues}
 use Rattle.unit_model.specs.Abbrev.{Abbrev}
 use Rattle.unit_model.specs.Values.{Found, values}
 use Rattle.unit_model.specs.Entries.{Entry, InUnit, SoFar, max_entries, entry_of, next_entry, entries}
+use Rattle.dwarf_abbrev.proofs.TableLemmas.{stopped}
 use Rattle.dwarf_info.specs.declared.rows.EntryRow.{EntryRow}
 use Rattle.dwarf_info.specs.declared.rows.Entries.{Entries}
 use Rattle.dwarf_info.specs.Rows.{entry_of_row, IsWithin, entries_of, AreWithin, row_made}
@@ -72,19 +74,11 @@ AddsEntry-row old new row own mid whole more mid_is found_is rows first count =
           ∙ ap (λ (fs : List Found). all_of old ++ record { at = row.at; depth = row.depth; tag = row.tag; unit = row.unit; found = fs } ∷ []) (last_range old.found own row.first (row.first + row.count) first to);
     }
 
-length-map : {X Y : Type 0} (f : X → Y) (xs : List X) → length (map f xs) ≡ length xs
-length-map f [] = refl
-length-map f (x ∷ xs) = let ih = length-map f xs in omega arith
-
 -- whether the file has as many entries as there can be
 pub is_full-is : (entries : Entries) → nat_le max_entries (length (all_of entries)) ≡ nat_le 16777216 (length entries.rows.items)
-is_full-is entries = ap (nat_le max_entries) (length-map (entry_of_row entries.found) entries.rows.items)
+is_full-is entries = ap (nat_le max_entries) (length-map entries.rows.items (entry_of_row entries.found))
 
 pub ruleset entry_lemmas = (is_full-is)
-
-passed : (cause : Bool) (place : Place) → fails_at cause place ≡ None → cause ≡ false
-passed true place is = absurd cc
-passed false place is = refl
 
 entry_of-ok : (of : InUnit) (at : ℕ) (kind : Abbrev) (so_far : SoFar) (cur next : Cursor) (own : List Found) → nat_lt 1024 so_far.depth ≡ false → nat_le max_entries (length so_far.entries) ≡ false
     → values of.wide kind.tag kind.attrs cur ≡ Ok (own, next)
@@ -107,11 +101,11 @@ pub entry-read : (of : InUnit) (at : ℕ) (kind : Abbrev) (old new : Entries) (d
     → first ≡ length old.found → own_count ≡ length mid - first → deeper ≡ cond kind.children (depth + 1) depth
     → IsWhole new × (entry_of of at kind (record { depth = depth; entries = all_of old }) cur ≡ Ok ((record { depth = deeper; entries = all_of new }), next))
 entry-read of at kind old new depth deeper count first own_count row cur next own mid p q whole shallow room counted read mid_is found_is rows row_is first_is own_is deeper_is =
-    let few : nat_le max_entries (length (all_of old)) ≡ false = is_full-is old ∙ ap (nat_le 16777216) (sym counted) ∙ passed (nat_le 16777216 count) q room in
+    let few : nat_le max_entries (length (all_of old)) ≡ false = is_full-is old ∙ ap (nat_le 16777216) (sym counted) ∙ fails_at-none (nat_le 16777216 count) q room in
     let made = rows ∙ ap (λ (r : EntryRow). old.rows.items ++ r ∷ []) row_is in
     let adds = AddsEntry-row old new (row_made at kind.tag depth of.unit first own_count) own mid whole (leb-false 16777216 (length old.rows.items) (sym (is_full-is old) ∙ few)) mid_is found_is made first_is own_is in (
       adds.whole,
-      entry_of-ok of at kind (record { depth = depth; entries = all_of old }) cur next own (passed (nat_lt 1024 depth) p shallow) few read
+      entry_of-ok of at kind (record { depth = depth; entries = all_of old }) cur next own (fails_at-none (nat_lt 1024 depth) p shallow) few read
           ∙ ap (λ (n : ℕ). Ok ((record { depth = n; entries = all_of old ++ record { at = at; depth = depth; tag = kind.tag; unit = of.unit; found = own } ∷ [] }), next)) (sym deeper_is)
           ∙ ap (λ (es : List Entry). Ok ((record { depth = deeper; entries = es }), next)) (sym adds.all),
     )
@@ -149,10 +143,6 @@ EntriesSoFar-end of table before start new depth cur so_far none =
 
 -- ---- what stops an entry, and the entries
 
-pub stopped : {T : Type 0} (r : Result T Stop) (why : Stop) → IsErrAnd r (λ s. s ≡ why) → r ≡ Err why
-stopped (Ok x) why is = absurd is
-stopped (Err s) why is = ap Err is
-
 refused : (cause : Bool) (p told : Place) → fails_at cause p ≡ Some told → (cause ≡ true) × (p ≡ told)
 refused true p told is = (refl, cc)
 refused false p told is = absurd cc
@@ -174,7 +164,7 @@ entry-full of at kind old new depth count cur next p q told r shallow here full 
     let is = refused (nat_le 16777216 count) q told full in
     let many : nat_le max_entries (length (all_of old)) ≡ true = is_full-is old ∙ ap (nat_le 16777216) (sym counted) ∙ is.0 in
     subst (λ (x : Result ℕ Stop). ReadsSoFar x new next (entry_of of at kind (record { depth = depth; entries = all_of old }) cur)) (sym (stopped r (Refused told) why))
-    (entry_of-full of at kind (record { depth = depth; entries = all_of old }) cur (passed (nat_lt 1024 depth) p shallow) many ∙ ap Err (sym here ∙ is.1))
+    (entry_of-full of at kind (record { depth = depth; entries = all_of old }) cur (fails_at-none (nat_lt 1024 depth) p shallow) many ∙ ap Err (sym here ∙ is.1))
 
 entry_stop : (of : InUnit) (at : ℕ) (kind : Abbrev) (so_far : SoFar) (new : Entries) (old_found new_found : List Found) (cur mid next : Cursor) (why : Stop)
     → nat_lt 1024 so_far.depth ≡ false → nat_le max_entries (length so_far.entries) ≡ false
@@ -187,9 +177,9 @@ pub entry-stop : (of : InUnit) (at : ℕ) (kind : Abbrev) (old new : Entries) (o
     → ReadsValues (Err why) old_found new_found mid (values of.wide kind.tag kind.attrs cur) → IsErrAnd r (λ s. s ≡ why)
     → ReadsSoFar r new next (entry_of of at kind (record { depth = depth; entries = all_of old }) cur)
 entry-stop of at kind old new old_found new_found depth count cur mid next p q why r shallow room counted read is =
-    let few : nat_le max_entries (length (all_of old)) ≡ false = is_full-is old ∙ ap (nat_le 16777216) (sym counted) ∙ passed (nat_le 16777216 count) q room in
+    let few : nat_le max_entries (length (all_of old)) ≡ false = is_full-is old ∙ ap (nat_le 16777216) (sym counted) ∙ fails_at-none (nat_le 16777216 count) q room in
     subst (λ (x : Result ℕ Stop). ReadsSoFar x new next (entry_of of at kind (record { depth = depth; entries = all_of old }) cur)) (sym (stopped r why is))
-    (entry_stop of at kind (record { depth = depth; entries = all_of old }) new old_found new_found cur mid next why (passed (nat_lt 1024 depth) p shallow) few read)
+    (entry_stop of at kind (record { depth = depth; entries = all_of old }) new old_found new_found cur mid next why (fails_at-none (nat_lt 1024 depth) p shallow) few read)
 
 entries_stop : (of : InUnit) (table : List Abbrev) (before : List Entry) (start : Cursor) (old new : Entries) (depth : ℕ) (cur next : Cursor) (why : Stop) → EntriesSoFar of table before start old depth cur
     → 0 < length cur.left → ReadsSoFar (Err why) new next (next_entry of table (record { depth = depth; entries = all_of old }) cur)

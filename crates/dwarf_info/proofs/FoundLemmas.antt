@@ -1,11 +1,11 @@
 -- A look-up among rows, as one among entries.
-use Rattle.std.proofs.Common.{◌≡◌, ℕ, ◌+◌, ◌<◌, ◌≤◌, ◌≢◌, zero, suc, true, false, inl, inr, ltb, cond, not, nat_lt, List, [], ◌∷◌, length, map, get_or, None, Some, refl, ap, ◌∙◌, arith}
+use Rattle.std.proofs.Common.{◌≡◌, ℕ, ◌+◌, ◌<◌, ◌≤◌, ◌≢◌, zero, suc, true, false, inl, inr, ltb, cond, not, nat_lt, List, [], ◌∷◌, length, get_or, None, Some, refl, ap, ◌∙◌, arith}
 use Rattle.std.specs.Prelude.{◌==◌, position, AllPairs}
 use Rattle.std.specs.List.{position_or_len}
 use Rattle.std.specs.Option.{option_map}
 use Rattle.std.specs.List.Sorted.{IsNonDecreasingBy, IsPartitionPoint}
 use Rattle.std.proofs.lemmas.Bool.{cases_lt, ltb-true, ltb-false, le-ltb, ne_eqb}
-use Rattle.std.proofs.lemmas.List.{get_or-map}
+use Rattle.std.proofs.lemmas.List.{get_or-map, length-map}
 use Rattle.std.proofs.lemmas.Option.{slice_get-map, slice_get_read}
 use Rattle.unit_model.specs.Values.{Found}
 use Rattle.unit_model.specs.Entries.{Entry}
@@ -17,14 +17,10 @@ position_or_len-rows : (found : List Found) (rows : List EntryRow) (at : ℕ) �
 position_or_len-rows found [] at = refl
 position_or_len-rows found (row ∷ rows) at = ap (λ n. cond (not (row.at == at)) (1 + n) 0) (position_or_len-rows found rows at)
 
-length-map : {X Y : Type 0} (f : X → Y) (xs : List X) → length (map f xs) ≡ length xs
-length-map f [] = refl
-length-map f (x ∷ xs) = let ih = length-map f xs in omega arith
-
 position-rows : (found : List Found) (rows : List EntryRow) (at : ℕ) → position (λ (e : Entry). e.at == at) (entries_of found rows) ≡ position (λ (r : EntryRow). r.at == at) rows
 position-rows found rows at =
     ap (λ n. cond (nat_lt n (length (entries_of found rows))) (Some n) None) (position_or_len-rows found rows at)
-    ∙ ap (λ n. cond (nat_lt (position_or_len (λ (r : EntryRow). r.at == at) rows) n) (Some (position_or_len (λ (r : EntryRow). r.at == at) rows)) None) (length-map (entry_of_row found) rows)
+    ∙ ap (λ n. cond (nat_lt (position_or_len (λ (r : EntryRow). r.at == at) rows) n) (Some (position_or_len (λ (r : EntryRow). r.at == at) rows)) None) (length-map rows (entry_of_row found))
 
 get_or-any : (xs : List EntryRow) (i : ℕ) (a b : EntryRow) → i < length xs → get_or xs i a ≡ get_or xs i b
 get_or-any [] i a b inside = absurd (omega (arith, inside))
@@ -92,7 +88,7 @@ FindsEntry-none found rows at place past first =
 
 pub rows-ascend : (found : List Found) (rows : List EntryRow) → AllPairs (λ (before after : Entry). before.at < after.at) (entries_of found rows) → Ascend rows
 rows-ascend found rows ascend i j d less within =
-    let long = length-map (entry_of_row found) rows in
+    let long = length-map rows (entry_of_row found) in
     let e = entry_of_row found d in
     let below = ascend i j e less (omega (arith, within, long)) in
     let first : (get_or (entries_of found rows) i e).at ≡ (get_or rows i d).at = ap (λ (e : Entry). e.at) (get_or-map (entry_of_row found) rows i d e (omega (arith, less, within))) in

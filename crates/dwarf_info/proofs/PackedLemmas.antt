@@ -1,18 +1,14 @@
 -- Packed attributes, as those that they stand for.
-use Rattle.std.proofs.Common.{◌≡◌, ℕ, ◌+◌, ◌-◌, ◌<◌, List, [], ◌∷◌, ◌++◌, length, map, take, drop, get_or, Option, None, Some, refl, sym, ap, subst, ◌∙◌, arith}
+use Rattle.std.proofs.Common.{◌≡◌, ℕ, ◌+◌, ◌-◌, ◌<◌, List, [], ◌∷◌, ◌++◌, length, take, drop, get_or, Option, None, Some, refl, sym, ap, subst, ◌∙◌, arith}
 use Rattle.std.specs.Prelude.{slice_range}
 use Rattle.std.specs.Borrow.{Bor}
-use Rattle.std.proofs.lemmas.List.{length-append, map-append, append-nil, get_or_append_left, get_or-append-add, drop-map, take-map}
+use Rattle.std.proofs.lemmas.List.{length-append, map-append, append-nil, get_or_append_left, get_or-append-add, drop-map, take-map, length-map}
 use Rattle.value_model.specs.Value as model
 use Rattle.unit_model.specs.Values.{Found}
 use Rattle.dwarf_info.specs.declared.packed.ValueClass.{ValueClass}
 use Rattle.dwarf_info.specs.declared.packed.ValueClass.TheVariants as classes
 use Rattle.dwarf_info.specs.declared.packed.Packed.{Packed}
 use Rattle.dwarf_info.specs.Packed.{texts_of, by_number, or_text, value_of, found_of, all_found, IsText, AreHeld, Extends, IsKeptAs, IsPackedAs}
-
-length-map : {X Y : Type 0} (f : X → Y) (xs : List X) → length (map f xs) ≡ length xs
-length-map f [] = refl
-length-map f (x ∷ xs) = let ih = length-map f xs in omega arith
 
 -- ---- one value
 
@@ -27,10 +23,10 @@ kept-number texts value class n told = record {
 pub kept-text : (texts : List (Bor (List ℕ))) (text : Bor (List ℕ)) (n : ℕ) → n ≡ length texts → IsKeptAs (texts_of (texts ++ text ∷ [])) (model.text text.now) classes.Text n
 kept-text texts text n at =
     let all : texts_of (texts ++ text ∷ []) ≡ texts_of texts ++ text.now ∷ [] = map-append (λ (t : Bor (List ℕ)). t.now) texts (text ∷ []) in
-    let long : length (texts_of texts) ≡ length texts = length-map (λ (t : Bor (List ℕ)). t.now) texts in
+    let long : length (texts_of texts) ≡ length texts = length-map texts (λ (t : Bor (List ℕ)). t.now) in
     let place : n ≡ length (texts_of texts) + 0 = omega (arith, at, long) in
     record {
-      held = λ none. omega (arith, at, length-map (λ (t : Bor (List ℕ)). t.now) (texts ++ text ∷ []), length-append texts (text ∷ []));
+      held = λ none. omega (arith, at, length-map (texts ++ text ∷ []) (λ (t : Bor (List ℕ)). t.now), length-append texts (text ∷ []));
       is = ap (λ (ts : List (List ℕ)). model.text (get_or ts n [])) all
           ∙ ap (λ (k : ℕ). model.text (get_or (texts_of texts ++ text.now ∷ []) k [])) place
           ∙ ap (λ (t : List ℕ). model.text t) (get_or-append-add (texts_of texts) (text.now ∷ []) 0 []);
@@ -102,7 +98,7 @@ all-pushed old new packed newer more found extends held is pushed =
 -- ---- those of an entry
 
 pub all-long : (texts : List (List ℕ)) (packed : List Packed) → length (all_found texts packed) ≡ length packed
-all-long texts packed = length-map (found_of texts) packed
+all-long texts packed = length-map packed (found_of texts)
 
 pub all-slice : (texts : List (List ℕ)) (packed : List Packed) (first end : ℕ) → all_found texts (slice_range packed first end) ≡ slice_range (all_found texts packed) first end
 all-slice texts packed first end =

@@ -1,11 +1,11 @@
 -- Attributes that tell nothing change no value and no refusal.
-use Rattle.std.proofs.Common.{◌≡◌, ◌≢◌, ℕ, ℤ, pos, negsuc, not, nat_lt, nat_le, ◌-◌, ◌⊎◌, ◌+◌, ◌<◌, ◌≤◌, Bool, true, false, cond, List, [], ◌∷◌, ◌++◌, length, map, take, get_or, Option, None, Some, Ok, Err, refl, sym, ap, subst, ◌∙◌, inl, inr, arith}
+use Rattle.std.proofs.Common.{◌≡◌, ◌≢◌, ℕ, ℤ, pos, negsuc, not, nat_lt, nat_le, ◌-◌, ◌⊎◌, ◌+◌, ◌<◌, Bool, true, false, cond, List, [], ◌∷◌, ◌++◌, length, map, take, get_or, Option, None, Some, Ok, Err, refl, sym, ap, subst, ◌∙◌, inl, inr, arith}
 use Rattle.std.specs.Prelude.{◌==◌, ◌||◌, ◌&&◌, ◌^◌, min, position, slice_get, sum_by}
 use Rattle.std.specs.Option.{option_map}
 use Rattle.std.specs.List.{position_or_len}
-use Rattle.std.proofs.lemmas.Bool.{cases_Bool, or_cases, or_parts, or_from, or_left, or_right, and_cases, cond-true, cond-false, eqb-true, eq-eqb, ne_eqb}
+use Rattle.std.proofs.lemmas.Bool.{cases_Bool, or_cases, or_parts, or_from, or_left, or_right, and_cases, cond-true, cond-false, eqb-true, eq-eqb, ne_eqb, and_parts}
 use Rattle.std.proofs.lemmas.Bool.Decides.{nat_tests}
-use Rattle.std.proofs.lemmas.Option.{slice_get_read, slice_get_past, slice_get_within, slice_get-map, get_or_from_slice_get}
+use Rattle.std.proofs.lemmas.Option.{slice_get_read, slice_get_within, slice_get-map, get_or_from_slice_get}
 use Rattle.std.proofs.lemmas.List.{length-map, map-append, take_more}
 use Rattle.std.proofs.lemmas.List.Quantifiers.{position-Some}
 use Rattle.std.proofs.lemmas.List.Sums.{sum_by_push}
@@ -59,10 +59,6 @@ takes_no_bytes wide attr cur none =
 
 -- ---- an attribute that tells nothing
 
-both_true : (a b : Bool) → (a && b) ≡ true → (a ≡ true) × (b ≡ true)
-both_true true b e = (refl, e)
-both_true false b e = absurd cc
-
 accepts-unused : (purpose : Use) (x : Value) → is_unused purpose ≡ true → accepts purpose x ≡ true
 accepts-unused unused x is = refl
 accepts-unused as_text x is = absurd cc
@@ -103,11 +99,11 @@ nothing_told : (wide : Bool) (tag : ℕ) (told : List ℕ) (attr : Attr) (found 
 nothing_told wide tag told attr found cur are nothing =
     elim (or_cases (takes_none attr.form && is_unused (wanted tag attr.name)) (is_implicit attr.form && is_among told attr.name) nothing) [
       | inl idle ↦
-          let both = both_true (takes_none attr.form) (is_unused (wanted tag attr.name)) idle in
+          let both = and_parts (takes_none attr.form) (is_unused (wanted tag attr.name)) idle in
           let none = takes_no_bytes wide attr cur both.0 in
           next_value-same wide tag attr found cur none.x none.is (accepts-unused (wanted tag attr.name) none.x both.1) (or_left (is_unused (wanted tag attr.name)) (has_name found attr.name) both.1)
       | inr again ↦
-          let both = both_true (is_implicit attr.form) (is_among told attr.name) again in
+          let both = and_parts (is_implicit attr.form) (is_among told attr.name) again in
           let is = are attr.name both.1 in
           next_value-same wide tag attr found cur (signed_const attr.implicit) (implicit_here wide attr cur both.0) (accepts-signed (wanted tag attr.name) attr.implicit ∙ is.1)
           (or_right (is_unused (wanted tag attr.name)) (has_name found attr.name) is.0)
@@ -266,12 +262,6 @@ kind-found table kinds code index kind are is here =
     sym (slice_get_read kinds (length kinds) index kind refl (index-within table kinds code index are is) here)
     ∙ ap (λ (ks : List Abbrev). slice_get ks index) are ∙ slice_get-map shortened table index
     ∙ ap (option_map shortened) (sym (find_at (λ (a : Abbrev). a.code == code) table ∙ ap (slice_get table) first))
-
-pub unfound : (table : List Abbrev) (code : ℕ) → position (λ (a : Abbrev). a.code == code) table ≡ None → find_code table code ≡ None
-unfolding find_code
-unfound table code none =
-    let past : length table ≤ position_or_len (λ (a : Abbrev). a.code == code) table = grind (arith, nat_tests) in
-    find_at (λ (a : Abbrev). a.code == code) table ∙ slice_get_past table _ past
 
 pub kinds-more : (table kinds : List Abbrev) (index : ℕ) (kind : Abbrev) → kinds ≡ map shortened (take index table) → slice_get table index ≡ Some kind
     → kinds ++ shortened kind ∷ [] ≡ map shortened (take (index + 1) table)

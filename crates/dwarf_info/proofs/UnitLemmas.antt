@@ -23,8 +23,8 @@ use Rattle.dwarf_info.specs.declared.units.Extent.{Extent}
 use Rattle.dwarf_info.specs.Entries.{all_of, IsWhole}
 use Rattle.dwarf_info.specs.Units.{units_of, extent_of, IsRead, IsReadTo, ReadsUnit, ReadsNext, SkipsUnit}
 use Rattle.entry_model.proofs.OrderLemmas.{entries-in_order, units-share_entries}
+use Rattle.dwarf_abbrev.proofs.TableLemmas.{stopped}
 use Rattle.dwarf_info.specs.Kept.{AreKept}
-use Rattle.dwarf_info.proofs.EntryLemmas.{stopped}
 
 skipped-is : (old new : UnitsRead) (extent : Extent) → SkipsUnit old new extent → units_of new ≡ model.with_skipped (extent_of extent) (units_of old)
 skipped-is old new extent skips =
@@ -48,10 +48,7 @@ pub ruleset skip_lemmas = (IsRead-skipped)
 
 no_cut : (size : ℕ) (left : List ℕ) (fault : ViewFault) → size ≤ length left → run_at size left ≡ Err fault → ⊥
 unfolding run_at
-no_cut size left fault fits cut =
-    let room : nat_lt (length left) size ≡ false = le-ltb (length left) size fits in
-    let is : Err fault ≡ Ok (take size left, drop size left) = sym cut ∙ ap (λ b. cond b (Err Short) (Ok (take size left, drop size left))) room in
-    cc
+no_cut size left fault fits cut = let read = rw (le-ltb (length left) size fits) at cut in cc
 
 pub never_cut : {P : Type 0} (size : ℕ) (left : List ℕ) (fault : ViewFault) → size ≤ length left → run_at size left ≡ Err fault → P
 never_cut size left fault fits cut = absurd (no_cut size left fault fits cut)

@@ -7,6 +7,7 @@ use Rattle.std.proofs.lemmas.Grind.{and_numeral}
 use Rattle.std.proofs.lemmas.List.Folds.{Any-from_list_any, list_any-from_Any}
 use Rattle.refusal.specs.declared.place.Place.{Place}
 use Rattle.refusal.specs.Place.{first_bad}
+use Rattle.refusal.proofs.PlaceLemmas.{first_bad-none}
 use Rattle.elf_model.specs.Tables.{SectionHeader, ProgramHeader, program_headers}
 use Rattle.elf_model.specs.Sections.{start, file_size, section, sections, is_named}
 use Rattle.elf_model.specs.Segments.{is_live, is_code, holds}
@@ -35,10 +36,6 @@ live_ranges_are_code file lo hi =
     (λ e. let h = all.0 e in (h.0.0, h.0.1, h.1), λ h. all.1 ((h.0, h.1), h.2))
 
 -- ---- sections within the file
-
-first_bad-none : (item : Option Place) (items : List (Option Place)) → first_bad (item ∷ items) ≡ None → (item ≡ None) × (first_bad items ≡ None)
-first_bad-none None items h = (refl, h)
-first_bad-none (Some place) items h = absurd cc
 
 first_bad-append_none : (xs ys : List (Option Place)) → first_bad (xs ++ ys) ≡ None → first_bad ys ≡ None
 first_bad-append_none [] ys h = h

@@ -5,6 +5,7 @@ use Rattle.std.specs.List.{list_any}
 use Rattle.std.specs.List.Sorted.{IsNonDecreasingBy, IsPermutation}
 use Rattle.std.proofs.lemmas.List.Folds.{list_any_none}
 use Rattle.std.proofs.lemmas.List.Sorted.{list_any-IsPermutation}
+use mathlib.Core.Bool.{or-false, or_assoc}
 use Rattle.load_model.specs.declared.load_segment.LoadSegment.{LoadSegment}
 use Rattle.elf_model.specs.Tables.{ProgramHeader}
 use Rattle.elf_model.specs.Segments.{is_code, holds, load_of}
@@ -45,16 +46,8 @@ none_held lo hi x xs rising before = list_any_none (is_held lo hi) (x ∷ xs) (�
 either : (hi a b : ℕ) → nat_le hi (max a b) ≡ (nat_le hi a || nat_le hi b)
 either hi a b = grind arith
 
-or_assoc : (x y z : Bool) → (x || (y || z)) ≡ ((x || y) || z)
-or_assoc true y z = refl
-or_assoc false y z = refl
-
-or_false : (x : Bool) → (x || false) ≡ x
-or_false true = refl
-or_false false = refl
-
 reach_tells : (far lo hi : ℕ) (xs : List LoadSegment) → Rising xs → (nat_le hi far || list_any (is_held lo hi) xs) ≡ nat_le hi (farthest far (reaches_from far xs) lo)
-reach_tells far lo hi [] rising = or_false (nat_le hi far)
+reach_tells far lo hi [] rising = or-false (nat_le hi far)
 reach_tells far lo hi (x ∷ xs) rising =
     by (nat_le x.vaddr lo) refl (reach_tells (max far (x.vaddr + x.size)) lo hi xs (rising-rest x xs rising))
   where
@@ -65,12 +58,12 @@ reach_tells far lo hi (x ∷ xs) rising =
         → (nat_le hi far || (nat_le x.vaddr lo && nat_le hi (x.vaddr + x.size) || list_any (is_held lo hi) xs)) ≡ nat_le hi (cond b (farthest end (reaches_from end xs) lo) far)
     by true e rest =
         ap (λ b. nat_le hi far || (b && nat_le hi (x.vaddr + x.size) || list_any (is_held lo hi) xs)) e
-        ∙ or_assoc (nat_le hi far) (nat_le hi (x.vaddr + x.size)) (list_any (is_held lo hi) xs)
+        ∙ sym (or_assoc (nat_le hi far) (nat_le hi (x.vaddr + x.size)) (list_any (is_held lo hi) xs))
         ∙ ap (λ b. b || list_any (is_held lo hi) xs) (sym (either hi far (x.vaddr + x.size)))
         ∙ rest
     by false e rest =
         ap (λ b. nat_le hi far || b) (none_held lo hi x xs rising (leb-false x.vaddr lo e))
-        ∙ or_false (nat_le hi far)
+        ∙ or-false (nat_le hi far)
 
 -- ---- in order
 

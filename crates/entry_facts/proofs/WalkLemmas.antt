@@ -1,5 +1,5 @@
 -- What a reader of a range list has read, and what the list comes to from each of its marks on.
-use Rattle.std.proofs.Common.{◌≡◌, ◌+◌, ◌-◌, ◌<◌, ◌≤◌, ℕ, Bool, true, false, length, drop, List, [], ◌∷◌, ◌++◌, Option, None, Some, Ok, Err, refl, sym, ap, subst, ◌∙◌, arith}
+use Rattle.std.proofs.Common.{◌≡◌, ◌+◌, ◌-◌, ◌<◌, ◌≤◌, ℕ, Bool, length, drop, List, [], ◌∷◌, ◌++◌, Option, None, Some, Ok, Err, refl, sym, ap, subst, ◌∙◌, arith}
 use Rattle.std.specs.Option.{option_to_list}
 use Rattle.std.specs.Prelude.{nat_le, IfOk, IfSome, Result, Err}
 use Rattle.std.proofs.lemmas.Bool.{leb-false}
@@ -10,6 +10,7 @@ use Rattle.refusal.specs.declared.kind.Kind.TheVariants.{TooManyRanges}
 use Rattle.refusal.specs.declared.place.Place.{Place}
 use Rattle.refusal.specs.declared.place.NoMemory.{NoMemory}
 use Rattle.std.specs.Global.{Vec}
+use Rattle.refusal.proofs.PlaceLemmas.{fails_at-none}
 use Rattle.byte_view.specs.Cursor.{Cursor}
 use Rattle.elf_model.specs.Segments.{is_live}
 use Rattle.range_model.specs.Lists.{Piece, RangeSections, Resolves, bad_in_list, max_entries, ranges_from}
@@ -23,13 +24,9 @@ use Rattle.entry_facts.specs.declared.tail.ListMark.{ListMark}
 use Rattle.entry_facts.specs.declared.tail.Rest.{Rest}
 use Rattle.entry_facts.specs.declared.walk.ListWalk.{ListWalk}
 
-not_so : (cause : Bool) (place : Place) → fails_at cause place ≡ None → cause ≡ false
-not_so true place none = absurd cc
-not_so false place none = refl
-
 -- there is room for an entry more
 pub not_many : (count : ℕ) (place : Place) → fails_at (nat_le max_entries count) place ≡ None → count < max_entries
-not_many count place none = leb-false max_entries count (not_so (nat_le max_entries count) place none)
+not_many count place none = leb-false max_entries count (fails_at-none (nat_le max_entries count) place none)
 
 -- what is left fits behind so many entries
 pub fits_behind : (passed : ℕ) (P : Rest → Type 0) (r : Result (Option Rest) NoMemory) → passed ≤ max_entries

@@ -112,11 +112,11 @@ entries_extend of kinds before all old new room e =
 
 -- ---- headers
 
-told_as-same : {X : Type 0} (at : ℕ) (kind : Kind) (read : Read X) (x : X) (new : Cursor) → told_as at kind read ≡ Ok (x, new) → read ≡ Ok (x, new)
+pub told_as-same : {X : Type 0} (at : ℕ) (kind : Kind) (read : Read X) (x : X) (new : Cursor) → told_as at kind read ≡ Ok (x, new) → read ≡ Ok (x, new)
 told_as-same at kind (Ok r) x new e = e
 told_as-same at kind (Err place) x new e = absurd cc
 
-second : {X : Type 0} (x y : X) (a b : Cursor) → ◌≡◌ {A = Read X} (Ok (x, a)) (Ok (y, b)) → a ≡ b
+pub second : {X : Type 0} (x y : X) (a b : Cursor) → ◌≡◌ {A = Read X} (Ok (x, a)) (Ok (y, b)) → a ≡ b
 second {X = X} x y a b e = ap (λ (p : X × Cursor). p.1) (same_pair x y a b e)
 
 forward_long : (at : ℕ) (old new : Cursor) (x : Bool × ℕ) → long_length at old ≡ Ok (x, new) → Forward old new

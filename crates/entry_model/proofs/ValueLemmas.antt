@@ -2,7 +2,7 @@
 use Rattle.std.proofs.Common.{◌≡◌, ℕ, ◌+◌, ◌-◌, ◌≤◌, Bool, true, false, not, cond, List, [], ◌∷◌, ◌++◌, length, Result, Ok, Err, refl, sym, ap, subst, ◌∙◌, inl, inr, arith}
 use Rattle.std.specs.Prelude.{◌==◌, ◌&&◌, ◌||◌, filter}
 use Rattle.std.specs.List.{AllByRecursion, list_any}
-use Rattle.std.proofs.lemmas.Bool.{cases_Bool, eqb-true, eq-eqb, and_left, and_right, and_from}
+use Rattle.std.proofs.lemmas.Bool.{cases_Bool, eqb-true, eq-eqb, and_left, and_right, and_from, not-false}
 use Rattle.std.proofs.lemmas.Bool.Decides.{nat_tests}
 use Rattle.std.proofs.lemmas.List.{append-nil, append_assoc, length-append}
 use Rattle.std.proofs.lemmas.List.Folds.{list_any-append}
@@ -54,10 +54,6 @@ record ValuesRead (wide : Bool) (tag : ℕ) (kind : List Attr) (found got : List
   accepted : AllByRecursion (IsAccepted tag) all
   got_is : got ≡ gathered tag found all
 
-true_of : (b : Bool) → not b ≡ false → b ≡ true
-true_of true e = refl
-true_of false e = absurd cc
-
 values_read : (wide : Bool) (tag : ℕ) (kind : List Attr) (found got : List Found) (old new : Cursor) → values_from wide tag kind found old ≡ Ok (got, new) → ValuesRead wide tag kind found got old new
 unfolding next_value
 values_read wide tag [] found got old new e =
@@ -76,7 +72,7 @@ values_read wide tag (attr ∷ kind) found got old new e =
       all = one ∷ l.all;
       spelled = value_first old s.cur new attr kind one l.all
           (subst (λ (c : Cursor). Reads (Spells attr.implicit wide attr.form) old c a.value) here (reads_value wide attr old a.cur a.value a.first)) refl refl l.spelled;
-      accepted = (true_of _ u.holds_not, l.accepted);
+      accepted = (not-false _ u.holds_not, l.accepted);
       got_is = l.got_is ∙ ap (λ (f : List Found). gathered tag f l.all) (sym (ap (λ (p : List Found × Cursor). p.0) p));
     }
 

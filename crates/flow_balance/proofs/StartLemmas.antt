@@ -1,5 +1,5 @@
 -- The loop that sets the counts to start from.
-use Rattle.std.proofs.Common.{◌≡◌, ◌≢◌, ℕ, zero, suc, ◌+◌, ◌*◌, ◌^◌, ◌<◌, ◌≤◌, ◌==◌, Bool, true, false, List, [], ◌∷◌, length, get_or, replicate, Option, None, Some, inl, inr, refl, arith, ap, sym, ◌∙◌, subst}
+use Rattle.std.proofs.Common.{◌≡◌, ◌≢◌, ℕ, zero, suc, ◌+◌, ◌*◌, ◌^◌, ◌<◌, ◌≤◌, ◌==◌, Bool, true, false, List, [], ◌∷◌, length, get_or, replicate, inl, inr, refl, arith, ap, sym, ◌∙◌, subst}
 use Rattle.std.specs.Prelude.{slice_set, ℤ, pos, max}
 use Rattle.std.proofs.lemmas.Bool.{cases_eq, cases_lt}
 use Rattle.std.proofs.lemmas.Int.{ints}
@@ -11,7 +11,8 @@ use Rattle.flow_model.specs.Circulation.{sum_where}
 use Rattle.flow_model.specs.Network.{Network, arcs_of, free_arc}
 use Rattle.flow_model.specs.Sound.{IsNet, IsLimitedArc}
 use Rattle.flow_model.proofs.LimitLemmas.{nets_are_limited}
-use Rattle.residual_model.specs.Residual.{capped, starting}
+use Rattle.residual_model.specs.Residual.{starting}
+use Rattle.residual_model.proofs.PushLemmas.{capped_less}
 use Rattle.path_search.specs.Ground.{arc_at, count_at, price_at, sides_of}
 use Rattle.path_search.proofs.PathLemmas.{when, sum_set}
 use Rattle.flow_balance.specs.Excess.{AreExcess, surplus_of, lack_of, surplus, lack, transferred}
@@ -68,13 +69,9 @@ starting_none net counts excess zeros none =
     subst (λ (list : List ℕ). IsStarting net list excess 0) (sym zeros)
     (subst (λ (list : List ℤ). IsStarting net (replicate n 0) list 0) (sym none) begun)
 
-capped_least : (upper : Option ℕ) (n : ℕ) → capped upper n ≤ n
-capped_least None n = omega arith
-capped_least (Some upper) n = omega arith
-
 pub starting_small : (count : ℕ) (arc : Arc) → IsLimitedArc count arc → starting arc < 2 ^ 44
 starting_small count arc limited =
-    let most = capped_least arc.upper (max arc.weight arc.lower) in
+    let most = capped_less arc.upper (max arc.weight arc.lower) in
     let light = limited.light in
     let small = limited.small in
     omega (arith, most, light, small)

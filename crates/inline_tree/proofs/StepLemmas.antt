@@ -4,7 +4,7 @@ use Rattle.std.specs.List.{AllZip}
 use Rattle.refusal.specs.declared.place.Place.{Place}
 use Rattle.std.specs.Result.{IsErrAnd}
 use Rattle.std.proofs.lemmas.Bool.{ltb-false, ne_eqb}
-use Rattle.list_lemmas.proofs.Each.{all_zip_push}
+use Rattle.list_lemmas.proofs.Each.{all_zip_push, length_all_zip}
 use Rattle.refusal.specs.declared.place.Stop.{Stop}
 use Rattle.refusal.specs.declared.place.Stop.TheVariants.{Refused, NoMemory}
 use Rattle.refusal.specs.declared.kind.Kind.TheVariants.{TooManyRanges}
@@ -13,15 +13,15 @@ use Rattle.entry_facts.specs.Told.{GivesUnlessNoMemory}
 use Rattle.unit_model.specs.Constants.{DW_TAG_inlined_subroutine, DW_TAG_subprogram}
 use Rattle.unit_model.specs.Entries.{Entry}
 use Rattle.chain_model.specs.declared.member.Member.{Member}
-use Rattle.key_types.specs.declared.ids.NameId.{NameId}
 use Rattle.tree_model.specs.Pieces.{InUnit, RangesOrPlace, and_then, live_ranges, max_pieces, pieces, spelled_ranges, within_limit}
 use Rattle.tree_model.specs.Origin as way
 use Rattle.entry_facts.specs.declared.origin.Origin.{Origin}
-use Rattle.entry_facts.specs.Meaning.{Extends, IsNumberOf, GivesOrigin}
+use Rattle.entry_facts.specs.Meaning.{Extends, GivesOrigin}
 use Rattle.tree_model.specs.Members.{Told, function_told}
 use Rattle.member_lists.specs.declared.frame.EntryFrame.{EntryFrame}
 use Rattle.member_lists.specs.Frames.{SoFar, behind_call, behind_function, behind_other, frame_above, frame_of_function, frames_to, outside}
 use Rattle.tree_model.specs.Tree.{Source, with_call, with_member}
+use Rattle.entry_facts.proofs.TextLemmas.{IsNumberOf-more}
 use Rattle.member_lists.specs.Collecting.{function_with, next_call, next_entry, next_function}
 use Rattle.inline_tree.specs.Told.{Advances, AreTold, IsSoFar, IsTold, function_made}
 
@@ -38,12 +38,6 @@ AllZip-append R [] [] us vs h k = k
 AllZip-append R [] (b ∷ ys) us vs h k = absurd h
 AllZip-append R (a ∷ xs) [] us vs h k = absurd h
 AllZip-append R (a ∷ xs) (b ∷ ys) us vs h k = (h.0, AllZip-append R xs ys us vs h.1 k)
-
-AllZip-length : {A B : Type 0} (R : A → B → Type 0) (xs : List A) (ys : List B) → AllZip R xs ys → length ys ≡ length xs
-AllZip-length R [] [] h = refl
-AllZip-length R [] (y ∷ ys) h = absurd h
-AllZip-length R (x ∷ xs) [] h = absurd h
-AllZip-length R (x ∷ xs) (y ∷ ys) h = let more = AllZip-length R xs ys h.1 in omega arith
 
 AreTold-member : (names : List (List ℕ)) (number : ℕ) (told : Told) (call : Member) (tolds : List (List Told)) (mades : List (List Member))
     → AllZip (AreTold names) tolds mades → IsTold names told call
@@ -62,16 +56,11 @@ AreTold-call names (Some number) told call tolds mades h k = AreTold-member name
 
 -- ---- names more
 
-IsNumberOf-extends : (old new : List (List ℕ)) (name : Option (List ℕ)) (number : Option NameId) → Extends old new → IsNumberOf old name number → IsNumberOf new name number
-IsNumberOf-extends old new name None more is = is
-IsNumberOf-extends old new None (Some id) more is = cc
-IsNumberOf-extends old new (Some name) (Some id) more is = (is.0, more.kept id.0 name is.1)
-
 IsTold-extends : (old new : List (List ℕ)) → Extends old new → (told : Told) (member : Member) → IsTold old told member → IsTold new told member
 IsTold-extends old new more told member is = record {
   depth_is = is.depth_is;
   unit_is = is.unit_is;
-  name_is = IsNumberOf-extends old new told.name member.name more is.name_is;
+  name_is = IsNumberOf-more old new told.name member.name more is.name_is;
   start_is = is.start_is;
   line_is = is.line_is;
   disc_is = is.disc_is;
@@ -102,7 +91,7 @@ IsSoFar-function : (names : List (List ℕ)) (told : SoFar Told) (made : SoFar M
 IsSoFar-function names told made depth function member count is one = record {
   functions_are = all_zip_push (AreTold names) told.functions made.functions (function ∷ []) (member ∷ []) is.functions_are (one, tt);
   pieces_are = ap (λ n. n + count) is.pieces_are;
-  frames_are = ap (λ n. frames_to depth (frame_of_function n) made.frames) (AllZip-length (AreTold names) told.functions made.functions is.functions_are)
+  frames_are = ap (λ n. frames_to depth (frame_of_function n) made.frames) (length_all_zip (AreTold names) told.functions made.functions is.functions_are)
       ∙ ap (λ fs. frames_to depth (frame_of_function (length told.functions)) fs) is.frames_are;
 }
 

@@ -21,7 +21,7 @@ is_some_some : {X : Type 0} (o : Option X) (x : X) → o ≡ Some x → IsSome o
 is_some_some None x is = absurd (cc)
 is_some_some (Some y) x is = refl
 
-some_of : {X : Type 0} (o : Option X) → IsSome o → (x : X) × (o ≡ Some x)
+pub some_of : {X : Type 0} (o : Option X) → IsSome o → (x : X) × (o ≡ Some x)
 some_of None is = absurd (cc)
 some_of (Some x) is = (x, refl)
 

@@ -1,5 +1,5 @@
 -- What holds of each item of a list, item by item.
-use Rattle.std.proofs.Common.{List, [], ◌∷◌, ◌++◌}
+use Rattle.std.proofs.Common.{List, [], ◌∷◌, ◌++◌, ◌≡◌, suc, length, refl, ap}
 use Rattle.std.specs.List.{AllByRecursion, AllZip}
 
 pub all_append : {T : Type 0} (P : T → Type 0) (xs ys : List T) → AllByRecursion P xs → AllByRecursion P ys → AllByRecursion P (xs ++ ys)
@@ -21,3 +21,9 @@ all_zip_push R [] [] x y all one = (one, tt)
 all_zip_push R [] (z ∷ ys) x y all one = absurd all
 all_zip_push R (z ∷ xs) [] x y all one = absurd all
 all_zip_push R (z ∷ xs) (w ∷ ys) x y all one = (all.0, all_zip_push R xs ys x y all.1 one)
+
+pub length_all_zip : {A B : Type 0} (R : A → B → Type 0) (xs : List A) (ys : List B) → AllZip R xs ys → length ys ≡ length xs
+length_all_zip R [] [] all = refl
+length_all_zip R [] (y ∷ ys) all = absurd all
+length_all_zip R (x ∷ xs) [] all = absurd all
+length_all_zip R (x ∷ xs) (y ∷ ys) all = ap suc (length_all_zip R xs ys all.1)

@@ -13,7 +13,7 @@ use Rattle.refusal.specs.declared.kind.Kind.{Kind}
 use Rattle.refusal.specs.declared.kind.Kind.TheVariants.{CountTooLarge}
 use Rattle.refusal.specs.declared.place.Place.{Place}
 use Rattle.refusal.specs.Place.{first_bad}
-use Rattle.refusal.proofs.PlaceLemmas.{first_bad-append}
+use Rattle.refusal.proofs.PlaceLemmas.{first_bad-append, option_or-none}
 use Rattle.profile_model.specs.Judging.{cause_of_line, first_bad_of_profile, item, items_from, kept_lines_of, with_line}
 use Rattle.profile_model.specs.Merge.{first_bad_of_summed, merged, sum_items}
 use Rattle.profile_model.specs.Profile.{Line, Profile}
@@ -26,10 +26,6 @@ use Rattle.merge_laws.specs.Orders.{AreGoodBehind, OrderIsNoMatter}
 use Rattle.merge_laws.proofs.SumLemmas.{kept_more, merges_are_alike, number_in-behind, number_in-merged, number_in-one, number_in-permuted}
 
 -- ---- first bad places
-
-neither : (a b : Option Place) → option_or a b ≡ None → (a ≡ None) × (b ≡ None)
-neither None b is = (refl, is)
-neither (Some place) b is = absurd cc
 
 -- which file a text is, is no matter for its lines
 any_file : (file other : ℕ) (before : List Line) (lines : List (ℕ × List ℕ)) → first_bad (items_from file before lines) ≡ None → first_bad (items_from other before lines) ≡ None
@@ -78,7 +74,7 @@ sums_fit file w before (n ∷ ns) good =
 summed_parts : (file w : ℕ) (before : Profile) (text : List ℕ) → first_bad_of_summed file w before text ≡ None
     → (first_bad_of_profile file text ≡ None) × All (Fits w before) (numbers_of text)
 summed_parts file w before text good =
-    let parts = neither (first_bad_of_profile file text) (first_bad (sum_items file w before (numbers_of text)))
+    let parts = option_or-none (first_bad_of_profile file text) (first_bad (sum_items file w before (numbers_of text)))
     (sym (first_bad-append (items_from file [] (kept_lines_of text)) (sum_items file w before (numbers_of text))) ∙ good) in
     (parts.0, sums_fit file w before (numbers_of text) parts.1)
 

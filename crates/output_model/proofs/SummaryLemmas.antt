@@ -1,6 +1,7 @@
 -- A summary is determined: weights are, and least costs.
 use Rattle.std.proofs.Common.{◌≡◌, ℕ, List, [], ◌∷◌, length, Option, None, Some, refl, sym, ap, subst, ◌∙◌, arith}
 use Rattle.std.specs.List.{AllZip}
+use Rattle.std.proofs.lemmas.Option.{none-some}
 use Rattle.block_model.specs.declared.parts.Weight.{Weight}
 use Rattle.block_model.specs.declared.parts.Weight.TheVariants.{Unknown, Known}
 use Rattle.block_model.specs.Function.{Function}
@@ -24,15 +25,12 @@ one_list R one (x ∷ xs) (y ∷ ys) [] all others = absurd others
 one_list R one (x ∷ xs) (y ∷ ys) (z ∷ zs) all others =
     let first = one x y z all.0 others.0 in let rest = one_list R one xs ys zs all.1 others.1 in λ i. first i ∷ rest i
 
-none_some : {K : Type 0} (k : K) → None ≡ Some k → ⊥
-none_some k is = cc
-
 one_weight : {K : Type 0} (key : ℕ → Option K) (count : K → ℕ) (lo hi : ℕ) (weight other : Weight) → IsWeightIn key count lo hi weight → IsWeightIn key count lo hi other → weight ≡ other
 one_weight key count lo hi Unknown Unknown is same = refl
 one_weight key count lo hi Unknown (Known n) is same =
-    let (a, k, low, high, here, counted) = same.attained in absurd (none_some k (sym (is a low high) ∙ here))
+    let (a, k, low, high, here, counted) = same.attained in absurd (none-some k (sym (is a low high) ∙ here))
 one_weight key count lo hi (Known n) Unknown is same =
-    let (a, k, low, high, here, counted) = is.attained in absurd (none_some k (sym (same a low high) ∙ here))
+    let (a, k, low, high, here, counted) = is.attained in absurd (none-some k (sym (same a low high) ∙ here))
 one_weight key count lo hi (Known n) (Known m) is same =
     let (a, k, low, high, here, counted) = is.attained in
     let (b, l, from, to, there, counted_there) = same.attained in

@@ -2,7 +2,7 @@
 use Rattle.std.proofs.Common.{◌≡◌, ℕ, zero, suc, ◌+◌, ◌<◌, ◌==◌, Bool, true, false, List, [], ◌∷◌, length, get_or, map, if◌then◌else◌, refl, arith, sym, ◌∙◌, inl, inr, subst}
 use Rattle.std.specs.Prelude.{ℤ}
 use Rattle.std.specs.List.{Contains}
-use Rattle.std.proofs.lemmas.Bool.{eq-eqb, ne_eqb, cases_eq}
+use Rattle.std.proofs.lemmas.Bool.{eq-eqb, eqb-true}
 use Rattle.std.proofs.lemmas.List.{length-map}
 use Rattle.std.proofs.lemmas.List.Elements.{Contains-get_or, Contains-append_cases, Contains-append_left, Contains-append_right}
 use Rattle.flow_model.specs.declared.arc.Arc.{Arc}
@@ -32,20 +32,13 @@ one_has true from place has = (refl, first has.0 has.1 has.2)
     first (suc k) within is = absurd (omega (arith, within))
 one_has false from place has = absurd (let within = has.1 in omega (arith, within))
 
-same_key : (k key : ℕ) → (k == key) ≡ true → k ≡ key
-same_key k key passes =
-    elim (cases_eq k key) [
-      | inl e ↦ e
-      | inr apart ↦ let clash : true ≡ false = sym passes ∙ ne_eqb k key apart in absurd (cc)
-    ]
-
 pub stands_at : (from key : ℕ) (keys : List ℕ) (place : ℕ) → Contains (places_from from key keys) place → StandsAt from key keys place
 stands_at from key [] place has = absurd (let within = has.1 in omega (arith, within))
 stands_at from key (k ∷ keys) place has =
     elim (Contains-append_cases (if k == key then from ∷ [] else []) (places_from (from + 1) key keys) place has) [
       | inl here ↦
           let one = one_has (k == key) from place here in
-          record { at = 0; is = omega (arith, one.1); within = omega arith; same = same_key k key one.0 }
+          record { at = 0; is = omega (arith, one.1); within = omega arith; same = eqb-true k key one.0 }
       | inr there ↦
           let more = stands_at (from + 1) key keys place there in
           record { at = suc more.at; is = let is = more.is in omega (arith, is); within = let within = more.within in omega (arith, within); same = more.same }

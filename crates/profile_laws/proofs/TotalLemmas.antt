@@ -297,7 +297,7 @@ body_is_key s [] (t ∷ u ∷ k) b key =
     ] refl
 body_is_key s (v ∷ x) (t ∷ k) b key = ap (λ e. same_step s t && e) (body_stops v x k b key.1)
 
-filter_same : {T : Type 0} (p q : T → Bool) (xs : List T) → AllByRecursion (λ x. p x ≡ q x) xs → filter p xs ≡ filter q xs
+pub filter_same : {T : Type 0} (p q : T → Bool) (xs : List T) → AllByRecursion (λ x. p x ≡ q x) xs → filter p xs ≡ filter q xs
 filter_same p q [] all = refl
 filter_same p q (x ∷ xs) all = λ i. cond (all.0 i) (x ∷ filter_same p q xs all.1 i) (filter_same p q xs all.1 i)
 

@@ -9,6 +9,7 @@ use Rattle.std.specs.declared.cmp.Ordering.TheVariants.{Less, Equal, Greater}
 use Rattle.std.specs.Ordering.{is_eq, is_gt, eq_by_cmp, ordering_then, ordering_reverse}
 use Rattle.std.proofs.lemmas.Bool.{true≢false}
 use Rattle.std.proofs.lemmas.Cmp.{tied_itself}
+use mathlib.Core.Bool.{or_assoc}
 use Rattle.profile_model.proofs.StepLemmas.{and_first, and_second}
 use Rattle.list_lemmas.proofs.Each.{all_append, all_then}
 use Rattle.profile_model.specs.Laws.{TellsApart, has}
@@ -208,13 +209,10 @@ fronts_ascend cmp o a (w ∷ ws) up =
     (fresh (eq_by_cmp cmp) a w) (fresh_are_fronts cmp o a w))
 
 -- which beginnings there are
-or_assoc : (a b c : Bool) → (a || (b || c)) ≡ ((a || b) || c)
-or_assoc true b c = refl
-or_assoc false b c = refl
 
 has-append : {T : Type 0} (cmp : T → T → Ordering) (x : T) (xs ys : List T) → has cmp x (xs ++ ys) ≡ (has cmp x xs || has cmp x ys)
 has-append cmp x [] ys = refl
-has-append cmp x (y ∷ xs) ys = ap (λ b. eq_by_cmp cmp x y || b) (has-append cmp x xs ys) ∙ or_assoc (eq_by_cmp cmp x y) (has cmp x xs) (has cmp x ys)
+has-append cmp x (y ∷ xs) ys = ap (λ b. eq_by_cmp cmp x y || b) (has-append cmp x xs ys) ∙ sym (or_assoc (eq_by_cmp cmp x y) (has cmp x xs) (has cmp x ys))
 
 has_none : {T : Type 0} (cmp : T → T → Ordering) (t : T) (xs : List (List T)) → has (slice_cmp cmp) [] (map (λ y. t ∷ y) xs) ≡ false
 has_none cmp t [] = refl

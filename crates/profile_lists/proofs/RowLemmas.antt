@@ -1,5 +1,5 @@
 -- The totals of rows, and that rows are those of the beginnings in order.
-use Rattle.std.proofs.Common.{◌≡◌, ℕ, zero, suc, ◌+◌, ◌-◌, ◌^◌, min, Bool, true, false, cond, List, [], ◌∷◌, ◌++◌, map, filter, drop, take, length, replicate, Some, None, refl, sym, ap, subst, ◌∙◌, inl, inr, arith, length-append, take-append-drop, sum_by}
+use Rattle.std.proofs.Common.{◌≡◌, ℕ, zero, suc, ◌+◌, ◌-◌, ◌^◌, min, true, false, cond, List, [], ◌∷◌, ◌++◌, map, filter, drop, take, length, replicate, Some, None, refl, sym, ap, subst, ◌∙◌, inl, inr, arith, length-append, take-append-drop, sum_by}
 use Rattle.std.specs.List.{AllByRecursion, AllZip, last_or}
 use Rattle.std.specs.Ordering.{is_eq, is_gt, eq_by_cmp, ordering_reverse}
 use Rattle.std.proofs.lemmas.Bool.{true≢false}
@@ -10,6 +10,7 @@ use Rattle.std.specs.declared.cmp.Ordering.{Ordering}
 use Rattle.std.specs.declared.cmp.Ordering.TheVariants.{Less, Equal, Greater}
 use Rattle.list_lemmas.proofs.Sums.{map_map, map_same}
 use Rattle.list_lemmas.proofs.Each.{all_then}
+use Rattle.list_lemmas.proofs.Tests.{by_test as bool_cases}
 use Rattle.profile_model.specs.Laws.{TellsApart}
 use Rattle.profile_model.specs.Profile.{capped}
 use Rattle.profile_model.specs.Ways.{beginnings, is_front}
@@ -77,10 +78,6 @@ ascending_all w (item ∷ items) up = (
   all_then (λ i. is_gt (way_cmp item.way.items i.way.items) ≡ false) (λ i. is_gt (way_cmp w i.way.items) ≡ false)
       (λ i h. upto (lists_tell_apart step_cmp steps_tell_apart).total w item.way.items i.way.items up.0 h) items (ascending_all item.way.items items up.1),
 )
-
-bool_cases : (b : Bool) {P : Type 0} → (b ≡ true → P) → (b ≡ false → P) → P
-bool_cases true f g = f refl
-bool_cases false f g = g refl
 
 -- a beginning that the item behind has not, no item behind has
 later_lack : (w v : List Step) (x : List Step) (items : List Item) → is_front same_step x w ≡ true → is_front same_step x v ≡ false → is_gt (way_cmp w v) ≡ false → AllByRecursion (λ i. is_gt (way_cmp v i.way.items) ≡ false) items → AllByRecursion (λ i. leads_to x i ≡ false) items

@@ -2,7 +2,7 @@
 use Rattle.std.proofs.Common.{◌≡◌, ◌+◌, ◌<◌, ℕ, Bool, true, false, cond, ◌&&◌, List, [], ◌∷◌, map, Option, refl, sym, ap, ◌∙◌, arith, inl, inr, leb-true}
 use Rattle.std.specs.Prelude.{count_by, filter, nat_le, not, sum_by, if◌then◌else◌}
 use Rattle.std.specs.List.{All, AllByRecursion}
-use Rattle.std.proofs.lemmas.Bool.{and_parts, cases_Bool, true≢false}
+use Rattle.std.proofs.lemmas.Bool.{and_parts, cases_Bool, not-false, true≢false}
 use Rattle.std.proofs.lemmas.List.Elements.{All-contains, All-from_recursion, All-map, All-weaker, recursion_from_All}
 use Rattle.std.proofs.lemmas.List.Sums.{sum_by-cons}
 use Rattle.block_model.specs.Function.{Function}
@@ -42,10 +42,6 @@ none_counted test (p ∷ pairs) is =
     let both = first_none (test p) (count_by test pairs) (sym (sum_by-cons (λ (x : ℕ × ℕ). cond (test x) 1 0) p pairs) ∙ is) in
     (both.0, none_counted test pairs both.1)
 
-not_false : (b : Bool) → not b ≡ false → b ≡ true
-not_false true is = refl
-not_false false is = sym is
-
 -- What all rows pass all members do.
 pub all_pass : (test : ℕ × ℕ → Bool) (pairs : List (ℕ × ℕ)) (rows : List Pair) → Tallies pairs rows
     → All (λ (row : Pair). test (pair_of row) ≡ true) rows → All (λ (p : ℕ × ℕ). test p ≡ true) pairs
@@ -56,7 +52,7 @@ all_pass test pairs rows tallied all =
     let empty = none_kept (λ (row : Pair). missed (pair_of row)) rows (recursion_from_All (λ (row : Pair). missed (pair_of row) ≡ false) rows none) in
     let count : count_by missed pairs ≡ 0 =
     sym (tables_count_members pairs rows missed tallied) ∙ ap (λ (kept : List Pair). sum_by (λ (row : Pair). row.times) kept) empty in
-    All-weaker (λ (p : ℕ × ℕ). missed p ≡ false) (λ (p : ℕ × ℕ). test p ≡ true) (λ p. not_false (test p)) pairs
+    All-weaker (λ (p : ℕ × ℕ). missed p ≡ false) (λ (p : ℕ × ℕ). test p ≡ true) (λ p. not-false (test p)) pairs
     (All-from_recursion (λ (p : ℕ × ℕ). missed p ≡ false) pairs (none_counted missed pairs count))
 
 -- Where some are counted, one of them shows it.

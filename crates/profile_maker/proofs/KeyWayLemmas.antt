@@ -6,7 +6,7 @@ use Rattle.key_types.specs.declared.key.Key.{Key}
 use Rattle.chain_model.specs.Places as by_number
 use Rattle.profile_model.specs.Orders.{way_cmp}
 use Rattle.profile_model.specs.Ways.{Way, to_body, to_call}
-use Rattle.profile_tree.proofs.ListLemmas.{all_ordered}
+use Rattle.profile_model.proofs.OrderedLemmas.{all_ordered}
 use Rattle.profile_laws.specs.Totals.{EndsInBody, IsKeyWay}
 use Rattle.binary_model.specs.Places.{in_names, place_among, place_of_address, way_of}
 use Rattle.key_types.specs.Numbers.{name_of}

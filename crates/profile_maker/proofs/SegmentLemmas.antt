@@ -1,11 +1,11 @@
 -- The segments of a map, one by one.
 use Rattle.std.proofs.Common.{◌≡◌, ℕ, ◌<◌, ◌≤◌, ◌-◌, ◌^◌, ◌==◌, zero, suc, Bool, true, false, List, [], ◌∷◌, length, map, Option, None, Some, refl, sym, ap, subst, ◌∙◌, arith, inl, inr}
-use Rattle.std.specs.Prelude.{IsSome, slice_get, unwrap_or, option_and_then, if◌then◌else◌}
+use Rattle.std.specs.Prelude.{slice_get, unwrap_or, option_and_then, if◌then◌else◌}
 use Rattle.std.specs.Option.{option_map}
 use Rattle.std.specs.List.{AllByRecursion}
 use Rattle.std.proofs.lemmas.Bool.{cases_Bool}
 use Rattle.std.proofs.lemmas.Bool.Decides.{nat_tests}
-use Rattle.std.proofs.lemmas.Option.{slice_get_within}
+use Rattle.std.proofs.lemmas.Option.{slice_get_within, none-some}
 use Rattle.address_spans.specs.Spans.{AreBetween}
 use Rattle.address_spans.proofs.SpanLemmas.{held, missed-behind}
 use Rattle.key_types.specs.Discriminators as packed
@@ -15,6 +15,7 @@ use Rattle.chain_model.specs.declared.member.Member.{Member}
 use Rattle.chain_model.specs.Chains.{function_at}
 use Rattle.chain_model.specs.Places.{LineAndDisc, Place, chain_members, factor_at, has_key, nameless, no_line, outside, place_at, row_of}
 use Rattle.key_types.specs.Segments.{HasSegment, IsGiven, key_told, segment_at, span_of, told, key_and_factor}
+use Rattle.key_types.proofs.ToldLemmas.{some_of}
 use Rattle.context_map.specs.Parts.{with_factor}
 use Rattle.context_map.specs.Maps.{wanted, rows_of}
 use Rattle.profile_lists.specs.Segments.{AllFit}
@@ -73,19 +74,12 @@ factor_in : Option (Key × ℕ) → ℕ
 factor_in None = 0
 factor_in (Some p) = p.1
 
-none_some : {X : Type 0} (x : X) → None ≡ Some x → ⊥
-none_some x is = cc
-
 factor-is : (p : Place) (factor : ℕ) (key : Key) (other : ℕ) → with_factor p factor ≡ Some (key, other) → factor ≡ other
 unfolding factor_in
-factor-is outside factor key other is = absurd (none_some (key, other) is)
-factor-is nameless factor key other is = absurd (none_some (key, other) is)
-factor-is no_line factor key other is = absurd (none_some (key, other) is)
+factor-is outside factor key other is = absurd (none-some (key, other) is)
+factor-is nameless factor key other is = absurd (none-some (key, other) is)
+factor-is no_line factor key other is = absurd (none-some (key, other) is)
 factor-is (has_key k) factor key other is = ap factor_in is
-
-some_of : {X : Type 0} (o : Option X) → IsSome o → (x : X) × (o ≡ Some x)
-some_of None is = absurd (cc)
-some_of (Some x) is = (x, refl)
 
 module _ (rows : ℕ → ℕ → Option LineAndDisc) (base : Bool) (members : List Member) (keys : List Key) (whole : List Seg)
     (tell : (a : ℕ) (p : Key × ℕ) → told keys whole a ≡ Some p → told keys whole a ≡ wanted rows base members a) where
@@ -125,11 +119,11 @@ module _ (file : List ℕ) (base : Bool) (marks : List Bool) (placed : Placed) (
   pub asked_where : (address : ℕ) (segment : Seg) → segment_at placed.map.segments address ≡ Some segment → asks_in file marks address ≡ true
   asked_where address segment there = elim (cases_Bool (asks_in file marks address)) [
     | inl asked ↦ asked
-    | inr other ↦ absurd (none_some segment (sym (no_segment (segment_at placed.map.segments address) (nothing_at address other)) ∙ there))
+    | inr other ↦ absurd (none-some segment (sym (no_segment (segment_at placed.map.segments address) (nothing_at address other)) ∙ there))
   ]
 
   segment_told : (segment : Option Seg) (p : Key × ℕ) → option_and_then (key_and_factor placed.keys) segment ≡ Some p → (s : Seg) × (segment ≡ Some s)
-  segment_told None p there = absurd (none_some p there)
+  segment_told None p there = absurd (none-some p there)
   segment_told (Some s) p there = (s, refl)
 
   tell_there : (a : ℕ) (p : Key × ℕ) → told placed.keys placed.map.segments a ≡ Some p

@@ -22,11 +22,8 @@ use Rattle.entry_facts.specs.Meaning.{IsNumberOf}
 use Rattle.tree_model.specs.Members.{Told}
 use Rattle.key_types.specs.Segments as segments
 use Rattle.key_types.specs.Segments.{segment_at}
-use Rattle.line_model.specs.declared.row.Row.{Row}
-use Rattle.line_model.specs.Rows.{Sequence, row_among}
-use Rattle.row_table.specs.Told.{data_of, told}
 use Rattle.span_cover.specs.Stretches as stretches
-use Rattle.context_map.specs.Parts.{line_and_disc, with_factor}
+use Rattle.context_map.specs.Parts.{with_factor}
 use Rattle.context_map.specs.Maps as maps
 use Rattle.context_map.specs.Maps.{place_told, rows_of}
 use Rattle.profile_model.specs.Ways.{to_body, to_call, to_function}
@@ -39,7 +36,7 @@ use Rattle.binary_places.specs.Binary.{IsPlaced, IsWay, TellsNamed, asks_in}
 use Rattle.binary_places.specs.declared.binary.Placed.{Placed}
 use Rattle.binary_places.proofs.FunctionLemmas.{SameFound, SameName, function_same, same_found}
 use Rattle.binary_places.proofs.NumberLemmas.{are-told}
-use Rattle.binary_places.proofs.ShownLemmas.{places_shown}
+use Rattle.binary_places.proofs.ShownLemmas.{places_shown, rows-agree}
 use Rattle.profile_writer.specs.Told.{TellsName, TellsPlace, key_of}
 use Rattle.profile_maker.specs.Asked.{lack_of, program_asked}
 use Rattle.profile_maker.specs.Laws.{BinariesShowPrograms}
@@ -183,19 +180,6 @@ factor_there keys (Some s) function span place factor tells some told = factor_f
 
 -- ---- rows
 
-by_row : (row : Option Row) → option_map line_and_disc (option_map data_of row) ≡ option_map (λ row. (row.line, row.disc)) row
-by_row None = refl
-by_row (Some row) = refl
-
-by_table : (table : Option (List Sequence)) (address : ℕ)
-    → option_map line_and_disc (option_and_then (λ table. told table address) table)
-    ≡ option_map (λ row. (row.line, row.disc)) (option_and_then (λ table. row_among table address) table)
-by_table None address = refl
-by_table (Some table) address = by_row (row_among table address)
-
-rows_agree : (tables : List (Option (List Sequence))) (unit address : ℕ) → rows_of tables unit address ≡ row_in tables unit address
-rows_agree tables unit address = by_table (option_and_then (λ table. table) (slice_get tables unit)) address
-
 -- ---- all together
 
 number_none : (segment : Option Seg) → option_map (λ (s : Seg). s.key) segment ≡ None → IsSome (number_by segment) → ⊥
@@ -234,7 +218,7 @@ module _ (file : List ℕ) (base : Bool) (marks : List Bool) (placed : Placed) (
       some (is.map.tell address here)
       ∙ ap (factor 0)
       (row_by_function rows is.members address
-      ∙ same_row placed.names (names_of tolds) rows (row_in (tables_in file)) (rows_agree (tables_in file)) address (function_of is.members address) (function_of cs address) (same address)
+      ∙ same_row placed.names (names_of tolds) rows (row_in (tables_in file)) (rows-agree (tables_in file)) address (function_of is.members address) (function_of cs address) (same address)
       ∙ sym (row_by_function (row_in (tables_in file)) cs address))
 
   factor_here : (address : ℕ) → IsSome (number_by (segment_at placed.map.segments address))

@@ -27,15 +27,19 @@ pub above-trans : {T : Type 0} (cmp : T → T → Ordering) → IsTotalOrder cmp
 above-trans cmp o x y [] first above = tt
 above-trans cmp o x y (z ∷ items) first above = (o.trans x y z first above.0, above-trans cmp o x y items first above.1)
 
-above-placed : {T : Type 0} (cmp : T → T → Ordering) (low : T) (r : Ordering) (x y : T) (items more : List T) → cmp low x ≡ Less → Above cmp low (y ∷ items) → Above cmp low more → Above cmp low (placed r x y items more)
-above-placed cmp low Less x y items more first above _ = (first, above)
-above-placed cmp low Equal x y items more first above _ = above
-above-placed cmp low Greater x y items more first above more_above = (above.0, more_above)
+-- what holds of each item does so in any order
+all_placed : {T : Type 0} (P : T → Type 0) (r : Ordering) (x y : T) (items more : List T) → P x → AllByRecursion P (y ∷ items) → AllByRecursion P more → AllByRecursion P (placed r x y items more)
+all_placed P Less x y items more px all m = (px, all)
+all_placed P Equal x y items more px all m = all
+all_placed P Greater x y items more px all m = (all.0, m)
 
-above-with_item : {T : Type 0} (cmp : T → T → Ordering) (low x : T) (items : List T) → cmp low x ≡ Less → Above cmp low items → Above cmp low (with_item cmp x items)
-above-with_item cmp low x [] first above = (first, tt)
-above-with_item cmp low x (y ∷ items) first above =
-    above-placed cmp low (cmp x y) x y items (with_item cmp x items) first above (above-with_item cmp low x items first above.1)
+pub all_with_item : {T : Type 0} (P : T → Type 0) (cmp : T → T → Ordering) (x : T) (xs : List T) → P x → AllByRecursion P xs → AllByRecursion P (with_item cmp x xs)
+all_with_item P cmp x [] px all = (px, tt)
+all_with_item P cmp x (y ∷ xs) px all = all_placed P (cmp x y) x y xs (with_item cmp x xs) px all (all_with_item P cmp x xs px all.1)
+
+pub all_ordered : {T : Type 0} (P : T → Type 0) (cmp : T → T → Ordering) (xs : List T) → AllByRecursion P xs → AllByRecursion P (ordered cmp xs)
+all_ordered P cmp [] all = tt
+all_ordered P cmp (x ∷ xs) all = all_with_item P cmp x (ordered cmp xs) all.0 (all_ordered P cmp xs all.1)
 
 sorted-with_item : {T : Type 0} (cmp : T → T → Ordering) → IsTotalOrder cmp → (x : T) (items : List T) → IsStrictlySortedBy cmp items → IsStrictlySortedBy cmp (with_item cmp x items)
 unfolding IsStrictlySortedBy
@@ -44,7 +48,7 @@ sorted-with_item cmp o x (y ∷ items) sorted =
     elim (cmp x y) as (λ r. cmp x y ≡ r → IsStrictlySortedBy cmp (placed r x y items (with_item cmp x items))) [
       | Less ↦ λ e. ((e, above-trans cmp o x y items e sorted.0), sorted)
       | Equal ↦ λ _. sorted
-      | Greater ↦ λ e. (above-with_item cmp y x items (turned cmp o x y e) sorted.0, sorted-with_item cmp o x items sorted.1)
+      | Greater ↦ λ e. (all_with_item (λ z. cmp y z ≡ Less) cmp x items (turned cmp o x y e) sorted.0, sorted-with_item cmp o x items sorted.1)
     ] refl
 
 has-with_item : {T : Type 0} (cmp : T → T → Ordering) → IsTotalOrder cmp → (z x : T) (items : List T) → has cmp z (with_item cmp x items) ≡ (eq_by_cmp cmp z x || has cmp z items)

@@ -39,7 +39,7 @@ where-classed {C} class is (row ∷ rows) =
     ∙ ap (λ (n : ℕ). cond t row.times 0 + n) (where-classed class is rows)
     ∙ sym (sum-if (λ (r : Pair). r.times) t row (filter (λ (r : Pair). is (class r.from r.to)) rows))
 
-all-classed : {C : Type 0} (class : ℕ → ℕ → C) (rows : List Pair) → all_times (map (classed_by class) rows) ≡ total_in rows
+pub all-classed : {C : Type 0} (class : ℕ → ℕ → C) (rows : List Pair) → all_times (map (classed_by class) rows) ≡ total_in rows
 all-classed class [] = refl
 all-classed {C} class (row ∷ rows) =
     sum_by-cons (λ (r : Classed C). r.row.times) (classed_by class row) (map (classed_by class) rows)

@@ -1,5 +1,5 @@
 -- A number for each, changed at one.
-use Rattle.std.proofs.Common.{◌≡◌, ◌⊎◌, ◌≤◌, ◌<◌, ℕ, ◌+◌, ◌-◌, ◌^◌, ◌==◌, min, cond, List, [], ◌∷◌, ◌++◌, map, take, length, get_or, set, replicate, sum_by, Option, Some, true, false, refl, sym, ap, ◌∙◌, inl, inr, arith, get_or-set_same, get_or-set_other, zero-add}
+use Rattle.std.proofs.Common.{◌≡◌, ◌⊎◌, ◌≤◌, ◌<◌, ℕ, ◌+◌, ◌-◌, ◌^◌, ◌==◌, min, cond, List, [], ◌∷◌, ◌++◌, map, take, length, get_or, set, replicate, sum_by, Option, Some, false, refl, sym, ap, ◌∙◌, inl, inr, arith, get_or-set_same, get_or-set_other, zero-add}
 use Rattle.std.proofs.lemmas.Bool.Decides.{nat_tests}
 use Rattle.std.proofs.lemmas.List.{take_more, length-replicate, length-set, get_or-replicate}
 use Rattle.std.proofs.lemmas.List.Sums.{sum_by_push, sum_by_more_le}
@@ -7,6 +7,7 @@ use Rattle.std.specs.List.{range_with_len, slice_get}
 use Rattle.std.proofs.lemmas.List.FromFn.{map-range_with_len_more}
 use Rattle.key_types.specs.declared.key.Key.{Key}
 use Rattle.profile_model.specs.Profile.{capped}
+use Rattle.profile_model.proofs.StepLemmas.{nat_refl as test_itself}
 use Rattle.profile_tree.specs.Sums.{AreEach, counts_below, entries_of, share}
 use Rattle.profile_tree.specs.declared.head.Head.{Head}
 
@@ -36,13 +37,10 @@ no_counts keys counts n = record { len = length-replicate n 0; each = λ id h. g
 entry_more : (heads : List Head) (i m : ℕ) (d : Head) → i < length heads → entries_of (take (i + 1) heads) m ≡ entries_of (take i heads) m + cond ((get_or heads i d).name.0 == m) (get_or heads i d).times 0
 entry_more heads i m d h = ap (λ xs. entries_of xs m) (take_more heads i d h) ∙ sum_by_push (λ head. cond (head.name.0 == m) head.times 0) (take i heads) (get_or heads i d)
 
-test_is : (k m : ℕ) → (m ≡ k → ⊥) → (k == m) ≡ false
+pub test_is : (k m : ℕ) → (m ≡ k → ⊥) → (k == m) ≡ false
 test_is k m ne = grind (arith, nat_tests)
 
-test_itself : (k : ℕ) → (k == k) ≡ true
-test_itself k = grind (arith, nat_tests)
-
-add_none : (n : ℕ) → n + 0 ≡ n
+pub add_none : (n : ℕ) → n + 0 ≡ n
 add_none n = omega arith
 
 pub one_head : (n i v : ℕ) (heads : List Head) (d : Head) (sums : List ℕ) → i < length heads → (get_or heads i d).name.0 < n → AreEach n (entries_of (take i heads)) sums → v ≡ get_or sums (get_or heads i d).name.0 0 + (get_or heads i d).times → AreEach n (entries_of (take (i + 1) heads)) (set sums (get_or heads i d).name.0 v)

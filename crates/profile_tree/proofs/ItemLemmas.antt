@@ -3,7 +3,7 @@ use Rattle.std.proofs.Common.{◌≡◌, ◌<◌, ◌≤◌, ℕ, ◌+◌, Bool,
 use Rattle.std.specs.Prelude.{swap}
 use Rattle.std.specs.List.{AllByRecursion, range_with_len}
 use Rattle.std.specs.List.Sorted.{SwapsInRange, apply_swaps}
-use Rattle.std.proofs.lemmas.List.{length-map, map-append, take_all, take_more, get_or-map}
+use Rattle.std.proofs.lemmas.List.{length-map, map-append, take_all, take_more, get_or-map, append-nil}
 use Rattle.std.proofs.lemmas.List.Elements.{filter-append}
 use Rattle.std.proofs.lemmas.List.Sorted.{All-permutation, IsPermutation-sym, IsPermutation-map, IsPermutation-trans, IsPermutation-refl, IsPermutation-append_left}
 use Rattle.indexmap.proofs.ReorderLemmas.{map-swap}
@@ -29,16 +29,12 @@ permuted_back f xs zs p = (
   record { moves = p.moves; below = subst (λ n. SwapsInRange n p.moves) (length-map xs f) p.below; is = refl },
 )
 
-nothing_behind : {T : Type 0} (xs : List T) → xs ++ [] ≡ xs
-nothing_behind [] = refl
-nothing_behind (x ∷ xs) = ap (λ ys. x ∷ ys) (nothing_behind xs)
-
 behind_behind : {T : Type 0} (xs ys zs : List T) → (xs ++ ys) ++ zs ≡ xs ++ (ys ++ zs)
 behind_behind [] ys zs = refl
 behind_behind (x ∷ xs) ys zs = ap (λ l. x ∷ l) (behind_behind xs ys zs)
 
 -- one key more
-filtered_more : (p : ℕ → Bool) (i : ℕ) → filter p (range_with_len 0 (i + 1)) ≡ filter p (range_with_len 0 i) ++ cond (p i) (i ∷ []) []
+pub filtered_more : (p : ℕ → Bool) (i : ℕ) → filter p (range_with_len 0 (i + 1)) ≡ filter p (range_with_len 0 i) ++ cond (p i) (i ∷ []) []
 filtered_more p i = ap (filter p) (from_none i) ∙ filter-append p (range_with_len 0 i) (i ∷ [])
 
 pub one_more : (p : ℕ → Bool) (i : ℕ) (old new : List Written) (w : Written) → new ≡ old ++ w ∷ [] → w.id ≡ i → p i ≡ true → map (λ w. w.id) old ≡ filter p (range_with_len 0 i) → map (λ w. w.id) new ≡ filter p (range_with_len 0 (i + 1))
@@ -48,7 +44,7 @@ one_more p i old new w pushed is some far =
 
 pub no_more : (p : ℕ → Bool) (i : ℕ) (old : List Written) → p i ≡ false → map (λ w. w.id) old ≡ filter p (range_with_len 0 i) → map (λ w. w.id) old ≡ filter p (range_with_len 0 (i + 1))
 no_more p i old none far =
-    far ∙ sym (nothing_behind (filter p (range_with_len 0 i)))
+    far ∙ sym (append-nil (filter p (range_with_len 0 i)))
     ∙ sym (ap (λ b. filter p (range_with_len 0 i) ++ cond b (i ∷ []) []) none) ∙ sym (filtered_more p i)
 
 -- all of them are keys
@@ -111,14 +107,14 @@ module _ (keys : List Key) (counts tr nr : List ℕ) (ws : List Written) (was : 
   pub taken_none : (items group : List Item) → was ≡ map told_item items → group ≡ [] → Taken keys counts tr nr ws was 0 items group
   taken_none items group is empty =
       subst (λ g. IsPermutation (map told_item (items ++ g)) (was ++ [])) (sym empty)
-      (subst (λ xs. IsPermutation (map told_item xs) (was ++ [])) (sym (nothing_behind items))
-      (subst (λ ts. IsPermutation (map told_item items) (ts ++ [])) (sym is) (subst (IsPermutation (map told_item items)) (sym (nothing_behind (map told_item items))) (IsPermutation-refl (map told_item items)))))
+      (subst (λ xs. IsPermutation (map told_item xs) (was ++ [])) (sym (append-nil items))
+      (subst (λ ts. IsPermutation (map told_item items) (ts ++ [])) (sym is) (subst (IsPermutation (map told_item items)) (sym (append-nil (map told_item items))) (IsPermutation-refl (map told_item items)))))
 
   pub taken_sorted : (i : ℕ) (items group more none : List Item) → Taken keys counts tr nr ws was i items group → IsPermutation (items ++ group) more → none ≡ [] → Taken keys counts tr nr ws was i more none
   taken_sorted i items group more none far p empty =
       let target = was ++ map (ranked_source tr nr) (map (of_count keys counts) (map (λ w. w.id) (take i ws))) in
       subst (λ g. IsPermutation (map told_item (more ++ g)) target) (sym empty)
-      (subst (λ xs. IsPermutation (map told_item xs) target) (sym (nothing_behind more))
+      (subst (λ xs. IsPermutation (map told_item xs) target) (sym (append-nil more))
       (IsPermutation-trans (map told_item more) (map told_item (items ++ group)) target
       (IsPermutation-sym (map told_item (items ++ group)) (map told_item more) (IsPermutation-map told_item (items ++ group) more p)) far))
 

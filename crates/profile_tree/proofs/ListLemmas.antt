@@ -13,8 +13,10 @@ use Rattle.profile_model.specs.Laws.{TellsApart, has}
 use Rattle.profile_model.specs.Orders.{ordered, placed, with_item}
 use Rattle.profile_model.specs.Ways.{beginnings}
 pub use Rattle.profile_model.proofs.StepLemmas.{and_first, and_second, and_both, bool_same, nat_same, nat_refl}
+pub use Rattle.profile_model.proofs.OrderedLemmas.{all_ordered}
 use Rattle.profile_model.proofs.OrderedLemmas.{ordered_is_in_order, only_ordered_is_in_order}
 pub use Rattle.list_lemmas.proofs.Each.{all_append}
+pub use Rattle.list_lemmas.proofs.Tests.{by_test as bool_cases}
 pub use Rattle.list_lemmas.proofs.Sums.{sum_passing as sum_filter, sum_same, map_same, map_map}
 pub use Rattle.list_lemmas.proofs.Among.{Among, among_right, among_left, among_either, among_map, among_map_back, among_filter, among_filter_back, all_among, among_all, part_of_sum}
 pub use Rattle.std.proofs.lemmas.Bool.{or_left, or_right}
@@ -29,10 +31,6 @@ or_first false b e = refl
 pub or_other : (a b : Bool) → (a || b) ≡ true → a ≡ false → b ≡ true
 or_other true b e f = absurd (true≢false f)
 or_other false b e f = e
-
-pub bool_cases : (b : Bool) {P : Type 0} → (b ≡ true → P) → (b ≡ false → P) → P
-bool_cases true f g = f refl
-bool_cases false f g = g refl
 
 pub all_places : {T : Type 0} (P : T → Type 0) (xs : List T) → AllByRecursion P xs → (k : ℕ) (d : T) → k < length xs → P (get_or xs k d)
 all_places P [] all k d h = absurd (omega arith)
@@ -162,19 +160,6 @@ with_item_map cmp f x (y ∷ xs) =
 pub ordered_map : {S T : Type 0} (cmp : T → T → Ordering) (f : S → T) (xs : List S) → ordered cmp (map f xs) ≡ map f (ordered (λ a b. cmp (f a) (f b)) xs)
 ordered_map cmp f [] = refl
 ordered_map cmp f (x ∷ xs) = ap (with_item cmp (f x)) (ordered_map cmp f xs) ∙ with_item_map cmp f x (ordered (λ a b. cmp (f a) (f b)) xs)
-
-all_placed : {T : Type 0} (P : T → Type 0) (r : Ordering) (x y : T) (items more : List T) → P x → AllByRecursion P (y ∷ items) → AllByRecursion P more → AllByRecursion P (placed r x y items more)
-all_placed P Less x y items more px all m = (px, all)
-all_placed P Equal x y items more px all m = all
-all_placed P Greater x y items more px all m = (all.0, m)
-
-all_with_item : {T : Type 0} (P : T → Type 0) (cmp : T → T → Ordering) (x : T) (xs : List T) → P x → AllByRecursion P xs → AllByRecursion P (with_item cmp x xs)
-all_with_item P cmp x [] px all = (px, tt)
-all_with_item P cmp x (y ∷ xs) px all = all_placed P (cmp x y) x y xs (with_item cmp x xs) px all (all_with_item P cmp x xs px all.1)
-
-pub all_ordered : {T : Type 0} (P : T → Type 0) (cmp : T → T → Ordering) (xs : List T) → AllByRecursion P xs → AllByRecursion P (ordered cmp xs)
-all_ordered P cmp [] all = tt
-all_ordered P cmp (x ∷ xs) all = all_with_item P cmp x (ordered cmp xs) all.0 (all_ordered P cmp xs all.1)
 
 with_item_same : {T : Type 0} (P : T → Type 0) (c d : T → T → Ordering) → ((x y : T) → P x → P y → c x y ≡ d x y) → (x : T) (xs : List T) → P x → AllByRecursion P xs → with_item c x xs ≡ with_item d x xs
 with_item_same P c d same x [] px all = refl

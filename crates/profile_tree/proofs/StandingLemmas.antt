@@ -1,10 +1,10 @@
 -- The functions that stand in a profile, by numbers and by ways.
-use Rattle.std.proofs.Common.{◌≡◌, ◌⊎◌, ℕ, zero, suc, ◌+◌, ◌<◌, ◌≤◌, ◌==◌, nat_lt, Bool, true, false, cond, ◌&&◌, ◌||◌, List, [], ◌∷◌, ◌++◌, map, filter, length, get_or, set, replicate, Some, inl, inr, All, refl, sym, ap, subst, ◌∙◌, arith}
+use Rattle.std.proofs.Common.{◌≡◌, ◌⊎◌, ℕ, ◌+◌, ◌<◌, ◌≤◌, ◌==◌, nat_lt, Bool, true, false, cond, ◌&&◌, ◌||◌, List, [], ◌∷◌, ◌++◌, map, filter, length, get_or, set, replicate, Some, inl, inr, All, refl, sym, ap, subst, ◌∙◌, arith}
 use Rattle.std.proofs.lemmas.Bool.Decides.{nat_tests}
-use Rattle.std.proofs.lemmas.List.{length-replicate, length-set, get_or-replicate, get_or-set_same, get_or-set_other, map-append}
-use Rattle.std.proofs.lemmas.List.Elements.{filter-append}
+use Rattle.std.proofs.lemmas.List.{length-replicate, length-set, get_or-replicate, get_or-set_same, get_or-set_other, map-append, append-nil}
 use Rattle.std.proofs.lemmas.List.Folds.{list_any-append}
 use Rattle.std.specs.List.{AllByRecursion, list_any, range_with_len, slice_get}
+use mathlib.Core.Bool.{or-false, or-true}
 use Rattle.key_types.specs.Numbers.{IsNumbered}
 use Rattle.key_types.specs.declared.ids.KeyId.{KeyId}
 use Rattle.key_types.specs.declared.key.Key.{Key}
@@ -16,9 +16,10 @@ use Rattle.profile_laws.proofs.CountLemmas.{Inside, append_inside, back, entered
 use Rattle.profile_laws.specs.Counts.{CountTheSame}
 use Rattle.profile_model.specs.Profile.{Profile, entered, recorded}
 use Rattle.profile_model.specs.Ways.{Way, same_step, to_function}
+use Rattle.profile_laws.proofs.TotalLemmas.{filter_same}
 use Rattle.profile_tree.proofs.Filled.{from_none}
 use Rattle.profile_tree.proofs.ListLemmas.{Among, all_among, all_places, among_any, among_filter_back, among_map, among_range, any_among, any_map, bool_same, filter_map as kept_map, map_map, nat_same}
-use Rattle.profile_tree.proofs.SumLemmas.{all_to_each, given_among}
+use Rattle.profile_tree.proofs.SumLemmas.{all_to_each, given_among, key_there}
 use Rattle.profile_tree.proofs.WayLemmas.{names_once, same_steps, step_itself}
 use Rattle.profile_tree.specs.Items.{AreMarked, has_count, was_entered}
 use Rattle.profile_tree.specs.Known.{HasNames, IsGiven}
@@ -27,6 +28,7 @@ use Rattle.profile_tree.specs.Stated.{AreGiven}
 use Rattle.profile_tree.specs.Standing.{counted_below, first_ways, has_mark, is_called_from, is_counted, is_entered, root_at, root_of_given, standing_ids, stands}
 use Rattle.profile_tree.specs.Steps.{name_at, named, steps_of, steps_of_given}
 use Rattle.profile_tree.specs.declared.head.Head.{Head}
+use Rattle.profile_tree.proofs.ItemLemmas.{filtered_more}
 
 -- ---- marks
 
@@ -51,14 +53,6 @@ counted_more keys counts i name =
     or_false true = refl
     or_false false = refl
 
-or_none : (b : Bool) → (b || false) ≡ b
-or_none true = refl
-or_none false = refl
-
-or_one : (b : Bool) → (b || true) ≡ true
-or_one true = refl
-or_one false = refl
-
 -- one key with a count more
 pub counted_one : (n i root : ℕ) (keys : List Key) (counts : List ℕ) (marks : List Bool) → root_at keys i ≡ root → root < n → has_count counts i ≡ true
     → AreMarked n (counted_below keys counts i) marks → AreMarked n (counted_below keys counts (i + 1)) (set marks root true)
@@ -72,13 +66,13 @@ counted_one n i root keys counts marks is low some far = record {
             ∙ sym (counted_more keys counts i name
             ∙ ap (λ b. counted_below keys counts i name || (b && (name == root_at keys i))) some
             ∙ ap (λ r. counted_below keys counts i name || (name == r)) is
-            ∙ ap (λ b. counted_below keys counts i name || b) e ∙ or_one (counted_below keys counts i name))
+            ∙ ap (λ b. counted_below keys counts i name || b) e ∙ or-true (counted_below keys counts i name))
         | inr ne ↦
             get_or-set_other marks root name true false (grind (arith, nat_tests)) ∙ far.each name h
             ∙ sym (counted_more keys counts i name
             ∙ ap (λ b. counted_below keys counts i name || (b && (name == root_at keys i))) some
             ∙ ap (λ r. counted_below keys counts i name || (name == r)) is
-            ∙ ap (λ b. counted_below keys counts i name || b) ne ∙ or_none (counted_below keys counts i name))
+            ∙ ap (λ b. counted_below keys counts i name || b) ne ∙ or-false (counted_below keys counts i name))
       ];
 }
 
@@ -89,17 +83,10 @@ counted_none n i keys counts marks none far = record {
   len = far.len;
   each = λ name h.
       far.each name h
-      ∙ sym (counted_more keys counts i name ∙ ap (λ b. counted_below keys counts i name || (b && (name == root_at keys i))) none ∙ or_none (counted_below keys counts i name));
+      ∙ sym (counted_more keys counts i name ∙ ap (λ b. counted_below keys counts i name || (b && (name == root_at keys i))) none ∙ or-false (counted_below keys counts i name));
 }
 
 -- ---- keys whose functions have marks
-
-filtered_more : (p : ℕ → Bool) (i : ℕ) → filter p (range_with_len 0 (i + 1)) ≡ filter p (range_with_len 0 i) ++ cond (p i) (i ∷ []) []
-filtered_more p i = ap (filter p) (from_none i) ∙ filter-append p (range_with_len 0 i) (i ∷ [])
-
-nothing_behind : (xs : List ℕ) → xs ++ [] ≡ xs
-nothing_behind [] = refl
-nothing_behind (x ∷ xs) = ap (λ ys. x ∷ ys) (nothing_behind xs)
 
 pub one_more : (p : ℕ → Bool) (i : ℕ) (old new : List KeyId) (key : KeyId) → new ≡ old ++ key ∷ [] → key.0 ≡ i → p i ≡ true
     → map (λ key. key.0) old ≡ filter p (range_with_len 0 i) → map (λ key. key.0) new ≡ filter p (range_with_len 0 (i + 1))
@@ -110,17 +97,8 @@ one_more p i old new key pushed is some far =
 pub no_more : (p : ℕ → Bool) (i : ℕ) (old : List KeyId) → p i ≡ false
     → map (λ key. key.0) old ≡ filter p (range_with_len 0 i) → map (λ key. key.0) old ≡ filter p (range_with_len 0 (i + 1))
 no_more p i old none far =
-    far ∙ sym (nothing_behind (filter p (range_with_len 0 i)))
+    far ∙ sym (append-nil (filter p (range_with_len 0 i)))
     ∙ sym (ap (λ b. filter p (range_with_len 0 i) ++ cond b (i ∷ []) []) none) ∙ sym (filtered_more p i)
-
-filter_same : (p q : ℕ → Bool) (xs : List ℕ) → AllByRecursion (λ x. p x ≡ q x) xs → filter p xs ≡ filter q xs
-filter_same p q [] all = refl
-filter_same p q (x ∷ xs) all = λ i. cond (all.0 i) (x ∷ filter_same p q xs all.1 i) (filter_same p q xs all.1 i)
-
-pub key_there : (keys : List Key) (k : ℕ) → k < length keys → (key : Key) × (slice_get keys k ≡ Some key)
-key_there [] k h = absurd (omega arith)
-key_there (x ∷ keys) zero h = (x, refl)
-key_there (x ∷ keys) (suc k) h = key_there keys k (omega arith)
 
 pub root_given : (n : ℕ) (keys : List Key) → All (λ key. key.root.0 < n) keys → (id : ℕ) (key : Key) → slice_get keys id ≡ Some key → key.root.0 < n
 root_given n keys roots id key is = all_to_each (λ (k : Key). k.root.0 < n) key keys roots (given_among keys id key is)

@@ -13,7 +13,7 @@ use Rattle.profile_laws.specs.Once.{StandOnce}
 use Rattle.profile_lists.specs.declared.pairs.Call.{Call}
 use Rattle.profile_model.specs.Profile.{count_of}
 use Rattle.profile_model.specs.Ways.{Way, same_way}
-use Rattle.profile_tree.proofs.Filled.{one_changed}
+use Rattle.profile_tree.proofs.Filled.{one_changed, add_none, test_is}
 use Rattle.profile_tree.proofs.ListLemmas.{and_first, and_second, bool_cases, bool_same, nat_same, all_among, among_range, sum_map, sum_filter, sum_none, sum_same, one_of_range}
 use Rattle.profile_tree.specs.Known.{called_from}
 use Rattle.profile_tree.specs.Said.{said, stated, way_at}
@@ -80,19 +80,13 @@ stated_more counts i m d h =
 test_itself : (k m : ℕ) → k ≡ m → (k == m) ≡ true
 test_itself k m e = grind (arith, nat_tests)
 
-test_other : (k m : ℕ) → (m ≡ k → ⊥) → (k == m) ≡ false
-test_other k m ne = grind (arith, nat_tests)
-
-add_none : (n : ℕ) → n + 0 ≡ n
-add_none n = omega arith
-
 pub one_stated : (n i : ℕ) (counts : List KeyCount) (d : KeyCount) (numbers : List ℕ) → i < length counts → (get_or counts i d).key.0 < n
     → StandOnce (λ count. count.key.0) counts → AreEach n (count_stated (take i counts)) numbers
     → AreEach n (count_stated (take (i + 1) counts)) (set numbers (get_or counts i d).key.0 (get_or counts i d).times)
 one_stated n i counts d numbers h low once far =
     one_changed n (count_stated (take i counts)) (count_stated (take (i + 1) counts)) numbers this.key.0 this.times low far
     (sym (stated_more counts i this.key.0 d h ∙ (λ k. before k + cond (test_itself this.key.0 this.key.0 refl k) this.times 0) ∙ zero-add this.times))
-    (λ m ne. stated_more counts i m d h ∙ ap (λ b. count_stated (take i counts) m + cond b this.times 0) (test_other this.key.0 m ne) ∙ add_none (count_stated (take i counts) m))
+    (λ m ne. stated_more counts i m d h ∙ ap (λ b. count_stated (take i counts) m + cond b this.times 0) (test_is this.key.0 m ne) ∙ add_none (count_stated (take i counts) m))
   where
     this : KeyCount
     this = get_or counts i d

@@ -33,7 +33,7 @@ all_to_each P x (y ∷ xs) all h = elim h as (λ _. P x) [
   | inr r ↦ all_to_each P x xs (λ k d g. all (suc k) d (omega arith)) r
 ]
 
-key_there : (keys : List Key) (k : ℕ) → k < length keys → (key : Key) × (slice_get keys k ≡ Some key)
+pub key_there : (keys : List Key) (k : ℕ) → k < length keys → (key : Key) × (slice_get keys k ≡ Some key)
 key_there [] k h = absurd (omega arith)
 key_there (x ∷ keys) zero h = (x, refl)
 key_there (x ∷ keys) (suc k) h = key_there keys k (omega arith)

@@ -12,7 +12,7 @@ use Rattle.key_types.specs.declared.places.Where.{Where}
 use Rattle.key_types.specs.declared.places.Where.TheVariants.{Outside, Nameless, NoLine, At}
 use Rattle.sample_model.specs.Limits.{max_branches}
 use Rattle.sample_model.specs.declared.pair.Pair.{Pair}
-use Rattle.branch_counts.specs.Table.{Tallies, total_in}
+use Rattle.branch_counts.specs.Table.{Tallies}
 use Rattle.report_model.specs.declared.class.Class.{Class}
 use Rattle.report_model.specs.declared.class.Class.TheVariants.{Entry, Inside, Unmapped}
 use Rattle.report_model.specs.declared.class.Reason.{Reason}
@@ -140,10 +140,6 @@ calls_small calls place branches is few key callee = subst (λ (cs : List Call).
 
 pub heads_small : (heads : List Head) (branches : List (Classed Class)) → heads ≡ filter_map head_in branches → all_times branches ≤ max_branches → (name : ℕ) → entries_of heads name < 2 ^ 64
 heads_small heads branches is few name = subst (λ (hs : List Head). entries_of hs name < 2 ^ 64) (sym is) (omega (arith, few, entries_fit branches name))
-
--- all rows together
-pub all_classed : {C : Type 0} (class : ℕ → ℕ → C) (rows : List Pair) → all_times (map (classed_by class) rows) ≡ total_in rows
-all_classed class rows = sum_map (λ r. r.row.times) (classed_by class) rows
 
 module _ (program : Program) (all : List (List ℕ)) (keys : List Key) (segments : List Seg) (place : ℕ → Where) (function : ℕ → Option ℕ) (entered : ℕ → Option NameId)
     (shown : TellsProgram program all keys segments place function entered) (pairs : List (ℕ × ℕ)) (rows : List Pair) (tallied : Tallies pairs rows) where

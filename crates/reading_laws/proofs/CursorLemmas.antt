@@ -1,12 +1,12 @@
 -- Readers and how far they go.
-use Rattle.std.proofs.Common.{◌≡◌, ℕ, ◌+◌, ◌-◌, ◌≤◌, Bool, true, false, cond, length, nat_le, nat_lt, Ok, Err, refl, ap, subst, ◌∙◌, arith}
+use Rattle.std.proofs.Common.{◌≡◌, ℕ, ◌+◌, ◌-◌, ◌≤◌, Bool, true, false, cond, length, nat_le, nat_lt, Ok, refl, ap, subst, ◌∙◌, arith}
 use Rattle.std.specs.Prelude.{◌==◌}
 use Rattle.std.proofs.lemmas.Bool.Decides.{nat_tests}
 use Rattle.std.proofs.lemmas.List.{length-append}
 use Rattle.byte_view.specs.Cursor.{Cursor}
-use Rattle.refusal.specs.declared.kind.Kind.{Kind}
-use Rattle.placed_view.specs.Reader.{Read, behind, told_as, field}
+use Rattle.placed_view.specs.Reader.{behind, field}
 pub use Rattle.entry_model.proofs.CursorLemmas.{same_pair, reads_field, field_reads, Split, split, Unless, unless}
+pub use Rattle.entry_model.proofs.OrderLemmas.{second, told_as-same}
 use Rattle.unit_model.specs.Header.{long_length, short_length, sized, unit_length}
 
 -- The cursor went forward in its piece by so many bytes at least.
@@ -24,13 +24,6 @@ ahead_field size old new n e =
     let all : length old.left ≡ length r.bytes + length new.left = ap length r.passed.left ∙ length-append r.bytes new.left in
     let at = r.passed.at in
     record { places = omega (arith, long, at); ends = omega (arith, long, at, all) }
-
-pub told_as-same : {X : Type 0} (at : ℕ) (kind : Kind) (read : Read X) (x : X) (new : Cursor) → told_as at kind read ≡ Ok (x, new) → read ≡ Ok (x, new)
-told_as-same at kind (Ok r) x new e = e
-told_as-same at kind (Err place) x new e = absurd cc
-
-pub second : {X : Type 0} (x y : X) (a b : Cursor) → ◌≡◌ {A = Read X} (Ok (x, a)) (Ok (y, b)) → a ≡ b
-second {X = X} x y a b e = ap (λ (p : X × Cursor). p.1) (same_pair x y a b e)
 
 -- ---- the length of a unit
 

@@ -4,6 +4,7 @@ use Rattle.std.specs.Prelude.{◌==◌, ℤ, pos, is_some, slice_get}
 use Rattle.std.proofs.lemmas.Bool.{eqb-true, eq-eqb}
 use Rattle.std.specs.List.{AllZip}
 use Rattle.std.specs.Option.{option_or}
+use Rattle.refusal.proofs.PlaceLemmas.{option_or-none}
 use Rattle.block_model.specs.Function.{Function}
 use Rattle.repair_model.specs.Laws.{IsToldOf}
 use Rattle.repair_model.specs.Repair.{Repair, flow, cut}
@@ -74,10 +75,6 @@ behind_blocks number (arc ∷ arcs) rest =
     behind_blocks (number + 1) arcs rest ∙ ap (λ (m : ℕ). first_failing m rest) same
 
 -- ---- one repair behind the other
-
-neither : (x y : Option ℕ) → option_or x y ≡ None → (x ≡ None) × (y ≡ None)
-neither None y none = (refl, none)
-neither (Some x) y none = absurd (cc)
 
 pub as_many : (funs : List Function) (repairs : List (ℕ × Repair)) → AllZip IsToldOf funs repairs → length repairs ≡ length funs
 as_many [] [] all = refl
@@ -204,7 +201,7 @@ fails_at_index at (fun ∷ funs) [] d e failed within told before is some = absu
 fails_at_index zero (fun ∷ funs) (repair ∷ repairs) d e failed within told before is some =
     is ∙ some_first (failed_in (function_of fun) repair.line (repair_of repair)) _ (sym (ap is_some is) ∙ some)
 fails_at_index (suc at) (fun ∷ funs) (repair ∷ repairs) d e failed within told before is some =
-    let both = neither (failed_in (function_of fun) repair.line (repair_of repair)) _ before in
+    let both = option_or-none (failed_in (function_of fun) repair.line (repair_of repair)) _ before in
     rw both.0 (fails_at_index at funs repairs d e failed (omega (arith, within)) told.1 both.1 is some)
 
 passes_next : (at : ℕ) (funs : List Fun) (repairs : List read.Repair) (d : Fun) (e : read.Repair) (failed : Option ℕ) → at < length funs
@@ -216,7 +213,7 @@ passes_next at (fun ∷ funs) [] d e failed within told before is none = absurd 
 passes_next zero (fun ∷ funs) (repair ∷ repairs) d e failed within told before is none =
     rw (sym is ∙ no_first failed none) refl
 passes_next (suc at) (fun ∷ funs) (repair ∷ repairs) d e failed within told before is none =
-    let both = neither (failed_in (function_of fun) repair.line (repair_of repair)) _ before in
+    let both = option_or-none (failed_in (function_of fun) repair.line (repair_of repair)) _ before in
     rw both.0 (passes_next at funs repairs d e failed (omega (arith, within)) told.1 both.1 is none)
 
 pub passes_at_index : (at : ℕ) (funs : List Fun) (repairs : List read.Repair) (d : Fun) (e : read.Repair) (failed : Option ℕ) → at < length funs

@@ -23,10 +23,11 @@ use std::alloc::Global;
 /// fit them, or a cut, exactly where no counts conserve within bounds.
 ///
 /// `segments` tell the key of each address, and `counts` has the count of each key at its number,
-/// from which blocks have their weights. `edges` are what was sampled of edges; without it their
-/// weights are unknown and are not told. Where `options` are scaled each network whose counts to
-/// start from are small enough is solved within a bound on augmentations, and the answer is how
-/// many these were together, which tells nothing without it. There are at most 2^29 functions.
+/// from which blocks have their weights. `edges` are what was sampled of edges, for `options` that
+/// ask for their weights; without it these are unknown and are not told. With `options.scaled` each
+/// network whose counts to start from are small enough is solved within a bound on augmentations,
+/// and the answer is how many these were together, which tells nothing without it. There are at
+/// most 2^29 functions.
 ///
 /// # Errors
 /// `NoMemory`, and the repairs of the functions in front were appended.

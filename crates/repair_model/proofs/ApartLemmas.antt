@@ -13,6 +13,7 @@ use Rattle.repair_model.specs.Line.{begins_cut, tells_count, tells_sides, tells_
 use Rattle.repair_model.specs.Repair.{Repair, Solution, flow, cut}
 use Rattle.repair_model.specs.Text.{numbers, line_of_block, line_of_edge, lines_of_blocks, lines_of_edges, lines_of_repair}
 use Rattle.repair_model.proofs.LineLemmas.{written_lines_are_read}
+use Rattle.repair_model.proofs.BackLemmas.{unknown_at}
 
 -- ---- lists
 
@@ -118,11 +119,6 @@ same_edges (edge ∷ edges) zero m P f from is gives all within =
 same_edges (edge ∷ edges) (suc k) m P f from is gives all within =
     let next : from + 1 + k ≡ m = omega (arith, is) in
     same_edges edges k m P f (from + 1) next gives all.1 (omega (arith, within))
-
-unknown_at : (weights : List Weight) (k : ℕ) → AllByRecursion (λ weight. weight ≡ Unknown) weights → k < length weights → get_or weights k Unknown ≡ Unknown
-unknown_at [] k all within = refl
-unknown_at (weight ∷ weights) zero all within = all.0
-unknown_at (weight ∷ weights) (suc k) all within = unknown_at weights k all.1 (omega (arith, within))
 
 -- the weights of edges, told or unknown
 edge_weights_same : (weighed : Bool) (weights others : List Weight) → length weights ≡ length others

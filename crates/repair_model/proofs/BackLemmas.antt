@@ -34,7 +34,7 @@ use Rattle.repair_model.proofs.LineLemmas.{written_lines_are_read, digit_is_no}
 
 -- ---- lists
 
-all_split : {X : Type 0} (P : X → Type 0) (xs ys : List X) → AllByRecursion P (xs ++ ys) → AllByRecursion P xs × AllByRecursion P ys
+pub all_split : {X : Type 0} (P : X → Type 0) (xs ys : List X) → AllByRecursion P (xs ++ ys) → AllByRecursion P xs × AllByRecursion P ys
 all_split P [] ys all = (tt, all)
 all_split P (x ∷ xs) ys all = let rest = all_split P xs ys all.1 in ((all.0, rest.0), rest.1)
 
@@ -48,10 +48,10 @@ told_repair weights edge_weights solution first second =
 
 -- ---- a line holds no line feed
 
-both_clean : (xs ys : List ℕ) → HasNoLineFeed xs → HasNoLineFeed ys → HasNoLineFeed (xs ++ ys)
+pub both_clean : (xs ys : List ℕ) → HasNoLineFeed xs → HasNoLineFeed ys → HasNoLineFeed (xs ++ ys)
 both_clean xs ys one other = rw (list_any-append is_line_feed xs ys, one) other
 
-spaced_clean : (fields : List (List ℕ)) → AllByRecursion HasNoLineFeed fields → HasNoLineFeed (spaced fields)
+pub spaced_clean : (fields : List (List ℕ)) → AllByRecursion HasNoLineFeed fields → HasNoLineFeed (spaced fields)
 spaced_clean [] clean = refl
 spaced_clean (field ∷ []) clean = clean.0
 spaced_clean (field ∷ next ∷ fields) clean =
@@ -68,7 +68,7 @@ signed_clean : (z : ℤ) → fits_price z ≡ true → HasNoLineFeed (signed_tex
 signed_clean (pos n) fits = numeral_clean n (omega (arith, ltb-true n (2 ^ 63) fits))
 signed_clean (negsuc n) fits = numeral_clean (suc n) (omega (arith, ltb-true n (2 ^ 63) fits))
 
-bit_clean : (bit : Bool) → HasNoLineFeed (bit_text bit)
+pub bit_clean : (bit : Bool) → HasNoLineFeed (bit_text bit)
 bit_clean false = refl
 bit_clean true = refl
 
@@ -265,7 +265,7 @@ edge_is_due fun weights edge_weights counts ins outs k edge edges weighed less l
     let told = told_repair weights edge_weights (flow counts ins outs) 0 0 in
     rw (no_block_due fun told weighed, next_is fun told k edge edges long left, long, lt-ltb k (length fun.edges) less) refl
 
-unknown_at : (weights : List Weight) (k : ℕ) → AllByRecursion (λ weight. weight ≡ Unknown) weights → k < length weights → get_or weights k Unknown ≡ Unknown
+pub unknown_at : (weights : List Weight) (k : ℕ) → AllByRecursion (λ weight. weight ≡ Unknown) weights → k < length weights → get_or weights k Unknown ≡ Unknown
 unknown_at [] k all less = refl
 unknown_at (weight ∷ weights) zero all less = all.0
 unknown_at (weight ∷ weights) (suc k) all less = unknown_at weights k all.1 (omega (arith, less))

@@ -5,6 +5,7 @@ use Rattle.std.specs.List.{AllByRecursion}
 use Rattle.std.proofs.lemmas.Bool.{cases_Bool}
 use Rattle.std.proofs.lemmas.Bool.Decides.{nat_tests}
 use Rattle.std.proofs.lemmas.List.Sums.{sum_by-cons}
+use mathlib.Core.Bool.{or-true}
 use Rattle.sample_model.specs.Laws.{IsAscending, has_pair}
 use Rattle.sample_model.specs.Pairs.{same_pair, times_of, distinct_pairs}
 use Rattle.sample_model.proofs.PairLemmas.{same_pair-refl, same_pair-equal, has_pair-below, distinct_pairs_ascend}
@@ -122,14 +123,10 @@ kind_adds_up test distinct (p ∷ listed) up there =
       sum_by-cons (λ q. cond (test q) 1 0) p listed,
     )
 
-or_true : (t : Bool) → (t || true) ≡ true
-or_true true = refl
-or_true false = refl
-
 -- each member of a list stands there
 behind_one : (q : ℕ × ℕ) (all pairs : List (ℕ × ℕ)) → AllByRecursion (λ p. has_pair p all ≡ true) pairs → AllByRecursion (λ p. has_pair p (q ∷ all) ≡ true) pairs
 behind_one q all [] there = tt
-behind_one q all (p ∷ pairs) there = (ap (λ t. same_pair p q || t) there.0 ∙ or_true (same_pair p q), behind_one q all pairs there.1)
+behind_one q all (p ∷ pairs) there = (ap (λ t. same_pair p q || t) there.0 ∙ or-true (same_pair p q), behind_one q all pairs there.1)
 
 members : (pairs : List (ℕ × ℕ)) → AllByRecursion (λ p. has_pair p pairs ≡ true) pairs
 members [] = tt

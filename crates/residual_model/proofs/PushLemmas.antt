@@ -12,7 +12,7 @@ use Rattle.residual_model.specs.Laws.{StartingCountsFit, PushesAlongFit, PushesA
 
 -- ---- what a unit costs
 
-rises : (up down weight n : ℕ) → weight ≤ n
+pub rises : (up down weight n : ℕ) → weight ≤ n
     → up * ((n + 1) - weight) + down * (weight - (n + 1)) ≡ up * (n - weight) + down * (weight - n) + up
 rises up down weight n past =
     let more : (n + 1) - weight ≡ (n - weight) + 1 = omega arith in
@@ -20,7 +20,7 @@ rises up down weight n past =
     let nothing : weight - n ≡ 0 = omega arith in
     rw (more, none, nothing) (omega arith)
 
-falls : (up down weight n : ℕ) → n < weight
+pub falls : (up down weight n : ℕ) → n < weight
     → up * (n - weight) + down * (weight - n) ≡ up * ((n + 1) - weight) + down * (weight - (n + 1)) + down
 falls up down weight n before =
     let more : weight - n ≡ (weight - (n + 1)) + 1 = omega arith in
@@ -62,7 +62,7 @@ capped_more : (upper : Option ℕ) (n : ℕ) → IsBelow upper (capped upper n) 
 capped_more None n below = omega arith
 capped_more (Some upper) n below = omega (arith, below)
 
-capped_less : (upper : Option ℕ) (n : ℕ) → capped upper n ≤ n
+pub capped_less : (upper : Option ℕ) (n : ℕ) → capped upper n ≤ n
 capped_less None n = omega arith
 capped_less (Some upper) n = omega arith
 

@@ -11,7 +11,7 @@ use Rattle.text_model.specs.Numbers.{number_of, has_prefix, hex_of, prefixed_of,
 use Rattle.sample_model.specs.Line.{◌>>=◌, within_64_bits, address_of, is_slash, entry_of}
 use Rattle.sample_model.specs.Laws.{SpellsEntry, EntriesAreSpelled}
 
->>=-Some : {A B : Type 0} (o : Option A) (f : A → Option B) (y : B) → (o >>= f) ≡ Some y → (x : A) × (o ≡ Some x) × (f x ≡ Some y)
+pub >>=-Some : {A B : Type 0} (o : Option A) (f : A → Option B) (y : B) → (o >>= f) ≡ Some y → (x : A) × (o ≡ Some x) × (f x ≡ Some y)
 >>=-Some None f y is = absurd (cc)
 >>=-Some (Some x) f y is = (x, refl, is)
 

@@ -1,7 +1,7 @@
 -- The items of lines where lines are added, and the lines of a text where bytes are added.
 use Rattle.std.proofs.Common.{◌≡◌, ℕ, ◌+◌, ◌-◌, ◌<◌, ◌≤◌, nat_lt, nat_le, Bool, true, false, List, [], ◌∷◌, ◌++◌, length, map, take, min, Option, None, Some, refl, sym, ap, subst, ◌∙◌, arith}
 use Rattle.std.specs.Prelude.{filter, is_none}
-use Rattle.std.specs.List.{AllByRecursion, enumerate_from, flat_map, prefix_len}
+use Rattle.std.specs.List.{enumerate_from, flat_map, prefix_len}
 use Rattle.std.specs.Option.{option_map, option_or}
 use Rattle.std.proofs.lemmas.Bool.{le-leb, lt-leb, lt-ltb, le-ltb}
 use Rattle.std.proofs.lemmas.Bool.Decides.{nat_tests}
@@ -10,6 +10,7 @@ use Rattle.std.proofs.lemmas.List.{append-nil, append_assoc, length-append, leng
 use Rattle.std.proofs.lemmas.List.FromFn.{length-enumerate_from}
 use Rattle.std.proofs.lemmas.List.Sums.{prefix_len-le-length}
 use Rattle.std.proofs.Math.Seq.{take-append-add}
+use Rattle.list_lemmas.proofs.Each.{all_append}
 use Rattle.refusal.specs.declared.kind.Kind.TheVariants.{FileTooLarge}
 use Rattle.refusal.specs.declared.place.Place.{Place}
 use Rattle.refusal.specs.Place.{first_bad, fails_at, size_item}
@@ -154,15 +155,11 @@ lines_before_bad-some file lines more n =
 
 -- ---- the lines of a text that goes on
 
-both_clean : (lines more : List (List ℕ)) → AllByRecursion HasNoLineFeed lines → AllByRecursion HasNoLineFeed more → AllByRecursion HasNoLineFeed (lines ++ more)
-both_clean [] more clean later = later
-both_clean (line ∷ lines) more clean later = (clean.0, both_clean lines more clean.1 later)
-
 -- the lines of the open rest, with what came behind it, stand behind those that had ended
 pub lines-append : (text more rest last : List ℕ) (done lines later all : List (List ℕ)) → IsTextOf text done lines rest → IsTextOf (rest ++ more) later all last
     → IsTextOf (text ++ more) (done ++ later) ((done ++ later) ++ filter is_filled (last ∷ [])) last
 lines-append text more rest last done lines later all front behind = record {
-  clean = both_clean done later front.clean behind.clean;
+  clean = all_append HasNoLineFeed done later front.clean behind.clean;
   open_end = behind.open_end;
   joined = ap (λ (t : List ℕ). t ++ more) front.joined ∙ append_assoc (flat_map ended done) rest more
       ∙ ap (λ (t : List ℕ). flat_map ended done ++ t) behind.joined

@@ -10,8 +10,8 @@ use Rattle.std.proofs.lemmas.List.Quantifiers.{all_pairs_push}
 use Rattle.list_lemmas.proofs.Each.{all_append, all_push}
 use Rattle.refusal.specs.declared.kind.Kind.{Kind}
 use Rattle.refusal.specs.declared.kind.Kind.TheVariants.{BadLine, TooManyBlocks, BlockOrder, BlockEmpty, BlockOverlap, TooManyEdges, EdgeEnd, EdgeTwice, NoBlocks, BadBound}
-use Rattle.refusal.specs.declared.place.Place.{Place}
 use Rattle.refusal.specs.Place.{first_bad, first_cause}
+use Rattle.refusal.proofs.PlaceLemmas.{first_bad-none}
 use Rattle.text_model.specs.Lines.{lines_of}
 use Rattle.block_model.specs.declared.parts.Block.{Block}
 use Rattle.block_model.specs.declared.parts.Bound.{Bound}
@@ -68,10 +68,6 @@ no_causes false true c d k l m n rest none = absurd (cc)
 no_causes false false true d k l m n rest none = absurd (cc)
 no_causes false false false true k l m n rest none = absurd (cc)
 no_causes false false false false k l m n rest none = (refl, refl, refl, refl, none)
-
-none_bad : (here : Option Place) (rest : List (Option Place)) → first_bad (here ∷ rest) ≡ None → (here ≡ None) × (first_bad rest ≡ None)
-none_bad None rest none = (refl, none)
-none_bad (Some place) rest none = absurd (cc)
 
 no_item : (file number : ℕ) (cause : Option Kind) → item file number cause ≡ None → cause ≡ None
 no_item file number None none = refl
@@ -186,7 +182,7 @@ all_sound : (file number : ℕ) (opened : Option Function) (lines : List (List �
 unfolding items_from functions_from
 all_sound file number opened [] keeps good = tt
 all_sound file number opened (line ∷ lines) keeps good =
-    let parts = none_bad _ _ good in
+    let parts = first_bad-none _ _ good in
     let step = stepped opened (line_of line) keeps (small_line line) (no_item file number _ parts.0) in
     all_append Sound (closed_by_line opened (line_of line)) (functions_from (open_behind_line opened (line_of line)) lines) step.1
     (all_sound file (number + 1) (open_behind_line opened (line_of line)) lines step.0 parts.1)

@@ -1,13 +1,13 @@
 -- The spans between two addresses.
-use Rattle.std.proofs.Common.{◌≡◌, ℕ, zero, suc, ◌-◌, ◌<◌, ◌≤◌, true, false, ltb, ltb-false, subst, length-drop, List, [], ◌∷◌, None, refl, sym, ap, ◌∙◌, arith, length, take, drop, get_or}
+use Rattle.std.proofs.Common.{◌≡◌, ℕ, zero, suc, ◌-◌, ◌<◌, ◌≤◌, true, false, ltb, ltb-false, subst, length-drop, List, [], ◌∷◌, None, sym, ap, ◌∙◌, arith, length, take, drop, get_or}
 use Rattle.std.specs.Option.{option_or}
 use Rattle.std.specs.List.Sorted.{IsNonDecreasingBy, IsPartitionPoint}
 use Rattle.std.proofs.lemmas.List.{take-append-drop, take_all}
 use Rattle.std.proofs.Math.Seq.{drop-nil}
 use Rattle.address_spans.specs.declared.span.Span.{Span}
 use Rattle.address_spans.specs.Spans.{owner_at, AreBetween}
-use Rattle.address_spans.proofs.SpanLemmas.{missed-before, missed-behind, owner-miss, owner-append}
-use Rattle.address_spans.proofs.SearchLemmas.{IsFirstBehind}
+use Rattle.address_spans.proofs.SpanLemmas.{missed-before, owner-miss, owner-append}
+use Rattle.address_spans.proofs.SearchLemmas.{IsFirstBehind, none_held}
 use Rattle.span_cover.proofs.CoverLemmas.{or-none}
 
 starts-rise_from : (from to : ℕ) (xs : List Span) → AreBetween from to xs → (j : ℕ) (d : Span) → j < length xs → from ≤ (get_or xs j d).lo
@@ -23,14 +23,6 @@ starts-rise from to (x ∷ xs) between zero (suc j) d before within = omega (ari
 starts-rise from to (x ∷ xs) between (suc i) zero d before within = absurd (omega (arith, before))
 starts-rise from to (x ∷ xs) between (suc i) (suc j) d before within =
     starts-rise x.hi to xs between.2 i j d (omega (arith, before)) (omega (arith, within))
-
-none-before : (xs : List Span) (n a : ℕ) → ((k : ℕ) (d : Span) → k < n → k < length xs → (get_or xs k d).hi ≤ a) → owner_at (take n xs) a ≡ None
-none-before [] zero a ended = refl
-none-before [] (suc n) a ended = refl
-none-before (x ∷ xs) zero a ended = refl
-none-before (x ∷ xs) (suc n) a ended =
-    owner-miss x (take n xs) a (missed-behind x a (ended 0 x (omega arith) (omega arith)))
-    ∙ none-before xs n a (λ k d below within. ended (suc k) d (omega (arith, below)) (omega (arith, within)))
 
 none-past : (xs : List Span) (n a : ℕ) → ((k : ℕ) (d : Span) → n ≤ k → k < length xs → a < (get_or xs k d).lo) → owner_at (drop n xs) a ≡ None
 none-past [] n a begun = ap (λ (ys : List Span). owner_at ys a) (drop-nil n)
@@ -48,7 +40,7 @@ cut xs i k a ended begun =
     ∙ ap (option_or (owner_at (take k (drop i xs)) a)) (sym (none-past (drop i xs) k a begun))
     ∙ sym (owner-append (take k (drop i xs)) (drop k (drop i xs)) a)
     ∙ ap (λ (ys : List Span). owner_at ys a) (take-append-drop k (drop i xs))
-    ∙ ap (λ o. option_or o (owner_at (drop i xs) a)) (sym (none-before xs i a ended))
+    ∙ ap (λ o. option_or o (owner_at (drop i xs) a)) (sym (none_held xs i a ended))
     ∙ sym (owner-append (take i xs) (drop i xs) a)
     ∙ ap (λ (ys : List Span). owner_at ys a) (take-append-drop i xs)
 

@@ -14,7 +14,7 @@ use Rattle.address_spans.specs.Spans.{AreDisjoint, owner_at, framed_owner, holds
 use Rattle.chain_model.specs.declared.member.Member.{Member}
 use Rattle.chain_model.specs.Chains.{holds, holds_at, numbered, function_at, piece_holds}
 use Rattle.chain_model.specs.Pass.{chain_from}
-use Rattle.chain_model.proofs.PassLemmas.{chain-left, chain-taken, chain-passed}
+use Rattle.chain_model.proofs.PassLemmas.{chain-left, chain-taken, chain-passed, less as is_less, not_less as not_within}
 use Rattle.span_cover.specs.Owners.{owned, innermost_from, spans_of}
 use Rattle.span_cover.specs.Levels.{past, next_in, IsLevel, LevelSoFar}
 
@@ -23,12 +23,6 @@ within d k le = grind (arith, nat_tests)
 
 outside : (d k : ℕ) → d < k → nat_lt d k ≡ true
 outside d k lt = grind (arith, nat_tests)
-
-not_within : (d k : ℕ) → nat_lt d k ≡ false → k ≤ d
-not_within d k is = grind (arith, nat_tests)
-
-is_less : (d k : ℕ) → nat_lt d k ≡ true → d < k
-is_less d k is = grind (arith, nat_tests)
 
 le_or_lt : (m n : ℕ) → (m ≤ n) ⊎ (n < m)
 le_or_lt m n = by (nat_lt n m) refl

@@ -1,9 +1,11 @@
 -- A frame, and what of the inner spans lies in it.
-use Rattle.std.proofs.Common.{◌≡◌, ℕ, ◌-◌, ◌^◌, ◌<◌, ◌≤◌, min, max, List, [], ◌∷◌, ◌++◌, Option, None, Some, refl, sym, ap, ◌∙◌, arith, ◌⊎◌, inl, inr}
+use Rattle.std.proofs.Common.{◌≡◌, ℕ, ◌-◌, ◌^◌, ◌<◌, ◌≤◌, min, max, List, [], ◌∷◌, ◌++◌, Option, None, Some, refl, sym, ap, ◌∙◌, arith, inl, inr}
 use Rattle.std.specs.Option.{option_or}
+use Rattle.std.proofs.lemmas.Bool.{cases_lt as either}
 use Rattle.address_spans.specs.declared.span.Span.{Span}
 use Rattle.address_spans.specs.Spans.{AreDisjoint, framed_owner, owner_at}
 use Rattle.address_spans.proofs.SpanLemmas.{held, missed-before, missed-behind, owner-hit, owner-miss, owner-append, owner-before}
+use Rattle.span_cover.proofs.CoverLemmas.{or-or}
 
 -- a frame from an address on
 abbrev pub frame_from : Span → ℕ → Span
@@ -14,13 +16,6 @@ pub record FramedSoFar (old : List Span) (frame : Span) (inner spans : List Span
   pub owners : (a : ℕ) → option_or (owner_at spans a) (framed_owner (owner_at (frame_from frame from ∷ []) a) (owner_at left a))
       ≡ option_or (owner_at old a) (framed_owner (owner_at (frame ∷ []) a) (owner_at inner a))
   pub ahead : AreDisjoint left
-
-either : (m n : ℕ) → (m < n) ⊎ (n ≤ m)
-either m n = grind arith
-
-or-or : (o p q : Option ℕ) → option_or (option_or o p) q ≡ option_or o (option_or p q)
-or-or None p q = refl
-or-or (Some n) p q = refl
 
 -- one span of the frame alone
 hits : (x : Span) (a : ℕ) → x.lo ≤ a → a < x.hi → owner_at (x ∷ []) a ≡ Some x.owner

@@ -1,34 +1,27 @@
 -- A good branch text has fewer than 2^32 branches, and no more ranges than branches.
 use Rattle.std.proofs.Common.{◌≡◌, ◌≤◌, ◌+◌, ◌-◌, ℕ, nat_lt, not, ◌&&◌, Bool, true, false, List, [], ◌∷◌, ◌++◌, drop, length, map, take, zip, Option, None, Some, refl, sym, ap, subst, ◌∙◌, inl, inr, arith, append_assoc, append-nil}
 use Rattle.std.specs.List.{enumerate_from, flat_map}
-use Rattle.std.specs.Option.{option_map, option_or}
+use Rattle.std.specs.Option.{option_map}
 use Rattle.std.proofs.lemmas.Bool.{cases_lt, lt-ltb}
 use Rattle.std.proofs.lemmas.Grind.{flat_map-append}
 use Rattle.std.proofs.lemmas.List.{length-append, length-map, take_at}
+use Rattle.std.proofs.lemmas.Slice.Zip.{length-zip}
 use Rattle.refusal.specs.declared.kind.Kind.{Kind}
 use Rattle.refusal.specs.declared.kind.Kind.TheVariants.{BadLine, FileTooLarge, LineTooLong, TooManyBranches, TooManyEntries}
-use Rattle.refusal.specs.declared.place.Place.{Place}
 use Rattle.refusal.specs.Place.{fails_at, first_bad, first_cause, size_item}
-use Rattle.refusal.proofs.PlaceLemmas.{first_bad-append}
+use Rattle.refusal.proofs.PlaceLemmas.{first_bad-append, first_bad-none, option_or-none}
 use Rattle.text_model.specs.Lines.{lines_of}
 use Rattle.sample_model.proofs.JudgingLemmas.{judged_lines_of-whole}
 use Rattle.sample_model.specs.Judging.{cause_of_line, first_bad_of_text, item_of_line, items_of_lines, judged_lines_of}
 use Rattle.sample_model.specs.Limits.{max_branches, max_entries, max_line_bytes, max_text_bytes}
 use Rattle.sample_model.specs.Line.{branches_of_line, is_sample, is_well_formed}
 use Rattle.sample_model.specs.Loads.{loads_of}
-use Rattle.sample_model.specs.Moves.{LoadMap, MovedBranch, branches_by, counted_branch, moved_branch, moved_line, moved_lines, moved_range_between, moved_ranges, ranges_by}
+use Rattle.sample_model.specs.Moves.{LoadMap, MovedBranch, branches_by, moved_branch, moved_line, moved_lines, moved_range_between, moved_ranges, ranges_by}
 use Rattle.sample_model.specs.declared.load.Load.{Load}
 use Rattle.sample_model.specs.Samples.{branches_of_lines, range_between, ranges_between, ranges_of_line, ranges_of_lines}
+use Rattle.sample_model.proofs.MoveLemmas.{moved_branches}
 
 -- ---- no more branches than there may be
-
-neither : (a b : Option Place) → option_or a b ≡ None → (a ≡ None) × (b ≡ None)
-neither None b is = (refl, is)
-neither (Some place) b is = absurd cc
-
-first_none : (item : Option Place) (items : List (Option Place)) → first_bad (item ∷ items) ≡ None → (item ≡ None) × (first_bad items ≡ None)
-first_none None items is = (refl, is)
-first_none (Some place) items is = absurd cc
 
 no_cause : {X : Type 0} (f : Kind → X) (cause : Option Kind) → option_map f cause ≡ None → cause ≡ None
 no_cause f None is = refl
@@ -61,7 +54,7 @@ few_behind : (file : ℕ) (lines done rest : List (List ℕ)) (n : ℕ) → line
     → first_bad (map (item_of_line file lines) (enumerate_from n rest)) ≡ None → length (branches_of_lines lines) ≤ max_branches
 few_behind file lines done [] n is size few good = subst (λ (ls : List (List ℕ)). length (branches_of_lines ls) ≤ max_branches) (sym (is ∙ append-nil done)) few
 few_behind file lines done (line ∷ rest) n is size few good =
-    let items = first_none _ _ good in
+    let items = first_bad-none _ _ good in
     let number : n - 1 ≡ length done = omega (arith, size) in
     let before : take (n - 1) lines ≡ done = (λ i. take (number i) (is i)) ∙ take_at done (line ∷ rest) (length done) refl in
     let none : cause_of_line (length (branches_of_lines done)) line ≡ None =
@@ -83,39 +76,25 @@ small_text file text none = elim (cases_lt max_text_bytes (length text)) as (λ 
 pub branches_are_few : (file : ℕ) (text : List ℕ) → first_bad_of_text file text ≡ None → length (branches_of_lines (lines_of text)) ≤ max_branches
 unfolding items_of_lines
 branches_are_few file text good =
-    let parts = neither _ _ (sym (first_bad-append (items_of_lines file (judged_lines_of text)) (size_item file max_text_bytes text ∷ [])) ∙ good) in
-    let small = small_text file text (first_none _ [] parts.1).0 in
+    let parts = option_or-none _ _ (sym (first_bad-append (items_of_lines file (judged_lines_of text)) (size_item file max_text_bytes text ∷ [])) ∙ good) in
+    let small = small_text file text (first_bad-none _ [] parts.1).0 in
     let all = judged_lines_of-whole text small in
     few_behind file (lines_of text) [] (lines_of text) 1 refl refl (omega arith)
     (subst (λ (ls : List (List ℕ)). first_bad (map (item_of_line file ls) (enumerate_from 1 ls)) ≡ None) all parts.0)
 
 -- ---- moved or not, there are as many, and no more ranges
 
-moved_branches : (loading : LoadMap) (before : List Load) (lines : List (List ℕ)) → length (flat_map (map counted_branch) (moved_lines loading before lines)) ≡ length (branches_of_lines lines)
-moved_branches loading before [] = refl
-moved_branches loading before (line ∷ lines) =
-    let more = before ++ loads_of loading.name (line ∷ []) in
-    length-append (map counted_branch (moved_line loading.segments before line)) (flat_map (map counted_branch) (moved_lines loading more lines))
-    ∙ (λ i. (length-map (moved_line loading.segments before line) counted_branch ∙ length-map (branches_of_line line) (moved_branch loading.segments before)) i
-    + moved_branches loading more lines i)
-    ∙ sym (length-append (branches_of_line line) (branches_of_lines lines))
-
 pub branches_by_few : (loading : Option LoadMap) (lines : List (List ℕ)) → length (branches_by loading lines) ≡ length (branches_of_lines lines)
 branches_by_few None lines = refl
 branches_by_few (Some loading) lines = moved_branches loading [] lines
 
-zip_short : {X Y : Type 0} (xs : List X) (ys : List Y) → length (zip xs ys) ≤ length xs
-zip_short [] ys = omega arith
-zip_short (x ∷ xs) [] = omega arith
-zip_short (x ∷ xs) (y ∷ ys) = let rest = zip_short xs ys in omega (arith, rest)
-
 between_few : (branches : List (ℕ × ℕ)) → length (ranges_between branches) ≤ length branches
 unfolding ranges_between
-between_few branches = let size = length-map (zip branches (drop 1 branches)) range_between in let short = zip_short branches (drop 1 branches) in omega (arith, size, short)
+between_few branches = let size = length-map (zip branches (drop 1 branches)) range_between in let short = length-zip branches (drop 1 branches) in omega (arith, size, short)
 
 moved_few : (branches : List MovedBranch) → length (moved_ranges branches) ≤ length branches
 unfolding moved_ranges
-moved_few branches = let size = length-map (zip branches (drop 1 branches)) moved_range_between in let short = zip_short branches (drop 1 branches) in omega (arith, size, short)
+moved_few branches = let size = length-map (zip branches (drop 1 branches)) moved_range_between in let short = length-zip branches (drop 1 branches) in omega (arith, size, short)
 
 ranges_few : (lines : List (List ℕ)) → length (ranges_of_lines lines) ≤ length (branches_of_lines lines)
 ranges_few [] = omega arith

@@ -1,15 +1,14 @@
 -- The profile of a binary and a good branch text can be told.
 use Rattle.std.proofs.Common.{◌≡◌, ◌<◌, ◌≤◌, ◌^◌, ℕ, Bool, true, List, [], ◌∷◌, filter_map, length, Option, None, Some, option_map, refl, arith}
 use Rattle.std.specs.List.{AllByRecursion}
-use Rattle.std.specs.declared.cmp.Ordering.{Ordering}
-use Rattle.std.specs.declared.cmp.Ordering.TheVariants.{Less, Equal, Greater}
 use Rattle.list_lemmas.proofs.Each.{all_append}
 use Rattle.text_model.specs.Lines.{lines_of}
 use Rattle.asked_laws.proofs.ProfileLemmas.{count_is}
 use Rattle.profile_model.specs.Names.{is_name}
-use Rattle.profile_model.specs.Orders.{ordered, placed, way_cmp, with_item}
+use Rattle.profile_model.specs.Orders.{way_cmp}
 use Rattle.profile_model.specs.Profile.{recorded}
 use Rattle.profile_model.specs.Ways.{Way, to_function}
+use Rattle.profile_model.proofs.OrderedLemmas.{all_ordered}
 use Rattle.report_model.specs.Report.{Sampled}
 use Rattle.spelling_laws.specs.Told.{CanBeWritten, IsFunctionWay, IsToldWay}
 use Rattle.binary_model.specs.Places.{Place, at_way, nameless, no_line, outside}
@@ -22,21 +21,6 @@ use Rattle.way_laws.proofs.EachLemmas.{OfSome, all_filtered, all_found, all_mapp
 use Rattle.way_laws.proofs.NameLemmas.{IsNameIfAny}
 use Rattle.way_laws.proofs.PlaceLemmas.{IsToldPlace, entries_are_named, places_are_told}
 use Rattle.way_laws.proofs.SampleLemmas.{branches_are_few, branches_by_few, ranges_by_few}
-
--- ---- lists in order
-
-placed_all : {X : Type 0} (P : X → Type 0) (r : Ordering) (x y : X) (items more : List X) → P x → AllByRecursion P (y ∷ items) → AllByRecursion P more → AllByRecursion P (placed r x y items more)
-placed_all P Less x y items more is all also = (is, all)
-placed_all P Equal x y items more is all also = all
-placed_all P Greater x y items more is all also = (all.0, also)
-
-with_all : {X : Type 0} (P : X → Type 0) (cmp : X → X → Ordering) (x : X) (items : List X) → P x → AllByRecursion P items → AllByRecursion P (with_item cmp x items)
-with_all P cmp x [] is all = (is, tt)
-with_all P cmp x (y ∷ items) is all = placed_all P (cmp x y) x y items (with_item cmp x items) is all (with_all P cmp x items is all.1)
-
-ordered_all : {X : Type 0} (P : X → Type 0) (cmp : X → X → Ordering) (items : List X) → AllByRecursion P items → AllByRecursion P (ordered cmp items)
-ordered_all P cmp [] all = tt
-ordered_all P cmp (x ∷ items) all = with_all P cmp x (ordered cmp items) all.0 (ordered_all P cmp items all.1)
 
 -- ---- ways, calls and entries of a binary
 
@@ -55,7 +39,7 @@ module _ (file : List ℕ) (base : Bool) where
 
   ways_are : (addresses : List ℕ) → AllByRecursion IsToldWay (ways_among addresses (program_of file base))
   ways_are addresses =
-      ordered_all IsToldWay (way_cmp (λ _. 0)) (filter_map (way_at (program_of file base)) addresses) (all_found IsToldWay (way_at (program_of file base)) addresses way_is)
+      all_ordered IsToldWay (way_cmp (λ _. 0)) (filter_map (way_at (program_of file base)) addresses) (all_found IsToldWay (way_at (program_of file base)) addresses way_is)
 
   call_is : (way : Option Way) (name : Option (List ℕ)) → OfSome IsToldWay way → IsNameIfAny name → OfSome IsCall (call_by way name)
   call_is None name is named = tt

@@ -2,7 +2,7 @@
 use Rattle.std.proofs.Common.{◌≡◌, ℕ, zero, suc, ◌<◌, ◌≢◌, ◌&&◌, Bool, true, false, get_or, List, refl, arith, inl, inr, Some, None, sym, ◌∙◌}
 use Rattle.std.specs.Prelude.{◌==◌, if◌then◌else◌}
 use Rattle.std.specs.Char.{is_digit, digit_value}
-use Rattle.std.proofs.lemmas.Bool.{cases_eq, eqb-true, ltb-true}
+use Rattle.std.proofs.lemmas.Bool.{cases_eq, eqb-true, ltb-true, and_parts}
 use Rattle.text_scan.specs.declared.read.TheConstants.{HEX_DIGITS}
 use Rattle.text_scan.proofs.read.hex_digit.Goals as goal
 
@@ -14,16 +14,11 @@ agree_below : (ℕ → ℕ) → (ℕ → ℕ) → ℕ → Bool
 agree_below f g zero = true
 agree_below f g (suc n) = f n == g n && agree_below f g n
 
-both_of : (x rest : Bool) → (x && rest) ≡ true → (x ≡ true) × (rest ≡ true)
-both_of true true h = (refl, refl)
-both_of true false h = cc
-both_of false rest h = cc
-
 agree_at : (f g : ℕ → ℕ) (n : ℕ) → agree_below f g n ≡ true → (b : ℕ) → b < n → f b ≡ g b
 unfolding agree_below
 agree_at f g zero h b lt = absurd (omega arith)
 agree_at f g (suc n) h b lt =
-    let both = both_of (f n == g n) (agree_below f g n) h in
+    let both = and_parts (f n == g n) (agree_below f g n) h in
     elim (cases_eq b n) [ inl same ↦ rw same (eqb-true (f n) (g n) both.0) | inr other ↦ agree_at f g n both.1 b (omega arith) ]
 
 from_table : (table : List ℕ) (b : ℕ) → b < 256 → agree_below (λ k. get_or table k 0) worth 256 ≡ true → get_or table b 0 ≡ worth b

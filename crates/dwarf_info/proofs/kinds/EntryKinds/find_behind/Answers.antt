@@ -1,14 +1,15 @@
 use Rattle.std.proofs.Common.{List, Some, drop, ap, sym, ◌∙◌, arith}
 use Rattle.std.specs.Option.{option_map}
 use Rattle.unit_model.specs.Abbrev.{Abbrev, find_code}
+use Rattle.dwarf_abbrev.proofs.RowLemmas.{found-none}
 use Rattle.dwarf_info.specs.Telling.{shortened}
-use Rattle.dwarf_info.proofs.TellingLemmas.{kind-found, unfound}
+use Rattle.dwarf_info.proofs.TellingLemmas.{kind-found}
 use Rattle.dwarf_info.proofs.TailLemmas.{none-behind, before-skip, behind-skip}
 use Rattle.dwarf_info.proofs.kinds.EntryKinds.find_behind.Goals as goal
 
 pub returns-in_err-index : goal.returns-in_err-index
 returns-in_err-index c =
-    c.from_residual.ensures ∙ ap (option_map shortened) (sym (none-behind c.self.inside.table c.args.skip c.args.code (unfound c.self.inside.table c.args.code (sym c.in_err-index.ensures))))
+    c.from_residual.ensures ∙ ap (option_map shortened) (sym (none-behind c.self.inside.table c.args.skip c.args.code (found-none c.self.inside.table c.args.code (sym c.in_err-index.ensures))))
     ∙ ap (λ (t : List Abbrev). option_map shortened (find_code (drop c.args.skip t) c.args.code)) c.self.view_is
 
 pub returns-then-index-skip : goal.returns-then-index-skip

@@ -59,7 +59,8 @@ pub record IsWalked (file : List ℕ) (sections : RangeSections) (resolve : Reso
   pub marked : All (IsMarked file sections resolve pairs entries live) marks
 
 -- A call passed an entry, or found the end of the list, or the place where the list is bad.
-abbrev pub Steps : List ℕ → RangeSections → Resolves → Bool → Cursor → ℕ → ListWalk → ListWalk → Result Bool Stop → Type 0
+abbrev pub Steps : List ℕ → RangeSections → Resolves → Bool → Cursor → ℕ → ListWalk → ListWalk → Result Bool Stop
+    → Type 0
 Steps file sections resolve pairs start first_base old new (Ok true) =
     IsReading file sections resolve pairs start first_base new × (length new.cur.left < length old.cur.left)
 Steps file sections resolve pairs start first_base old new (Ok false) =

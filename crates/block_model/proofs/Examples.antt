@@ -1,7 +1,7 @@
 -- The definitions on worked values.
-use Rattle.std.proofs.Common.{◌≡◌, Bool, List, [], ◌∷◌, ◌++◌, refl, Some, None, true, false, codes, ℕ, Option}
+use Rattle.std.proofs.Common.{◌≡◌, Bool, List, [], ◌∷◌, ◌++◌, refl, Some, None, true, false, codes, ℕ, Option, replicate}
 use Rattle.refusal.specs.declared.kind.Kind.{Kind}
-use Rattle.refusal.specs.declared.kind.Kind.TheVariants.{BadLine, BlockOrder, BlockEmpty, BlockOverlap, NoBlocks, NoEndLine, BadBound, EdgeEnd, EdgeTwice}
+use Rattle.refusal.specs.declared.kind.Kind.TheVariants.{BadLine, TooManyBlocks, BlockOrder, BlockEmpty, BlockOverlap, NoBlocks, NoEndLine, BadBound, EdgeEnd, EdgeTwice}
 use Rattle.refusal.specs.declared.place.Place.{Place}
 use Rattle.text_model.specs.Fields.{fields_of}
 use Rattle.text_model.specs.Lines.{lines_of}
@@ -141,3 +141,27 @@ two_generated : functions_of (
     ∷ []
 unfolding functions_from line_of line_by_fields block_line_of edge_line_of place_of address_of bound_of bound_by_word fields_of number_of prefixed_of lines_of
 two_generated = refl
+
+-- numbers, addresses and bounds up to their ends; a bound by one number, and behind `exit`
+up_to_the_ends : (line_of (codes "edge 18446744073709551615 0 lo=17592186044415") ≡ Some (tells_edge 0xffffffffffffffff 0 (record { lower = 17592186044415; upper = None })))
+    × (line_of (codes "edge 0 1 hi=5") ≡ Some (tells_edge 0 1 (record { lower = 0; upper = Some 5 })))
+    × (line_of (codes "block 0 0x1 0xffffffffffffffff exit ran") ≡ Some (tells_block 0 (record { lo = 1; hi = 0xffffffffffffffff; exit = true; bound = record { lower = 1; upper = None } })))
+unfolding line_of line_by_fields block_line_of edge_line_of place_of address_of bound_of bound_by_word bounded_by count_of fields_of number_of prefixed_of
+up_to_the_ends = (refl, refl, refl)
+
+-- a line outside of functions, one inside another, fields too many, and a block behind an edge, whatever else it lacks
+out_of_place : (bad (codes "block 0 0x1 0x2\n") ≡ at 1 BadLine) × (bad (codes "func a\nblock 0 0x1 0x2\nfunc b\n") ≡ at 3 BadLine)
+    × (bad (codes "func a b\n") ≡ at 1 BadLine) × (bad (codes "func a\nblock 0 0x1 0x2\nend end\n") ≡ at 3 BadLine)
+    × (bad (codes "func a\nblock 0 0x1 0x2\nedge 0 0\nblock 5 0x3 0x2\n") ≡ at 4 BadLine)
+unfolding bad at items_from cause_of_line cause_of_block cause_of_edge line_of line_by_fields block_line_of edge_line_of place_of address_of bound_of bound_by_word fields_of number_of prefixed_of lines_of
+out_of_place = (refl, refl, refl, refl, refl)
+
+-- as many blocks as a function may have, and one more
+behind_blocks : ℕ → Option Kind
+behind_blocks many =
+    cause_of_block (record { name = []; blocks = replicate many (record { lo = 1; hi = 2; exit = false; bound = record { lower = 0; upper = None } }); edges = [] })
+    7 (record { lo = 2; hi = 3; exit = false; bound = record { lower = 0; upper = None } })
+
+most_blocks : (behind_blocks 65535 ≡ Some BlockOrder) × (behind_blocks 65536 ≡ Some TooManyBlocks)
+unfolding behind_blocks cause_of_block
+most_blocks = (refl, refl)

@@ -121,10 +121,30 @@ impl Counts {
         ensures same { IfOk result (λ rows. IsPermutation self.branches rows.items) }
         ensures sorted { IfOk result (λ rows. IsSorted pair_cmp rows.items) }
     {
-        let Counts { branches, .. } = self;
-        let mut rows = branches.into_rows();
-        sort_pairs(&mut rows)?;
-        Ok(rows)
+        let (branches, _ranges) = self.into_rows()?;
+        Ok(branches)
+    }
+
+    /// The distinct branches in the order of pairs, and the distinct sampled ranges, each with how
+    /// often it was counted. Rows stay where they are, and the memory of all else is given back.
+    ///
+    /// # Errors
+    /// `NoMemory`.
+    pub fn into_rows(self) -> Result<(Vec<Pair>, Vec<Pair>), NoMemory>
+        ensures same { IfOk result (λ rows. IsPermutation self.branches rows.0.items) }
+        ensures sorted { IfOk result (λ rows. IsSorted pair_cmp rows.0.items) }
+        ensures ranges { IfOk result (λ rows. rows.1.items ≡ self.ranges) }
+        ensures fewer { total_in self.ranges ≤ total_of self }
+    {
+        let Counts {
+            branches,
+            ranges,
+            ..
+        } = self;
+        let mut branches = branches.into_rows();
+        let ranges = ranges.into_rows();
+        sort_pairs(&mut branches)?;
+        Ok((branches, ranges))
     }
 
     /// The distinct sampled ranges, each with how often it was counted, and none where ranges are

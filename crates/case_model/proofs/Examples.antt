@@ -6,7 +6,7 @@ use Rattle.text_model.specs.Numbers.{hex_text}
 use Rattle.case_model.specs.Bytes.{u16_bytes, u32_bytes, u64_bytes, uleb, for_each_function}
 use Rattle.case_model.specs.Functions.{weight, caller, name}
 use Rattle.case_model.specs.Abbrev.{debug_abbrev, unit_kind, abstract_kind, function_kind, inlined_kind}
-use Rattle.case_model.specs.Info.{front, debug_info, function_entry, abstract_at, abstract_entry}
+use Rattle.case_model.specs.Info.{front, debug_info, function_entry, abstract_at, abstract_entry, inlined_entry}
 use Rattle.case_model.specs.Line.{header_fields, debug_line, sequence, extended}
 use Rattle.case_model.specs.Elf.{file_header, e_ident, program_fields, count_fields, program_header, shstrtab, section_header, empty_header, section_headers, binary}
 use Rattle.case_model.specs.Elf.{abbrev_at, info_at, line_at, shstrtab_at, headers_at}
@@ -151,3 +151,16 @@ block_text_of_2 : block_text 2
     ++ codes "block 3 0x401060 0x401080 exit\nedge 0 1\nedge 0 2\nedge 1 3\nedge 2 3\nend\n"
 unfolding block_text blocks_of block_line edge_line hex_text digits for_each_function name extent
 block_text_of_2 = refl
+
+-- of the second function its call and its rows, and the memory of both
+call_in_the_second : slice_range (inlined_entry 1) 5 8 ≡ 0x50 ∷ 0x10 ∷ 0x40 ∷ []
+unfolding u16_bytes u32_bytes u64_bytes
+call_in_the_second = refl
+
+rows_of_the_second : slice_range (sequence 1) 3 6 ≡ 0x40 ∷ 0x10 ∷ 0x40 ∷ []
+unfolding sequence extended u64_bytes
+rows_of_the_second = refl
+
+memory_of_two : slice_range (program_header 2) 40 48 ≡ 0x80 ∷ 0 ∷ 0 ∷ 0 ∷ 0 ∷ 0 ∷ 0 ∷ 0 ∷ []
+unfolding program_header u16_bytes u32_bytes u64_bytes
+memory_of_two = refl

@@ -84,3 +84,17 @@ keys = (refl, refl, refl, refl)
 factors : (factor_at rows true members 125 ≡ 3) × (factor_at rows false members 125 ≡ 1)
 unfolding rows members member name_of
 factors = (refl, refl)
+
+-- a function without a name, of which the second piece stands first; none of its addresses has a row from 190 on
+pieces_apart : Option NameId → List Member
+unfolding member
+pieces_apart name = member 0 name 10 0 0 ((190, 200) ∷ (100, 110) ∷ []) ∷ []
+
+entered_at_the_first_piece : (entry_name (pieces_apart (name_of 5)) 190 ≡ name_of 5) × (entry_name (pieces_apart (name_of 5)) 100 ≡ None)
+unfolding pieces_apart member name_of
+entered_at_the_first_piece = (refl, refl)
+
+a_name_is_asked_first : (place_at rows false (pieces_apart None) 105 ≡ nameless) × (place_at rows false (pieces_apart None) 195 ≡ nameless)
+    × (place_at (λ unit address. None) false members 141 ≡ nameless)
+unfolding rows pieces_apart members member name_of
+a_name_is_asked_first = (refl, refl, refl)

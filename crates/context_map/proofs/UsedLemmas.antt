@@ -2,7 +2,7 @@
 use Rattle.std.proofs.Common.{◌≡◌, ◌⊎◌, ℕ, ◌<◌, ◌≤◌, ◌+◌, List, [], ◌∷◌, ◌++◌, Some, map, length, get_or, sym, ap, subst, ◌∙◌, arith, inl, inr, Result, Ok, Err, OnOk}
 use Rattle.std.specs.Prelude.{Contains, IfOk, slice_get}
 use Rattle.std.proofs.lemmas.List.{map-append}
-use Rattle.std.proofs.lemmas.Option.{slice_get_within, slice_get-get_or}
+use Rattle.std.proofs.lemmas.Option.{slice_get_within, slice_get-get_or, same_Some}
 use Rattle.std.proofs.lemmas.List.Elements.{Contains-append_left, Contains-push}
 use Rattle.address_spans.proofs.OverlayLemmas.{either}
 use Rattle.key_types.specs.declared.ids.KeyId.{KeyId}
@@ -32,9 +32,6 @@ KeepUp-push keys more segments longer s new pushed first have n from low =
       | inr is ↦ subst (λ (m : ℕ). Contains (map key_in segments ++ s.key.0 ∷ []) m) (sym is) (Contains-push (map key_in segments) s.key.0)
     ]))
 
-some_is : (x y : Key) → Some x ≡ Some y → x ≡ y
-some_is x y e = cc
-
 -- a key that was added is the one of the last number, or it was there
 added_last : (keys more : List Key) (key : Key) (id : ℕ) → Adds keys more key → slice_get more id ≡ Some key → length more ≤ length keys + 1 → (n : ℕ) → n < length more → (n < length keys) ⊎ (n ≡ id)
 added_last keys more key id adds is most n low = elim (either n (length keys)) [
@@ -42,7 +39,7 @@ added_last keys more key id adds is most n low = elim (either n (length keys)) [
   | inr from ↦ elim (either id (length keys)) [
     | inl known ↦
         let there : slice_get more id ≡ Some (get_or keys id key) = adds.kept id (get_or keys id key) (slice_get-get_or keys id key known) in
-        let same : get_or keys id key ≡ key = some_is (get_or keys id key) key (sym there ∙ is) in
+        let same : get_or keys id key ≡ key = same_Some (get_or keys id key) key (sym there ∙ is) in
         let none_new : length more ≡ length keys = ap length (adds.known (id, known, same)) in
         absurd (omega (arith, none_new, low, from))
     | inr behind ↦

@@ -1,5 +1,5 @@
 -- The definitions on worked values.
-use Rattle.std.proofs.Common.{◌≡◌, ◌≤◌, ℕ, zero, suc, nat_lt, nat_eq, false, true, List, [], ◌∷◌, None, Some, refl, arith}
+use Rattle.std.proofs.Common.{◌≡◌, ◌≤◌, ℕ, zero, suc, nat_lt, nat_eq, false, true, List, [], ◌∷◌, ◌++◌, None, Some, refl, sym, append-nil, arith}
 use Rattle.std.specs.Prelude.{codes, map, if◌then◌else◌}
 use Rattle.std.specs.Fmt.{digits}
 use Rattle.std.specs.List.{range_with_len}
@@ -12,15 +12,18 @@ use Rattle.profile_model.specs.Profile.{Profile, body_line, call_line, function_
 use Rattle.profile_model.specs.Text.{profile_text, text_of_lines}
 use Rattle.profile_model.specs.Ways.{to_body, to_call, to_function}
 use Rattle.report_model.specs.Report.{Sampled, report_text}
-use Rattle.binary_model.specs.Places.{Place, outside, no_line, at_way}
+use Rattle.binary_model.specs.Places.{Place, outside, nameless, no_line, at_way}
 use Rattle.repair_model.specs.Repair.{Repair, Solution, cut, flow}
 use Rattle.cold_model.specs.Cold.{lines_with}
 use Rattle.scaling_model.specs.Bound.{StartWithin, most_digits}
 use Rattle.output_model.specs.Cold.{cold_lines_among}
-use Rattle.output_model.specs.Lift.{held_by, lifted}
+use Rattle.output_model.specs.Lift.{addresses_of, held_by, lifted}
 use Rattle.output_model.specs.Program.{Program, way_at}
-use Rattle.output_model.specs.Sampled.{classes_of, hits_of, profile_among}
-use Rattle.output_model.specs.Scaled.{AreAugmentations}
+use Rattle.output_model.specs.Sampled.{class_of_places, classes_of, hits_of, profile_among}
+use Rattle.report_model.specs.declared.class.Class.TheVariants.{Unmapped}
+use Rattle.report_model.specs.declared.class.Reason.TheVariants.{FromNameless, ToNameless}
+use Rattle.output_model.specs.Built.{IsBuilt}
+use Rattle.output_model.specs.Scaled.{AreAugmentations, IsBuiltBy, augmentations_line}
 use Rattle.output_model.specs.Summary.{costs_in, cuts_in, summary_text, totals_in}
 
 -- a function `f` from 16 up to 32, entered at 16, with a call of `g` from 20 up to 24, whose code was copied three times
@@ -140,3 +143,26 @@ within_36_digits (suc (suc (suc k))) d within = absurd (omega (arith, within))
 
 some_from_one_less : AreAugmentations (single 68719476735) 64
 some_from_one_less = record { few = λ digits small. omega arith; none = λ large. absurd (large within_36_digits) }
+
+-- a block has all its addresses but the one behind it
+two_addresses : addresses_of (block 19 21) ≡ 19 ∷ 20 ∷ []
+unfolding block
+two_addresses = refl
+
+-- ends without a name
+without_a_name : (class_of_places None nameless outside ≡ Unmapped FromNameless)
+    × (class_of_places None (at_way (to_function (codes "f") ∷ to_body 0 0 ∷ [])) nameless ≡ Unmapped ToNameless)
+without_a_name = (refl, refl)
+
+seven_augmentations : augmentations_line 7 ≡ codes "# augmentations 7\n"
+unfolding augmentations_line digits
+seven_augmentations = refl
+
+-- what is asked for: a line of augmentations by the one option, and weights of edges by the other
+told_if_asked : (built : List ℕ) → IsBuilt false program sampled [] built
+    → IsBuiltBy (record { edges = false; scaled = true }) program sampled [] (built ++ augmentations_line 0)
+told_if_asked built is = record { built = built; is_built = is; augmentations = 0; counted = refl; spelled = refl }
+
+not_told_if_not : (built : List ℕ) → IsBuilt true program sampled [] built
+    → IsBuiltBy (record { edges = true; scaled = false }) program sampled [] built
+not_told_if_not built is = record { built = built; is_built = is; augmentations = 0; counted = refl; spelled = sym (append-nil built) }

@@ -1,5 +1,5 @@
 -- Profile texts that were read, and sums of several.
-use Rattle.std.proofs.Common.{◌≡◌, ◌≤◌, ◌<◌, ◌+◌, ℕ, zero, suc, List, [], ◌∷◌, ◌++◌, drop, length, map, Option, None, Some, Result, Ok, Err, refl, ap, subst, sym, ◌∙◌, arith, add-one, drop-cons, get_or}
+use Rattle.std.proofs.Common.{◌≡◌, ◌≤◌, ◌<◌, ◌+◌, ℕ, zero, suc, List, [], ◌∷◌, ◌++◌, drop, length, map, Option, None, Some, Result, Ok, Err, refl, ap, subst, sym, ◌∙◌, arith, get_or}
 use Rattle.std.specs.Prelude.{IfSome, IsSome, MatchOption}
 use Rattle.std.specs.Global.{Vec}
 use Rattle.std.specs.List.{zip}
@@ -16,6 +16,7 @@ use Rattle.command_model.specs.Command.{max_parts, merge as merge_command}
 use Rattle.command_words.specs.Words.{told_weighed}
 use Rattle.command_words.specs.declared.command.Part.{Part}
 use Rattle.command_model.specs.Files.{asked_part, first_bad_of_part, max_profile_bytes, named, weighed_texts}
+use Rattle.command_words.proofs.CommandLemmas.{drop-item}
 use Rattle.program_edge.specs.Halt.{IfAnswers, halt_of_stop, judged_in}
 use Rattle.pgo_run.specs.Merge.{AddsFile, IsAdded}
 use Rattle.program_edge.specs.Output.{Carries, EndsAt, HasFileCause}
@@ -76,10 +77,6 @@ weighed_more : (parts : List (ℕ × List ℕ)) (before : List (List ℕ)) (part
 weighed_more parts before part rest text is =
     zip_more (map (λ p. p.0) parts) before part.0 text (map (λ p. p.0) rest)
     (drop_map (λ (p : ℕ × List ℕ). p.0) parts (length before) ∙ ap (map (λ (p : ℕ × List ℕ). p.0)) is)
-
--- the file at a place, and those behind it
-pub part_at : {X : Type 0} (parts : List X) (n : ℕ) (part : X) → n < length parts → part ≡ get_or parts n part → drop n parts ≡ part ∷ drop (n + 1) parts
-part_at parts n part within is = rw add-one (drop-cons parts n part within ∙ ap (λ p. p ∷ drop (suc n) parts) (sym is))
 
 asked_next : (parts : List (ℕ × List ℕ)) (n : ℕ) (part : ℕ × List ℕ) → drop n parts ≡ part ∷ drop (n + 1) parts
     → map (asked_part parts) (drop n parts) ≡ asked_part parts part ∷ map (asked_part parts) (drop (n + 1) parts)
@@ -189,4 +186,4 @@ Merging-room parts store n opens opens_now state so_far within few =
 pub told_at : (parts : List Part) (n : ℕ) (part : Part) → n < length parts → part ≡ get_or parts n part
     → drop n (map told_weighed parts) ≡ told_weighed part ∷ drop (n + 1) (map told_weighed parts)
 told_at parts n part within is =
-    drop_map told_weighed parts n ∙ ap (map told_weighed) (part_at parts n part within is) ∙ ap (λ rest. told_weighed part ∷ rest) (sym (drop_map told_weighed parts (n + 1)))
+    drop_map told_weighed parts n ∙ ap (map told_weighed) (drop-item parts n part within is) ∙ ap (λ rest. told_weighed part ∷ rest) (sym (drop_map told_weighed parts (n + 1)))

@@ -209,7 +209,6 @@ fronts_ascend cmp o a (w ∷ ws) up =
     (fresh (eq_by_cmp cmp) a w) (fresh_are_fronts cmp o a w))
 
 -- which beginnings there are
-
 has-append : {T : Type 0} (cmp : T → T → Ordering) (x : T) (xs ys : List T) → has cmp x (xs ++ ys) ≡ (has cmp x xs || has cmp x ys)
 has-append cmp x [] ys = refl
 has-append cmp x (y ∷ xs) ys = ap (λ b. eq_by_cmp cmp x y || b) (has-append cmp x xs ys) ∙ sym (or_assoc (eq_by_cmp cmp x y) (has cmp x xs) (has cmp x ys))

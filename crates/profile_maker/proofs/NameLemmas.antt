@@ -4,7 +4,7 @@ use Rattle.std.specs.Prelude.{find, slice_get, option_and_then, if◌then◌else
 use Rattle.std.specs.Option.{option_map}
 use Rattle.std.specs.List.{All, AllByRecursion, enumerate_from}
 use Rattle.std.proofs.lemmas.Bool.{cases_Bool}
-use Rattle.std.proofs.lemmas.Option.{slice_get_within, slice_get-get_or}
+use Rattle.std.proofs.lemmas.Option.{slice_get_within, slice_get-get_or, same_Some}
 use Rattle.key_types.specs.declared.ids.KeyId.{KeyId}
 use Rattle.key_types.specs.declared.ids.NameId.{NameId}
 use Rattle.key_types.specs.declared.key.Frame.{Frame}
@@ -80,9 +80,6 @@ each : {X : Type 0} (P : X → Type 0) (xs : List X) → All P xs → AllByRecur
 each P [] all = tt
 each P (x ∷ xs) all = (all 0 x (omega arith), each P xs (λ k d low. all (suc k) d (omega (arith, low))))
 
-same_key : (k l : Key) → Some k ≡ Some l → k ≡ l
-same_key k l is = cc
-
 pub keys_have_names : KeysHaveNames
 keys_have_names file base marks placed is n d low =
     let holds = address_of_key n 0 (2 ^ 64 - 1) placed.map.segments is.map.ascend (is.used n (omega arith) low) in
@@ -91,7 +88,7 @@ keys_have_names file base marks placed is n d low =
     ap (λ o. place_by o (stretches.function_at placed.map.stretches holds.at) (owner_at placed.map.nameless holds.at)) told_key in
     let k = known_at file base marks placed is holds.at holds.segment.key at in
     let same : k.key ≡ get_or placed.keys n d =
-    same_key k.key (get_or placed.keys n d) (sym k.at_number ∙ ap (slice_get placed.keys) holds.key_is ∙ slice_get-get_or placed.keys n d low) in
+    same_Some k.key (get_or placed.keys n d) (sym k.at_number ∙ ap (slice_get placed.keys) holds.key_is ∙ slice_get-get_or placed.keys n d low) in
     subst (HasNames (length placed.names)) same (k.given.root, each (λ (call : Frame). call.name.0 < length placed.names) k.key.calls k.given.calls)
 
 -- ---- names of members

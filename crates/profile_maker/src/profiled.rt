@@ -77,7 +77,7 @@ pub fn profile_of<'a>(
         branches,
         ranges,
         total,
-    } = rows_of(alloc, counts)?;
+    } = rows_of(counts)?;
     profile_by_rows(alloc, binary, branches, total, &ranges, units, funs)
 }
 
@@ -105,7 +105,7 @@ pub fn profile_with_cold<'a>(
         branches,
         ranges,
         total,
-    } = rows_of(alloc, counts)?;
+    } = rows_of(counts)?;
     let placed = all_places(alloc, binary)?;
     let samples = Samples {
         branches: &branches,
@@ -133,7 +133,7 @@ fn units_of(binary: &Binary<'_>) -> BranchUnits
 }
 
 /// The rows of branches, by source and then by target, and of sampled ranges.
-fn rows_of(alloc: Global, counts: Counts) -> Result<CountedRows, NoMemory>
+fn rows_of(counts: Counts) -> Result<CountedRows, NoMemory>
     ensures told { IfOk result (λ rows. (loading : Option LoadMap) (lines : List (List ℕ))
         → counts.with_ranges ≡ true → Tells loading lines counts
         → Tallies (branches_by loading lines) rows.branches.items
@@ -144,8 +144,7 @@ fn rows_of(alloc: Global, counts: Counts) -> Result<CountedRows, NoMemory>
     ensures few_ranges { IfOk result (λ rows. total_in rows.ranges.items ≤ max_branches) }
 {
     let total = counts.total();
-    let ranges = Vec::from_slice(alloc, counts.ranges())?;
-    let branches = counts.into_sorted_branches()?;
+    let (branches, ranges) = counts.into_rows()?;
     Ok(CountedRows {
         branches,
         ranges,

@@ -1,5 +1,6 @@
 -- The definitions on worked values.
 use Rattle.std.proofs.Common.{◌≡◌, [], ◌∷◌, refl, codes, ◌^◌, ◌-◌}
+use Rattle.profile_model.specs.Counts.{weighed}
 use Rattle.profile_model.specs.Profile.{Profile, function_line, body_line, call_line, lines_of}
 use Rattle.std.specs.Fmt.{digits}
 use Rattle.profile_model.specs.Text.{profile_text, text_of_lines}
@@ -89,3 +90,20 @@ lines_and_targets_in_order :
     ∷ call_line 1 0 0 (codes "h") 1 ∷ body_line 2 9 0 1 [] ∷ []
 unfolding lines_of
 lines_and_targets_in_order = refl
+
+-- A call goes by its place, whatever the total of the function that it calls.
+calls_go_by_place :
+    profile_text (record {
+      counts =
+          (in_f (to_call 1 0 (codes "a") ∷ to_body 0 0 ∷ []), 1) ∷ (in_f (to_call 2 0 (codes "b") ∷ to_body 0 0 ∷ []), 1)
+          ∷ (to_function (codes "b") ∷ to_body 0 0 ∷ [], 9) ∷ [];
+      calls = [];
+      heads = [];
+    })
+    ≡ codes "b:9:0\n 0: 9\nf0000:2:0\n 1: a:1\n  0: 1\n 2: b:1\n  0: 1\n"
+unfolding lines_of text_of_lines digits
+calls_go_by_place = refl
+
+-- Code that was copied four times and ran three times.
+hits_times_factor : weighed (λ a. 3) (λ a. 4) 7 ≡ 12
+hits_times_factor = refl

@@ -14,7 +14,7 @@ use Rattle.profile_model.specs.Profile.{function_line, body_line, call_line, lin
 use Rattle.profile_model.specs.Reading.{number_within, named_of, location_of, targets_of, call_of, line_below, function_of, is_passed, line_of}
 use Rattle.profile_model.specs.Spelled.{count, number_in, numbers_from, profile_by, spelled}
 use Rattle.profile_model.specs.Standing.{can_stand, way_above, ways_of, tells_again, again_among}
-use Rattle.profile_model.specs.Summary.{summary_text, summary_by}
+use Rattle.profile_model.specs.Summary.{summary_text, summary_by, least_hot}
 use Rattle.profile_model.specs.Text.{indent, text_of_lines}
 use Rattle.profile_model.specs.Ways.{to_function, to_body, to_call}
 
@@ -188,3 +188,12 @@ nothing_is_hot :
     ≡ codes "functions 1\nlines 0\ntotal 0\nmax 0\n" ++ flat_map (λ cutoff. codes "cutoff " ++ cutoff ++ codes " least 0 lines 0\n") (codes "10000" ∷ codes "100000" ∷ codes "200000" ∷ codes "300000" ∷ codes "400000" ∷ codes "500000" ∷ codes "600000" ∷ codes "700000" ∷ codes "800000" ∷ codes "900000" ∷ codes "950000" ∷ codes "990000" ∷ codes "999000" ∷ codes "999900" ∷ codes "999990" ∷ codes "999999" ∷ [])
 unfolding summary_by profile_lines digits profile_by numbers_from is_passed fields_of lines_of kept_lines way_above number_of number_within named_of location_of targets_of call_of line_below function_of line_of
 nothing_is_hot = refl
+
+-- Nine of ten make up 900,000 millionths, and no more.
+at_a_cutoff : map (least_hot (1 ∷ 9 ∷ [])) (900000 ∷ 900001 ∷ []) ≡ 9 ∷ 1 ∷ []
+at_a_cutoff = refl
+
+-- Below what comes before what is told again.
+indent_before_twice : first_bad_of_profile 1 (codes "a:1:0\n  1: 1 b:1 b:1\n") ≡ at 2 BadIndent
+unfolding at is_passed fields_of lines_of kept_lines items_from cause_of can_stand way_above ways_of tells_again again_among number_of number_within named_of location_of targets_of call_of line_below function_of line_of
+indent_before_twice = refl

@@ -1,8 +1,8 @@
 -- The profile of what was counted is that of the program and its samples.
-use Rattle.std.proofs.Common.{◌≡◌, ◌<◌, ℕ, ◌+◌, ◌^◌, nat_lt, true, false, List, [], ◌∷◌, map, length, sum_by, Option, refl, sym, ap, subst, ◌∙◌, arith}
+use Rattle.std.proofs.Common.{◌≡◌, ℕ, ◌+◌, ◌^◌, nat_lt, true, false, List, [], ◌∷◌, map, length, sum_by, Option, refl, sym, ap, subst, ◌∙◌, arith}
 use Rattle.std.proofs.lemmas.List.Sums.{sum_by-cons}
 use Rattle.std.specs.List.{All, filter_map}
-use Rattle.std.proofs.lemmas.Bool.Decides.{nat_tests}
+use Rattle.std.proofs.lemmas.Bool.{ltb-true}
 use Rattle.cold_model.proofs.ColdLemmas.{none_besides}
 use Rattle.cold_model.specs.Cold.{standing_lines_of}
 use Rattle.profile_model.specs.Hits.{hits_at}
@@ -58,12 +58,9 @@ totals_told names (line ∷ lines) =
     ∙ sym (sum_by-cons function_total (told names line) (map (told names) lines))
 
 -- every address is among all
-below : (address bound : ℕ) → nat_lt address bound ≡ true → address < bound
-below address bound e = grind (arith, nat_tests)
-
 address_inside : (address : ℕ) → nat_lt address (2 ^ 64) ≡ true → Among address all_addresses
 unfolding all_addresses
-address_inside address near = range_among 0 (2 ^ 64) address (omega arith) (below address (2 ^ 64) near)
+address_inside address near = range_among 0 (2 ^ 64) address (omega arith) (ltb-true address (2 ^ 64) near)
 
 module _ (program : Program) (sampled : Sampled) (all : List (List ℕ)) (keys : List Key) (segments : List Seg) (place : ℕ → Where) (function : ℕ → Option ℕ) (entered : ℕ → Option NameId)
     (shown : TellsProgram program all keys segments place function entered)

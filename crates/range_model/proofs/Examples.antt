@@ -1,8 +1,8 @@
 -- Texts, addresses and range lists on worked bytes.
-use Rattle.std.proofs.Common.{◌≡◌, ℕ, false, List, [], ◌∷◌, ◌++◌, None, Some, Ok, Err, refl}
-use Rattle.refusal.specs.declared.kind.Kind.TheVariants.{Short, PastSection, NoSection, BadRangeEntry, TooManyRanges}
+use Rattle.std.proofs.Common.{◌≡◌, ℕ, false, true, List, [], ◌∷◌, ◌++◌, None, Some, Ok, Err, refl}
+use Rattle.refusal.specs.declared.kind.Kind.TheVariants.{Short, NoNul, PastSection, NoSection, BadRangeEntry, TooManyRanges}
 use Rattle.byte_view.specs.Reading.{field_at, text_at, uleb_at}
-use Rattle.value_model.specs.Value.{str_index, addr_index, range_index, offset}
+use Rattle.value_model.specs.Value.{str_at, line_str_at, str_index, addr_index, range_index, const, offset}
 use Rattle.range_model.specs.Texts.{Bases, Sections, text_of, address_of}
 use Rattle.range_model.specs.Entries.{coded_entry_at, from_base, pair_entry_at, sets_base}
 use Rattle.range_model.specs.Lists.{Listed, RangeSections, bad_in_list, bad_range, entry_item, ranges_of}
@@ -170,3 +170,28 @@ each_entry_counts :
     × (bad_in_list (address_of sections bases) 65535 three_entries ≡ Some (record { file = 1; at = 7; kind = TooManyRanges }))
 unfolding address_of field_at
 each_entry_counts = (refl, refl, refl)
+
+-- Texts by offset in either section: the end of a section is a place of it, and what stands behind is not.
+abbrev with_line_texts : Sections
+with_line_texts = record sections { line_str = Some (120 ∷ 0 ∷ []) }
+
+texts_by_offset :
+    (text_of with_line_texts bases (str_at 3) ≡ Ok (104 ∷ 105 ∷ [])) × (text_of with_line_texts bases (line_str_at 0) ≡ Ok (120 ∷ []))
+    × (text_of with_line_texts bases (str_at 6) ≡ Err NoNul) × (text_of with_line_texts bases (str_at 7) ≡ Err PastSection)
+unfolding text_of text_at
+texts_by_offset = (refl, refl, refl, refl)
+
+-- In 64-bit DWARF an offset has 8 bytes: the one at index 1 stands 8 bytes further on.
+abbrev wide_bases : Bases
+wide_bases = record bases { wide = true; str_offsets = Some 0; rnglists = Some 0 }
+
+wide_offsets :
+    (text_of (record sections { str_offsets = Some (zeros ++ 3 ∷ 0 ∷ 0 ∷ 0 ∷ 0 ∷ 0 ∷ 0 ∷ 0 ∷ []) }) wide_bases (str_index 1) ≡ Ok (104 ∷ 105 ∷ []))
+    × (ranges_of 5 0x401000 (record (with_list []) { rnglists = Some (record { at = 100; bytes = zeros ++ 16 ∷ 0 ∷ 0 ∷ 0 ∷ 0 ∷ 0 ∷ 0 ∷ 0 ∷ 4 ∷ 0x10 ∷ 0x20 ∷ 0 ∷ [] }) }) wide_bases (range_index 1) ≡ (0x401010, 0x401020) ∷ [])
+unfolding text_of ranges_of address_of coded_entry_at pair_entry_at field_at text_at uleb_at
+wide_offsets = (refl, refl)
+
+-- DWARF 4 and earlier: an offset may be of class constant.
+a_list_by_a_constant : ranges_of 4 0x401000 (pairs (pair 0x10 0x20 ++ pair 0 0)) bases (const 0) ≡ (0x401010, 0x401020) ∷ []
+unfolding ranges_of address_of coded_entry_at pair_entry_at field_at uleb_at
+a_list_by_a_constant = refl

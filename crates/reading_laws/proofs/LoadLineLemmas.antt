@@ -13,7 +13,7 @@ use Rattle.text_model.specs.LineTests.{is_comment}
 use Rattle.text_model.specs.Numbers.{prefixed_of}
 use Rattle.sample_model.specs.Line.{◌>>=◌, address_of}
 use Rattle.sample_model.specs.Loads.{LoadLine, behind_at, behind_ending, behind_field, behind_first, behind_where, count_before, extent_of, first_field, from_field, is_field_end, load_line_of, name_in, offset_of, parts_at}
-use Rattle.sample_model.proofs.EntryLemmas.{>>=-Some as some-from}
+use Rattle.sample_model.proofs.EntryLemmas.{some-from}
 use Rattle.reading_laws.specs.LoadLines.{StandFirst, BeginsWithField, SpellsExtent, SpellsName, SpellsLoad, LoadLinesAreSpelled}
 
 -- ---- options

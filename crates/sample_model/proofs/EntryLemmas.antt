@@ -11,9 +11,9 @@ use Rattle.text_model.specs.Numbers.{number_of, has_prefix, hex_of, prefixed_of,
 use Rattle.sample_model.specs.Line.{◌>>=◌, within_64_bits, address_of, is_slash, entry_of}
 use Rattle.sample_model.specs.Laws.{SpellsEntry, EntriesAreSpelled}
 
-pub >>=-Some : {A B : Type 0} (o : Option A) (f : A → Option B) (y : B) → (o >>= f) ≡ Some y → (x : A) × (o ≡ Some x) × (f x ≡ Some y)
->>=-Some None f y is = absurd (cc)
->>=-Some (Some x) f y is = (x, refl, is)
+pub some-from : {A B : Type 0} (o : Option A) (f : A → Option B) (y : B) → (o >>= f) ≡ Some y → (x : A) × (o ≡ Some x) × (f x ≡ Some y)
+some-from None f y is = absurd (cc)
+some-from (Some x) f y is = (x, refl, is)
 
 abbrev HasNoSlash : List ℕ → Type 0
 HasNoSlash text = AllByRecursion (λ b. is_slash b ≡ false) text
@@ -49,7 +49,7 @@ prefixed_has_no_slash text n is =
 
 address_has_no_slash : (text : List ℕ) (n : ℕ) → address_of text ≡ Some n → HasNoSlash text
 unfolding address_of
-address_has_no_slash text n is = let number = >>=-Some (prefixed_of text) within_64_bits n is in prefixed_has_no_slash text number.0 number.1
+address_has_no_slash text n is = let number = some-from (prefixed_of text) within_64_bits n is in prefixed_has_no_slash text number.0 number.1
 
 position-other : (b : ℕ) (text : List ℕ) → is_slash b ≡ false → position_or_len is_slash (b ∷ text) ≡ suc (position_or_len is_slash text)
 position-other b text other = rw other (omega arith)
@@ -100,8 +100,8 @@ entry_is_spelled : (field : List ℕ) (branch : ℕ × ℕ) → entry_of field �
 unfolding entry_of
 entry_is_spelled field branch is =
     let behind = after_first is_slash field in
-    let from = >>=-Some (address_of (before_first is_slash field)) _ branch is in
-    let to = >>=-Some (address_of (before_first is_slash behind)) _ branch from.2 in
+    let from = some-from (address_of (before_first is_slash field)) _ branch is in
+    let to = some-from (address_of (before_first is_slash behind)) _ branch from.2 in
     let first : from.0 ≡ branch.0 = cc in
     let second : to.0 ≡ branch.1 = cc in
     elim (split_at_slash field) as (λ _. SpellsEntry field branch) [

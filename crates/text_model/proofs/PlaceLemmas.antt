@@ -7,6 +7,7 @@ use Rattle.std.specs.Str.Parse.{digits_value, digits_value_after}
 use Rattle.std.proofs.Math.Nat.{pow-suc, pow-zero}
 use Rattle.std.proofs.lemmas.Bool.Decides.{nat_tests}
 use Rattle.std.proofs.lemmas.List.{length-map}
+use Rattle.std.proofs.lemmas.Bool.{and_parts}
 use Rattle.text_model.specs.Numbers.{is_numeral, number_of}
 use Rattle.text_model.proofs.NumberLemmas.{number_of-digits}
 use Rattle.text_model.specs.Laws.{place_value, NumbersAreByPlace, CapitalsSpellTheSame, LeadingZerosSpellNothing}
@@ -54,13 +55,9 @@ capitals_spell_the_same base text =
 positive : (base d : ℕ) (ds : List ℕ) → is_numeral base (d ∷ ds) ≡ true → nat_lt 0 base ≡ true
 positive base d ds is = grind (arith, nat_tests)
 
-and_right : (a b : Bool) → (a && b) ≡ true → b ≡ true
-and_right true b both = both
-and_right false b both = absurd cc
-
 zero_in_front : (base d : ℕ) (ds : List ℕ) → nat_lt 0 base ≡ true → is_numeral base (d ∷ ds) ≡ true → number_of base (48 ∷ d ∷ ds) ≡ number_of base (d ∷ ds)
 zero_in_front base d ds some is =
-    let all : list_all (λ c. is_digit c base) (d ∷ ds) ≡ true = and_right (nat_lt 0 (length (d ∷ ds))) (list_all (λ c. is_digit c base) (d ∷ ds)) is in
+    let all : list_all (λ c. is_digit c base) (d ∷ ds) ≡ true = (and_parts (nat_lt 0 (length (d ∷ ds))) (list_all (λ c. is_digit c base) (d ∷ ds)) is).1 in
     let none : 0 * base + 0 ≡ 0 = omega arith in
     number_of-digits base (48 ∷ d ∷ ds) (omega arith) (rw some all)
     ∙ ap (λ v. Some (digits_value_after base v (d ∷ ds))) none

@@ -83,3 +83,8 @@ no_root : (bases_of_unit without_root 0 ≡ record { wide = false; str_offsets =
     × (base_address sections without_root 0 ≡ Ok 0)
 unfolding base_address bases_of_unit root_of address_of field_at
 no_root = (refl, refl)
+
+-- a unit without entries has no root, though that of the next unit stands where its own would
+no_root_of_an_empty_unit : root_of (record (three first second) { units = record { at = 140; end = 150; version = 4; wide = false; first = 2; count = 0 } ∷ [] }) 0 ≡ None
+unfolding root_of
+no_root_of_an_empty_unit = refl

@@ -3,7 +3,8 @@ use Rattle.std.proofs.Common.{◌≡◌, ℕ, zero, suc, ◌+◌, false, List, [
 use Rattle.std.specs.Prelude.{reverse}
 use Rattle.refusal.specs.declared.kind.Kind.TheVariants.{BadReference, InlineTooDeep, NoSection}
 use Rattle.refusal.specs.Place.{in_binary}
-use Rattle.value_model.specs.Value.{Value, addr, const, ref, str_at, text}
+use Rattle.value_model.specs.Value.{Value, addr, addr_index, const, offset, ref, str_at, text}
+use Rattle.byte_view.specs.Reading.{field_at}
 use Rattle.range_model.specs.Texts.{address_of, text_of}
 use Rattle.range_model.specs.Lists.{RangeSections}
 use Rattle.unit_model.specs.Values.{Found}
@@ -16,7 +17,7 @@ use Rattle.tree_model.specs.Way.{next_on_way, way}
 use Rattle.tree_model.specs.Origin.{origin}
 use Rattle.tree_model.specs.Members.{Told}
 use Rattle.tree_model.specs.Depths.{Standing, calls_on, inlined_into, way_up}
-use Rattle.tree_model.specs.Tree.{Source, Tree, members, next_call, next_entry, next_function, next_unit}
+use Rattle.tree_model.specs.Tree.{Source, Tree, call_with, members, next_call, next_entry, next_function, next_unit}
 
 abbrev file : List ℕ
 file =
@@ -180,3 +181,47 @@ one_call_too_deep : next_entry (source []) of_unit 0 (calls_up 255) (entry 1255 
     ≡ Err (in_binary 1255 InlineTooDeep)
 unfolding calls_up next_entry next_call pieces spelled_ranges
 one_call_too_deep = refl
+
+-- Of two units the second has a function whose address goes by an index, and in it a call of itself, of which 32 bits of the
+-- discriminator count.
+abbrev entry_of : ℕ → ℕ → ℕ → ℕ → List Found → Entry
+entry_of unit at depth tag found = record { at = at; depth = depth; tag = tag; unit = unit; found = found }
+
+abbrev two_units : Source
+two_units = record {
+  file = file;
+  sections = record sections { texts = record sections.texts { addr = Some (0 ∷ 0x20 ∷ 0x40 ∷ 0 ∷ 0 ∷ 0 ∷ 0 ∷ 0 ∷ []) } };
+  info = record {
+    start = 166;
+    units = record {
+      units = record { at = 166; end = 290; version = 4; wide = false; first = 0; count = 2 }
+          ∷ record { at = 290; end = 400; version = 5; wide = false; first = 2; count = 3 }
+          ∷ [];
+      entries = entry_of 0 177 0 0x11 []
+          ∷ entry_of 0 190 1 0x2e (named 191 0x66 10 (from 191 0x401000 0x40))
+          ∷ entry_of 1 300 0 0x11 (found 301 0x73 (offset 0) ∷ [])
+          ∷ entry_of 1 310 1 0x2e (named 311 0x68 20 (found 313 0x11 (addr_index 0) ∷ found 314 0x12 (const 0x10) ∷ []))
+          ∷ entry_of 1 320 2 0x1d (found 321 0x31 (ref 20) ∷ found 322 0x59 (const 21) ∷ found 323 0x2136 (const 0x100012345) ∷ from 321 0x402004 4)
+          ∷ [];
+      skipped = [];
+    };
+  };
+}
+
+each_unit_by_its_own : members two_units
+    ≡ Ok (f ∷ record h { unit = 1 } ∷ record {
+      depth = 1;
+      unit = 1;
+      name = Some (0x68 ∷ []);
+      start = 20;
+      line = 21;
+      disc = 0x12345;
+      pieces = (0x402004, 0x402008) ∷ [];
+    } ∷ [])
+unfolding members next_unit next_entry next_function next_call pieces spelled_ranges is_live number_at address_of field_at text_of origin way next_on_way base_address bases_of_unit root_of
+each_unit_by_its_own = refl
+
+-- the pieces of a call count toward the limit as those of a function do
+pieces_of_a_call : call_with two_units None 1 (entry_of 0 9 1 0x1d []) no_functions ((1, 2) ∷ (3, 4) ∷ []) ≡ Ok (record { functions = []; pieces = 2 })
+unfolding text_of origin way next_on_way
+pieces_of_a_call = refl

@@ -113,3 +113,9 @@ some_is_not_none key some none = absurd (cc)
 not_unknown : IsWeightOf keyed itself (block 1 3) Unknown → ⊥
 unfolding block keyed itself
 not_unknown none = some_is_not_none (Some 3) refl (none 1 (omega arith) (omega arith))
+
+-- a block that ends where the first key stands
+unknown_before_a_key : IsWeightOf keyed itself (block 0 1) Unknown
+unfolding block keyed itself
+unknown_before_a_key zero from below = refl
+unknown_before_a_key (suc a) from below = absurd (omega (arith, below))

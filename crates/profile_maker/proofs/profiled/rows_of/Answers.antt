@@ -13,6 +13,6 @@ returns-clause-few_branches c =
 pub returns-clause-told : goal.returns-clause-told
 returns-clause-told c = λ loading lines with_ranges tells. (
   rows_tally_in_any_order (branches_by loading lines) c.args.counts.branches c.in_ok-branches.branches.items c.in_ok-branches.ensures.same tells.branches,
-  ranges_told loading lines c.args.counts c.in_ok-ranges.ranges.items with_ranges tells (c.in_ok-ranges.ensures.items ∙ c.ranges-2.ensures.rows),
+  ranges_told loading lines c.args.counts c.in_ok-branches.ranges.items with_ranges tells c.in_ok-branches.ensures.ranges,
   c.total-total.ensures.value ∙ tells.branches.total,
 )

@@ -1,4 +1,10 @@
 -- The definitions computed on small programs.
+use Rattle.line_model.specs.Header.{Header}
+use Rattle.line_model.specs.Registers.{step_of}
+use Rattle.line_model.specs.declared.operation.Operation.TheVariants.{Special, AdvancePc, ConstAddPc, FixedAdvancePc, SetDiscriminator}
+use Rattle.line_model.specs.Opcodes.{set_discriminator}
+use Rattle.std.specs.Prelude.{negsuc, Option}
+use Rattle.line_model.specs.declared.operation.Operation.{Operation}
 use Rattle.std.proofs.Common.{◌≡◌, ◌-◌, ◌^◌, ℕ, true, false, List, [], ◌∷◌, map, take, set, Some, Ok, Err, refl}
 use Rattle.std.specs.Option.{option_map}
 use Rattle.std.specs.Result.{result_ok}
@@ -60,3 +66,22 @@ sample_places : option_map places (result_ok (program_at (record { at = 229; lef
     ≡ Some (259 ∷ 270 ∷ 272 ∷ 273 ∷ 274 ∷ 275 ∷ 279 ∷ 280 ∷ 281 ∷ 283 ∷ [])
 unfolding field_at run_at uleb_at sleb_at operation_at code_at extended_at ulebs_at unit_at version_at sizes_at opcodes_at operations_at lengths_at header_at program_at rows_at rows_in
 sample_places = refl
+
+-- instructions of 4 bytes; special opcodes from 12 on, four for each instruction
+abbrev wide : Header
+wide = record { min_inst_length = 4; line_base = negsuc 0; line_range = 4; opcode_base = 12; opcode_lengths = [] }
+
+-- where an operation leads from an address
+abbrev led : ℕ → Operation → Option ℕ
+led address operation = option_map (λ step. step.registers.address) (step_of wide (record { address = address; line = 1; disc = 0 }) operation)
+
+-- 243 / 4 instructions are 60, and addresses that go round at 2^64
+steps_of_addresses : map (led 100) (Special 8 ∷ AdvancePc 3 ∷ ConstAddPc ∷ FixedAdvancePc 3 ∷ []) ≡ Some 108 ∷ Some 112 ∷ Some 340 ∷ Some 103 ∷ []
+steps_of_addresses = refl
+
+round_the_end : map (led (2 ^ 64 - 4)) (AdvancePc 2 ∷ FixedAdvancePc 3 ∷ []) ≡ Some 4 ∷ Some (2 ^ 64 - 1) ∷ []
+round_the_end = refl
+
+-- 32 bits of a discriminator count
+a_long_discriminator : set_discriminator 0x100011170 ≡ SetDiscriminator 70000
+a_long_discriminator = refl

@@ -6,7 +6,7 @@ use Rattle.key_types.specs.declared.places.Where.{Where}
 use Rattle.key_types.specs.declared.places.Where.TheVariants.{Outside, Nameless, NoLine, At}
 use Rattle.report_model.specs.declared.class.Class.TheVariants.{Entry, Inside, Unmapped}
 use Rattle.report_model.specs.declared.class.RangeClass.TheVariants.{Ran, Reversed, RangeOutside, Crossing}
-use Rattle.report_model.specs.declared.class.Reason.TheVariants.{FromNameless, FromNoLine, ToOutside, ToNameless}
+use Rattle.report_model.specs.declared.class.Reason.TheVariants.{FromOutside, FromNameless, FromNoLine, ToOutside, ToNameless}
 use Rattle.report_model.specs.Branches.{branch_class}
 use Rattle.report_model.specs.Ranges.{range_class}
 
@@ -64,3 +64,7 @@ to_nameless = refl
 from_first : branch_class place entry_name 35 45 ≡ Unmapped FromNameless
 unfolding place entry_name
 from_first = refl
+
+outside_at_both_ends : branch_class place entry_name 45 45 ≡ Unmapped FromOutside
+unfolding place entry_name
+outside_at_both_ends = refl

@@ -103,3 +103,6 @@ four_phases_are_few zero small = let five = small 1 (free_arc 0 1 0) (omega arit
 four_phases_are_few (suc zero) small = let five = small 1 (free_arc 0 1 0) (omega arith) in absurd (omega (arith, five))
 four_phases_are_few (suc (suc zero)) small = let five = small 1 (free_arc 0 1 0) (omega arith) in absurd (omega (arith, five))
 four_phases_are_few (suc (suc (suc k))) small = record { later = omega arith; few = omega arith }
+
+none_is_taken_back : AreFew sampled 7 6 → ⊥
+none_is_taken_back few = let later = (few 3 three_digits).later in omega (arith, later)

@@ -62,16 +62,16 @@ SHARED = make.elf(
     0x30,
 )
 
-# A function `f` from line 5, with a call of itself inlined whose discriminator is 2^32 + 1, as is that of its row in line
-# 10.
+# A function `f` from line 5, with a call of itself inlined whose discriminator is 2^32 + 2^16 + 1, as is that of its row in
+# line 10.
 LONG_DISCRIMINATORS = make.binary(
     make.ROOT_WITH_LINES + make.abbreviation(2, 0x2E, 1, *make.FUNCTION)
     + bytes.fromhex("03 1d 00 3113 1101 1206 5905 b64207 0000 00"),
     make.unit(bytes.fromhex(
         "01 00000000 02 6600 05 0010400000000000 40000000"
-        "03 10000000 1010400000000000 10000000 0700 0100000001000000 00 00")),
+        "03 10000000 1010400000000000 10000000 0700 0100010001000000 00 00")),
     0x40,
-    line=make.line_program(bytes.fromhex("0009020010400000000000 0309 000604 8180808010 01 0240 000101")),
+    line=make.line_program(bytes.fromhex("0009020010400000000000 0309 000604 8180848010 01 0240 000101")),
 )
 
 
@@ -198,9 +198,9 @@ def other_places():
     for at, byte in [(187, 0x23), (187, 0x21), (187, 0x37), (189, 0x20), (189, 0x09), (189, 0x7F), (189, 0x3A)]:
         place(f"a name with byte {byte:x}", changed(ONE, (at, at, byte)), "401008", b"nameless\n")
     place("a name with a ! and a # behind its first", changed(ONE, (188, 188, 0x21), (189, 189, 0x23)), "401008", b"f!#00 1\n")
-    for options, line, inlined in [([], b"f 5.1\n", b"f 2.1 f 5.1\n"), (["--base"], b"f 5\n", b"f 2 f 5\n")]:
-        place("a discriminator of 2^32 + 1", LONG_DISCRIMINATORS, "401000", line, *options)
-        place("a discriminator of 2^32 + 1", LONG_DISCRIMINATORS, "401014", inlined, *options)
+    for options, line, inlined in [([], b"f 5.65537\n", b"f 2.65537 f 5.65537\n"), (["--base"], b"f 5\n", b"f 2 f 5\n")]:
+        place("a discriminator of 2^32 + 2^16 + 1", LONG_DISCRIMINATORS, "401000", line, *options)
+        place("a discriminator of 2^32 + 2^16 + 1", LONG_DISCRIMINATORS, "401014", inlined, *options)
     place("a discarded function", changed(ONE, (195, 202, 0), (262, 269, 0)), "401008", b"outside\n")
     over = changed(TWO, (237, 237, 0))
     place("two functions over one another", over, "401008", b"f0000 1\n")

@@ -1,6 +1,6 @@
 -- What `check` answers where `build` may write the repair text.
 use Rattle.std.proofs.Common.{◌≡◌, ℕ, ◌+◌, ◌≤◌, ◌^◌, Bool, List, [], ◌∷◌, ◌++◌, length, Option, None, Some, refl, arith, sym, ap, ◌∙◌, subst}
-use Rattle.std.specs.Prelude.{is_some, if◌then◌else◌}
+use Rattle.std.specs.Prelude.{is_some}
 use Rattle.std.specs.List.{AllByRecursion, AllZip, flat_map}
 use Rattle.std.proofs.lemmas.Bool.{le-ltb}
 use Rattle.std.proofs.lemmas.List.{append_assoc}
@@ -34,7 +34,7 @@ use Rattle.command_model.specs.Command.{Command, build, check}
 use Rattle.command_model.specs.Files.{IsOutput, file_at, first_bad_of_blocks, first_bad_of_repair_text, max_repair_bytes}
 use Rattle.command_laws.specs.Laws.{BuiltIsAccepted}
 use Rattle.command_laws.proofs.BlockLemmas.{IsField, good_of_any, names_are_fields}
-use Rattle.command_laws.proofs.LineLemmas.{AreLines, asked_lines, augmentations_passed, both_lines, profile_passed, report_passed}
+use Rattle.command_laws.proofs.LineLemmas.{AreLines, asked_lines, augmentations_passed, both_lines, profile_passed, report_passed, where_asked}
 use Rattle.command_laws.proofs.RepairLemmas.{all_readable, none_fails}
 
 -- ---- the text that was written
@@ -83,7 +83,7 @@ built_accepted options binary base sampled blocks text is sound small =
     let built = is.is_built in
     let profile = profile_text (profile_of (program_of binary base) sampled) in
     let report = report_text (classes_of (program_of binary base)) sampled in
-    let line = if options.scaled then augmentations_line is.augmentations else [] in
+    let line = where_asked options.scaled (augmentations_line is.augmentations) in
     accepted options.edges binary base sampled blocks text built.repairs (report ++ line) built.repaired
     (both_lines report line (report_passed (classes_of (program_of binary base)) sampled) (asked_lines options.scaled (augmentations_line is.augmentations) (augmentations_passed is.augmentations)))
     (is.spelled ∙ ap (λ t. t ++ line) built.spelled ∙ append_assoc profile (built.repairs ++ report) line ∙ ap (λ t. profile ++ t) (append_assoc built.repairs report line))

@@ -55,8 +55,11 @@ both_lines {P} one other are also = record {
   passed = all_append P are.lines also.lines are.passed also.passed;
 }
 
--- Lines, where they are asked for.
-pub asked_lines : {P : List ℕ → Type 0} (asked : Bool) (text : List ℕ) → AreLinesOf P text → AreLinesOf P (if asked then text else [])
+-- A text where it is asked for, and its lines.
+abbrev pub where_asked : Bool → List ℕ → List ℕ
+where_asked asked text = if asked then text else []
+
+pub asked_lines : {P : List ℕ → Type 0} (asked : Bool) (text : List ℕ) → AreLinesOf P text → AreLinesOf P (where_asked asked text)
 asked_lines true text are = are
 asked_lines false text are = no_lines
 

@@ -24,12 +24,16 @@ all help:
 	@echo 'make prove                                   the gate: proves, builds and tests every crate by rt, in hours'
 
 # The scripts stand with their packages in share/pgo/contrib, where they find the programs in the folder above. Beside these stands
-# of which sources they are, with their sums (`made`).
+# of which sources they are, with their sums (`made`), to which they are held before anything is copied.
 install:
+	for name in pgo pgo-cold; do \
+	    grep -qx "$$name $$(sha256sum <release/$$name | cut -d ' ' -f 1)" release/made || \
+	        { echo "install: release/$$name has not the sum that release/made tells" >&2; exit 1; }; \
+	done
 	$(INSTALL) -d '$(bin)' '$(share)/contrib' '$(man)'
 	$(INSTALL) -m 755 release/pgo release/pgo-cold '$(bin)'
 	$(INSTALL) -m 644 $(wildcard docs/*.1) '$(man)'
-	$(INSTALL) -m 644 release/made '$(share)'
+	$(INSTALL) -m 644 release/made release/NOTICE LICENSE '$(share)'
 	$(INSTALL) -m 755 $(scripts) '$(share)/contrib'
 	for file in $(packages:contrib/%=%); do \
 	    $(INSTALL) -d "$(share)/contrib/$${file%/*}" && $(INSTALL) -m 644 "contrib/$$file" "$(share)/contrib/$$file" || exit; \

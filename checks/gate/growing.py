@@ -129,7 +129,7 @@ def origins_passed_over(size):
 
 
 def tails_of_a_range_list(size, step=1, last=b""):
-    """Functions of 5 bytes, each with another tail of one list of ranges in no code: 65,536, or as many as half of the file has room for."""
+    """Functions of 5 bytes, each with another tail of one list of ranges in no code: 65,535, or as many as half of the file has room for."""
     count = min(size // 8, 65536) - 1
     lists = versioned(bytes([8, 0]) + struct.pack("<I", 0), b"\x04\x01\x02" * count + last + b"\0")
     entries = [b"\x02" + struct.pack("<I", 12 + 3 * k) for k in range(count)]

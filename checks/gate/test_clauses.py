@@ -1,4 +1,4 @@
-"""The clauses of `pgo_run::run`, which the specification names, are those of the top call of both programs, word for word."""
+"""The clauses of `pgo_run::run` are those of the top call of both programs, word for word."""
 import re
 import unittest
 

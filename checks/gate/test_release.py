@@ -72,6 +72,8 @@ class Installed(Case):
             self.expect(run(bin_folder / name, "--version"), 0, f"{name} 1.0.0\n")
         made = stage / "opt" / "pgo" / "share" / "pgo" / "made"
         self.assertEqual(made.read_bytes(), (TOP / "release" / "made").read_bytes())
+        for name in ("LICENSE", "NOTICE"):
+            self.assertTrue((made.parent / name).is_file(), name)
         for page in ("pgo.1", "pgo-cold.1"):
             self.assertTrue((stage / "opt" / "pgo" / "share" / "man" / "man1" / page).is_file())
         scripts = sorted(path.name for path in bin_folder.iterdir())
@@ -88,6 +90,20 @@ class Installed(Case):
         self.assertEqual(made.status, 0, made.said)
         self.assertIn(b"count_word", (self.folder / "prof").read_bytes())
         shutil.rmtree(stage)
+
+    @needs("make", "install")
+    def test_a_changed_program_is_not_installed(self):
+        copy = self.folder / "copy"
+        for name in ("release", "contrib", "docs"):
+            shutil.copytree(TOP / name, copy / name, symlinks=True)
+        for name in ("Makefile", "LICENSE"):
+            shutil.copy2(TOP / name, copy)
+        with open(copy / "release" / "pgo-cold", "ab") as program:
+            program.write(b"!")
+        ran = run("make", "-C", copy, "install", f"DESTDIR={self.folder / 'stage'}")
+        self.assertNotEqual(ran.status, 0)
+        self.assertIn("release/pgo-cold has not the sum", ran.said)
+        self.assertFalse((self.folder / "stage").exists())
 
 
 if __name__ == "__main__":

@@ -50,6 +50,10 @@ fn list_by_version<'a>(version: u16, parts: &RangeParts<'a>, at: u64) -> Result<
 
 /// The list that a value of `DW_AT_ranges` leads to.
 ///
+/// # Errors
+/// `BadClass` where the value is of no class that the attribute has, then `NoBase`, `NoSection` and
+/// `PastSection` on the way to the list.
+///
 /// Source: DWARF 5, section 7.28.
 pub fn list_of<'a>(
     value: Value<'a>,

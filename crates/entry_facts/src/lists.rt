@@ -27,10 +27,10 @@ use std::marker::Model;
 /// to one file.
 // Why: What a list of 32 entries and more comes to is kept from its first entry on, and from each
 // 32nd further on: a mark takes a hundred bytes, an entry two or more. A reader looks for a mark at
-// its first entry, and at 32 in a row behind 32 entries, 64, 128 and so on: short lists cost no
-// search, long ones few, and of a list that goes on as a known one does it reads at most twice what
-// stands before that, and 64. Of two bases at one place the last one read stays. Places are no
-// freer than the file is long, and need no hash by a key.
+// its first entry, and at 32 in a row behind 32 entries, 64, 128 and so on: a short list costs one
+// search, a long one some more, and of a list that goes on as a known one does it reads at most
+// twice what stands before that, and 64. Of two bases at one place the last one read stays. Places
+// are no freer than the file is long, and need no hash by a key.
 #[derive(Drop)]
 pub struct Lists {
     of_pairs: IndexMap<u64, Tail>,

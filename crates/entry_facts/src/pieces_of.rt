@@ -72,9 +72,9 @@ fn live_of(
     Ok(ranges)
 }
 
-/// Keeps those of some ranges that are code of the file, in no more room than they take: a long
-/// list may have few of them, and each entry keeps its own.
-pub(crate) fn keep_live(ranges: &mut Vec<(u64, u64)>, elf: &Elf<'_>)
+/// Keeps those of some ranges that are code of the file, in no more room than they take, since each
+/// entry keeps its own.
+fn keep_live(ranges: &mut Vec<(u64, u64)>, elf: &Elf<'_>)
     ensures { ranges.new.items ≡ live_ranges elf.now ranges.old.items }
 {
     ranges.retain(|range| elf.runs(range.0, range.1));

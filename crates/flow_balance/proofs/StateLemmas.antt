@@ -57,7 +57,7 @@ fit_same price other arcs counts same fit =
 -- ---- the start
 
 -- no side starts with an excess that leaves its type
-start_few : (net : Network) (counts : List ℕ) (excess : List ℤ) → IsStart net counts excess → surplus excess < 2 ^ 63
+pub start_few : (net : Network) (counts : List ℕ) (excess : List ℤ) → IsStart net counts excess → surplus excess < 2 ^ 63
 start_few net counts excess start =
     let limits = nets_are_limited net start.of_a_function in
     let few_arcs = limits.few in

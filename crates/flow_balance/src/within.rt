@@ -1,5 +1,5 @@
 // A network solved within so many augmentations.
-ghost use Rattle.std.specs.Prelude.{◌≡◌, ◌≤◌, List, length, ℤ, pos, replicate, IfOk, IfSome};
+ghost use Rattle.std.specs.Prelude.{◌≡◌, ◌^◌, ◌<◌, ◌≤◌, List, length, ℤ, pos, replicate, None, IfOk, IfSome};
 ghost use Rattle.flow_model.specs.Network.{arcs_of};
 ghost use Rattle.path_search.specs.Ground.{sides_of};
 ghost use Rattle.flow_balance.specs.Solved.{Solves};
@@ -15,12 +15,15 @@ use refusal::NoMemory;
 use std::alloc::Global;
 
 /// Counts of least cost that conserve within bounds, with prices that fit them; or a cut, exactly
-/// where no counts conserve within bounds; or `None`, where as many augmentations were made as are
-/// left. Those that were made are taken from what is left.
+/// where no counts conserve within bounds; or `None`, only where as many augmentations were made as
+/// are left. Those that were made are taken from what is left.
+///
+/// 2^63 augmentations are enough for any network.
 // Why: Augmentations are counted down, so that each network begins in the plain way and goes on in
 // phases where so many are spent. Which least counts are told then is free: those of the phases.
 pub fn solve_within(alloc: Global, net: &Net, left: &mut u64) -> Result<Option<Solved>, NoMemory>
     ensures solved { IfOk result (λ solved. IfSome solved (Solves net.now)) }
+    ensures none { IfOk result (λ solved. solved ≡ None → left.old < 2 ^ 63) }
     ensures fewer { left.new ≤ left.old }
 {
     let sides = 2 * net.block_count() + 1;
@@ -44,6 +47,7 @@ fn solve_in(
     requires prices { prices.old ≡ replicate (sides_of net.now) (pos 0) }
     requires excess { excess.old ≡ replicate (sides_of net.now) (pos 0) }
     ensures solved { IfOk result (λ solved. IfSome solved (Solves net.now)) }
+    ensures none { IfOk result (λ solved. solved ≡ None → left.old < 2 ^ 63) }
     ensures fewer { left.new ≤ left.old }
 {
     start(net, counts, excess);
@@ -80,6 +84,7 @@ fn solve_begun(
     requires prices { prices.old ≡ replicate (sides_of net.now) (pos 0) }
     requires marked { length work.old.search.marks ≡ sides_of net.now }
     ensures solved { IfOk result (λ solved. IfSome solved (Solves net.now)) }
+    ensures none { IfOk result (λ solved. solved ≡ None → work.old.left < 2 ^ 63) }
     ensures fewer { IfOk result (λ solved. work.new.left ≤ work.old.left) }
 {
     match balance(net, counts, prices, excess, work)? {

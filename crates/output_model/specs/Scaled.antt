@@ -1,4 +1,4 @@
--- What `build` writes, as it is asked for: the same, and how many augmentations were made, where these are bounded.
+-- What `build` writes by its options: what is built, and, where augmentations are bounded, how many were made.
 use Rattle.std.specs.Prelude.{◌≡◌, ℕ, ◌+◌, ◌*◌, ◌≤◌, List, [], ◌∷◌, ◌++◌, codes, Option, if◌then◌else◌}
 use Rattle.std.specs.List.{AllZip}
 use Rattle.text_model.specs.Lines.{lines_of}

@@ -70,10 +70,11 @@ example:
 pgo build [--map=NAME] [--base] [--edges] [--scaled] BIN PERF CFG
 
 Reads what `pgo profile` reads, and a block text: the functions of the program
-as blocks and edges, which `blocks BIN` prints. Writes the profile; then for
+as blocks and edges, which `pgo-blocks BIN` prints. Writes the profile; then for
 each function of the block text counts that conserve and are least away from the
 samples, with prices that show it, or a cut that shows that there are none; and
-then the report. `draw` makes a picture of a function.
+then the report. `pgo-draw` makes a picture of a function. (In a clone these are
+contrib/blocks and contrib/draw.)
 
 --base      as for `pgo profile`
 --map=NAME  as for `pgo profile`

@@ -71,7 +71,7 @@ pub fn tree_of(
 ///
 /// # Errors
 /// `NoMemory`.
-// Why: This and `from_counts` have slices by the specification, and so copy calls and heads.
+// Why: This and `from_counts` take slices, as any caller has them, and so copy calls and heads.
 pub fn build(
     alloc: Global,
     segments: &[Seg],

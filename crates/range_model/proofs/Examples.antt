@@ -191,7 +191,7 @@ wide_offsets :
 unfolding text_of ranges_of address_of coded_entry_at pair_entry_at field_at text_at uleb_at
 wide_offsets = (refl, refl)
 
--- DWARF 4 and earlier: an offset may be of class constant.
+-- An offset may be of class constant, as DWARF 3 spells it.
 a_list_by_a_constant : ranges_of 4 0x401000 (pairs (pair 0x10 0x20 ++ pair 0 0)) bases (const 0) ≡ (0x401010, 0x401020) ∷ []
 unfolding ranges_of address_of coded_entry_at pair_entry_at field_at uleb_at
 a_list_by_a_constant = refl

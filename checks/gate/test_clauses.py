@@ -1,8 +1,42 @@
-"""The clauses of `pgo_run::run` are those of the top call of both programs, word for word."""
+"""The clauses of `pgo_run::run` are those of the top call of both programs, word for word, and the calls of each part are there."""
 import re
 import unittest
 
 from common import TOP
+
+# Each part's calls, by which docs/PROMISES can be believed part by part. Not all of them are called by the programs.
+CALLS = """
+    byte_view: new at left u8 u16 u24 u32 u64 uleb sleb cstr take sub
+    text_scan: new next hex prefixed decimal wide signed push_number push_signed push_hex
+    key_types: new add get len place stretch entry_name
+    elf_sections: read section runs
+    dwarf_forms: kind read_value
+    dwarf_abbrev: read_table find
+    dwarf_strings: text address
+    dwarf_info: read_units entry_at
+    dwarf_ranges: ranges_of
+    line_program: rows
+    row_table: make row_at cuts
+    inline_tree: make
+    context_map: make segments
+    branch_counts: new branches ranges total add_branch add_stack
+    branch_stacks: new read_text feed finish
+    range_counts: sweep at max_in
+    branch_class: classify classify_range
+    profile_tree: build from_counts count
+    profile_text: read write
+    profile_merge: new add tree summary
+    line_lift: lift
+    cfg_text: read
+    block_weights: weights
+    flow_network: net_of arcs block_count edge_count leaving entering cost cut_sums
+    flow_solver: solve
+    flow_scaling: solve_scaled fits
+    dual_check: first_bad accepts accepts_cut
+    repair_text: write read
+    case_maker: make
+    pgo_run: run
+"""
 
 
 def clauses(path, asked, answered):
@@ -21,6 +55,15 @@ class Clauses(unittest.TestCase):
                        "answer_of_words files (P.asked (texts_of words.now))")
         self.assertEqual(len(pgo), 16)
         self.assertEqual(pgo, both)
+
+    def test_each_part_has_its_calls(self):
+        for line in CALLS.split("\n"):
+            crate, _, names = line.strip().partition(": ")
+            text = "".join(path.read_text(encoding="utf-8") for path in sorted((TOP / "crates" / crate / "src").glob("**/*.rt")) if crate)
+            for name in names.split():
+                with self.subTest(f"{crate}::{name}"):
+                    # A method of a trait has no `pub` of its own.
+                    self.assertRegex(text, rf"(?m)^ *pub fn {name}\b|^    fn {name}\b")
 
 
 if __name__ == "__main__":

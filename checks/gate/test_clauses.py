@@ -57,13 +57,14 @@ class Clauses(unittest.TestCase):
         self.assertEqual(pgo, both)
 
     def test_each_part_has_its_calls(self):
-        for line in CALLS.split("\n"):
-            crate, _, names = line.strip().partition(": ")
-            text = "".join(path.read_text(encoding="utf-8") for path in sorted((TOP / "crates" / crate / "src").glob("**/*.rt")) if crate)
+        for line in CALLS.strip().split("\n"):
+            crate, names = line.strip().split(": ")
+            text = "".join(path.read_text(encoding="utf-8") for path in sorted((TOP / "crates" / crate / "src").glob("**/*.rt")))
+            # The methods of a trait have no `pub` of their own, where it is defined and where a type has it.
+            text = re.sub(r"(?ms)^(pub trait|impl[^\n]* for) .*?^}", lambda trait: trait[0].replace("    fn ", "    pub fn "), text)
             for name in names.split():
                 with self.subTest(f"{crate}::{name}"):
-                    # A method of a trait has no `pub` of its own.
-                    self.assertRegex(text, rf"(?m)^ *pub fn {name}\b|^    fn {name}\b")
+                    self.assertTrue(re.search(rf"(?m)^ *pub fn {name}\b", text), "it is not there, or no longer public")
 
 
 if __name__ == "__main__":

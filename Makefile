@@ -21,7 +21,7 @@ all help:
 	@echo 'make uninstall [PREFIX=$(PREFIX)] [DESTDIR=] takes them away'
 	@echo 'make check                                   the checks, in some minutes: release/, scripts, documents'
 	@echo 'make demo                                    a program before and behind its profile, with what it gains (clang, qemu-user)'
-	@echo 'make prove                                   the gate: proves, builds and tests every crate by rt, in hours'
+	@echo 'make prove                                   the gate: proves, builds and tests every crate by rt, in an hour or two'
 
 # The scripts stand with their packages in share/pgo/contrib, where they find the programs in the folder above. Beside these stands
 # of which sources they are, with their sums (`made`), to which they are held before anything is copied.

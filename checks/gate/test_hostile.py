@@ -1,5 +1,5 @@
-"""Hostile files: whatever a file holds, a command ends soon, by itself, and with a status that docs/FORMATS.md states; and no time grows
-faster than the file.
+"""Hostile files: whatever a file holds, a command ends soon, by itself, and with a status that docs/FORMATS.md states; and time grows
+within the bounds of growing.py.
 
 The families of make.py are tried in small here, and those of growing.py at two sizes; checks/by_hand/hostile times both at full size.
 """

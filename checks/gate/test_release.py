@@ -46,7 +46,7 @@ class Release(Case):
 
 
 class OlderSystems(Case):
-    """What README says of systems with an older C library."""
+    """What docs/USING.md says of systems with an older C library."""
 
     def test_by_a_loader_and_a_library_carried_along(self):
         loader, library = "/lib64/ld-linux-x86-64.so.2", "/lib/x86_64-linux-gnu/libc.so.6"

@@ -172,7 +172,10 @@ class Releases(Launcher):
         (self.top / "release" / "pgo").rename(self.folder / "pgo")
         self.refuses(126, "release/pgo is not there.*git status")
         (self.folder / "pgo").rename(self.top / "release" / "pgo")
+        (self.top / "release" / "pgo").chmod(0o644)
+        self.refuses(126, "release/pgo may not be executed")
         (self.top / "release" / "made").unlink()
+        (self.top / "release" / "pgo").chmod(0o755)
         self.refuses(126, "release/pgo stands without release/made")
 
     def test_it_does_not_run_here(self):

@@ -205,6 +205,11 @@ class Refusals(Tree):
         self.refused(REFUSED, f"merge-tree: {here}/bad: refused at 2: BadLine\nmerge-tree: {here}/worse: refused at 1: BadLine\nmerge-tree: {here}/gone: no such file\n",
                      *self.files[:4], "bad", "p/4", "worse", *self.files[5:], "gone")
 
+    def test_what_helps(self):
+        for content, helps in ((b"\x1f\x8b\x08\0", "it is packed"), (b"PERFILE2", "it is a recording"), (b"\x7fELF\2\1\1", "it is a program")):
+            with self.subTest(helps):
+                self.tells(self.merge("p/0", self.file("bad", content).name), REFUSED, f"bad: refused at 1: BadLine.*what helps: {helps}")
+
     def test_a_launcher_that_says_something_first(self):
         self.file("bad", BAD)
         self.file("pgo", f'#!/bin/sh\necho "pgo: something" >&2\nexec "{PGO}" "$@"\n').chmod(0o755)
@@ -263,6 +268,25 @@ class Refusals(Tree):
         self.file("other.tree/kept")
         self.tells(self.merge("-o", "other", *self.files), WRITE_FAULT, "other.tree is there, and is no tree of merge-tree")
         self.assertEqual(self.names("other.tree"), ["kept"])
+        self.tells(self.merge("-o", "new/", *self.files), WRITE_FAULT, "new/: it is the name of a folder")
+        self.assertIn(b"it is a device or a pipe", run("sh", "-c", f"'{TREE}' -o /dev/stdout p/0 2>&1 | cat", folder=self.folder).out)
+
+    def test_profiles_that_are_named_as_parts(self):
+        for names in (["12.01.prof", "12.02.prof"], ["1.0.prof", "1.0.manifest", "lock"], ["sum"], ["merge-tree.old"], ["tree", "1.0.prof"]):
+            with self.subTest(names=names):
+                for name in names:
+                    self.file(f"months.tree/{name}", profile(1))
+                for words in (["-o", "months"], ["-o", "months", "--resume"], ["-o", "out", "--plan=months.tree"]):
+                    self.tells(self.merge(*words, f"months.tree/{names[0]}"), WRITE_FAULT, "months.tree is there, and is no tree of merge-tree")
+                    self.assertEqual(self.names("months.tree"), sorted(names))
+                for name in names:
+                    (self.folder / "months.tree" / name).unlink()
+
+    def test_a_folder_that_was_only_made(self):
+        self.file("out.tree/lock")
+        self.file("out.tree/tree.7.0.new", "{")
+        self.expect(self.merge("-o", "out", *self.files), DONE)
+        self.assertFalse((self.folder / "out.tree").exists())
 
     @needs_file("/dev/full")
     def test_a_full_device(self):
@@ -493,6 +517,15 @@ class Resumed(Tree):
         self.assertEqual(self.resumed(6), 5)
         self.assertEqual(self.resumed(0), 0)
 
+    def test_what_was_left_behind_the_last_step(self):
+        self.resumed(100)
+        self.expect(self.merge("-o", "out", "--plan=out.tree", *self.files), DONE)
+        self.file("out.tree/1.0.prof.7.0.new", "half")
+        self.assertEqual(self.resumed(0), 0)
+        self.file("out.tree/mine", "kept")
+        self.expect(self.merge("-o", "out", "--resume", "--part-size=2", *self.files), DONE)
+        self.assertEqual(self.names("out.tree"), ["mine"])
+
     def test_a_file_that_changed(self):
         self.stopped()
         (self.folder / "p/0").write_text(profile(100))
@@ -704,7 +737,7 @@ while True:
     if call(True) == 0:
         break
     assert not os.path.exists("out") or out() == whole, step
-    assert call(False, "--resume") == 0 and out() == whole, step
+    assert call(False, "--resume") == 0 and out() == whole and not os.path.exists("out.tree"), step
 print(step - 1)
 """
 

@@ -149,7 +149,7 @@ class Forms(Profiles):
         self.same(WORDS, "/dev/stdin", given=path.read_bytes())
         self.same("--pid=7", WORDS, path)
         self.same("--comm=words", WORDS, path)
-        self.judge(1, "has no branches of --comms=other.*-F comm,pid", "--comm=other", WORDS, path)
+        self.judge(1, "has no branches of --comm=other.*-F comm,pid", "--comm=other", WORDS, path)
         self.judge(4, "at 1: BadLine.*it is a recording: perf script -i bad .*perf script says: ", WORDS, self.file("bad", path.read_bytes()[:200]).name)
 
     def test_a_recording_without_perf(self):
@@ -159,6 +159,19 @@ class Forms(Profiles):
             os.symlink(shutil.which(tool), self.folder / "bin" / tool)
         self.judge(4, "at 1: BadLine.*it is a recording: perf script -i perf.data .*there is no perf here", WORDS, path.name,
                    environment={"PATH": str(self.folder / "bin")})
+
+    def test_a_recording_of_another_user(self):
+        """A stand-in for perf says what perf says of such a file, and the remedy has the option that it asks for."""
+        os.mkdir(self.folder / "bin")
+        said = "File perf.data not owned by current user or root (use -f to override)"
+        self.file("bin/perf", f"#!/bin/sh\necho '{said}' >&2\nexit 255\n").chmod(0o755)
+        self.judge(4, "it is a recording: perf script -f -i 'perf data' -F ip,brstack", WORDS, self.file("perf data", b"PERFILE2").name,
+                   environment={"PATH": f"{self.folder}/bin:{os.environ['PATH']}"})
+
+    def test_a_name_that_is_no_text(self):
+        name = self.folder / os.fsdecode(b"\xff.txt")
+        name.write_bytes(TEXT.read_bytes())
+        self.judge(5, "read fault: file 2 .*what helps: a name in UTF-8", WORDS, name)
 
     def test_the_numbers_of_builds_that_a_recording_has(self):
         """A stand-in for perf prints the demo's text with a load line, and says of which build the file was."""
@@ -203,6 +216,9 @@ class Words(Profiles):
             ("the number stands behind --pid=", ["--pid=words", WORDS, TEXT]),
             ("--map stands twice", ["--map=a", "--map=b", WORDS, TEXT]),
             ("options stand in front of the files: --base", [WORDS, TEXT, "--base"]),
+            ("--base and --no-base do not go together", ["--base", "--no-base", WORDS, TEXT]),
+            ("--also=.* is .* once more, and would count twice", [f"--also={WORDS}", WORDS, TEXT]),
+            ("--also=.* is .* once more, and would count twice", ["--map=a", "--map=b", "--map=b", "--also=x", "--also=x", WORDS, TEXT]),
             ("a file has no name", ["", TEXT]),
         ]
         for said, words in rows:
@@ -217,6 +233,7 @@ class Words(Profiles):
         judge(6, "it is a device or a pipe", "pipe")
         os.mkdir(self.folder / "there")
         judge(6, "it is a folder", "there")
+        judge(6, "it is the name of a folder", "new/")
         judge(2, "- is no name of one", "-")
         os.symlink("there/prof", self.folder / "link")
         judge(0, "^$", "link")

@@ -167,9 +167,11 @@ def lines_of(file, path):
 
 def target_of(path, inputs=()):
     """The file that an output goes to, behind links; a Trouble where that is a folder, a device, a pipe, or an input."""
+    if path.endswith(os.sep):
+        raise Trouble(f"{path}: it is the name of a folder", WRITE_FAULT)
     place = os.path.realpath(path)
     try:
-        mode = os.stat(place).st_mode
+        mode = os.stat(path).st_mode
     except FileNotFoundError:
         mode = stat.S_IFREG
     except OSError:

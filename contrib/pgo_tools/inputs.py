@@ -57,6 +57,11 @@ def is_stream(path):
     return stat.S_ISFIFO(mode) or stat.S_ISSOCK(mode) or is_input and not stat.S_ISDIR(mode)
 
 
+def as_given(asked):
+    """The words that choose samples, as pgo-profile takes them: perf script has --comms= for its --comm=."""
+    return " and ".join(asked).replace("--comms=", "--comm=")
+
+
 def text_in(name, folder, asked):
     """The branch text in a file, a packed one, a recording, or a pipe. `asked` are words for perf script that choose samples."""
     path = programs.as_file(name)
@@ -67,7 +72,7 @@ def text_in(name, folder, asked):
     if kind == "recording":
         return printed(name, path, folder, asked)
     if asked:
-        raise Trouble(f"{' and '.join(asked)}: {name} is no recording (perf.data), of which samples are chosen", USAGE)
+        raise Trouble(f"{as_given(asked)}: {name} is no recording (perf.data), of which samples are chosen", USAGE)
     return Text(name, path)
 
 

@@ -12,6 +12,7 @@ import tempfile
 from typing import List, NamedTuple
 
 from pgo_tools import manifest as told
+from pgo_tools import profile_text
 from pgo_tools.children import call
 from pgo_tools.cli import DONE, FAILED, NO_FILE, NO_MEMORY, NO_PROGRAM, READ_FAULT, REFUSED, WRITE_FAULT, Trouble, say
 from pgo_tools.files import opened, put_in_place, scratch_folder, target_of
@@ -34,6 +35,14 @@ class Faults(Trouble):
     def __init__(self, files):
         super().__init__("\n".join(f"{each.name}: {each.why}" for each in files), files[0].status)
         self.files = files
+
+
+def remedy(tree, file):
+    """What helps with a file that is no profile from its first line on, by how that looks."""
+    if not tree.choices.fetch and file.why == "refused at 1: BadLine":
+        with contextlib.suppress(OSError), opened(file.name)[0] as text:
+            return profile_text.remedy(text_of(text.readline(4096).rstrip(b"\n")))
+    return ""
 
 
 class Source(NamedTuple):

@@ -56,18 +56,20 @@ LOOKS = [(re.compile(form), said) for form, said in [
     (r"\x7fELF", "it is a program: a profile of it, as contrib/pgo-profile makes one"),
     (r"PERFILE2|.*PERF_RECORD_| *(0x)?[0-9a-f]+ +0x[0-9a-f]+/0x", "it is a recording: contrib/pgo-profile makes a profile of it"),
     (r"func [^ ]+$|block [0-9]+ 0x", "it is a block text: a profile, or what pgo build printed of it"),
-    (r"PK\x03\x04|7z|\x04\x22M", "it is packed: unpack it"),
+    (r"PK\x03\x04|7z|\x04\x22M|\x1f\udc8b|\udcfd7zXZ|BZh|\(\udcb5/\udcfd", "it is packed: unpack it"),
     (r"\[|!", 'it has calling contexts or probes: docs/USING.md, "Profiles of other tools"'),
     (r".*\r$", 'take away the CR at its end: tr -d "\\r"'),
 ]]
 OTHERWISE = "a profile's text, as pgo prints it; of one in binary form llvm-profdata merge --sample --text makes one"
 
 
+def remedy(line):
+    """What helps with a bad line, by how it looks."""
+    return next((said for form, said in LOOKS if form.match(line)), OTHERWISE)
+
+
 def refused(path, number, kind, line=""):
-    helps = ""
-    if kind == "BadLine":
-        helps = next((said for form, said in LOOKS if form.match(line)), OTHERWISE)
-    return Trouble(f"{path}: refused at {number}: {kind}", REFUSED, helps)
+    return Trouble(f"{path}: refused at {number}: {kind}", REFUSED, remedy(line) if kind == "BadLine" else "")
 
 
 def parsed(depth, line):

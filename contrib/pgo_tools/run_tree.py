@@ -30,7 +30,9 @@ def outcome(tree, part, pgo):
         parts.make(tree, part, pgo)
         return Outcome(0, [])
     except parts.Faults as reason:
-        return Outcome(reason.status, [[f"{each.name}: {each.why}", ""] for each in reason.files])
+        # What helps is said of the first file alone: of ten thousand it is mostly the same.
+        helps = [parts.remedy(tree, reason.files[0])] + [""] * (len(reason.files) - 1)
+        return Outcome(reason.status, [[f"{each.name}: {each.why}", said] for each, said in zip(reason.files, helps)])
     except Trouble as reason:
         return Outcome(reason.status, [[reason.what, reason.helps]])
     except OSError as reason:

@@ -3,10 +3,10 @@ import os
 import re
 from typing import NamedTuple
 
-from pgo_tools import branch_text, found, programs
+from pgo_tools import branch_text, found, inputs, programs
 from pgo_tools.elf import X86_64
 from pgo_tools.files import FOREIGN, PACKED, kind_of
-from pgo_tools.names import text_of
+from pgo_tools.names import shell_word, text_of
 
 # A function's hot lines are those that make up this share of all counts; below this count the least of them is chance.
 HOT_SHARE, FEW_SAMPLES = 0.9, 10
@@ -85,7 +85,7 @@ def debug_file_sign(program):
 
 def without_branches(text):
     if text.asked:
-        return Sign(f"{text.name} has no branches of {' and '.join(text.asked)}", f"perf script -i {text.name} -F comm,pid shows whose it has")
+        return Sign(f"{text.name} has no branches of {inputs.as_given(text.asked)}", f"perf script -i {shell_word(text.name)} -F comm,pid shows whose it has")
     if text.is_file() and not os.path.getsize(text.path):
         return Sign(f"{text.name} is empty", "what perf record or perf script said when it made it")
     return Sign(f"{text.name} has no branches", "perf record -b, then perf script -F ip,brstack")
@@ -97,7 +97,7 @@ def without_units(program, report):
                     "build with -gdwarf-4 or -gdwarf-5, without -gsplit-dwarf")
     if program.debug:
         return Sign(f"{program.name} has its debugging information in {program.debug}, and the two could not be joined",
-                    f"eu-unstrip -o {program.base_name()}.whole {program.name} {program.debug} (elfutils)")
+                    f"eu-unstrip -o {shell_word(program.base_name() + '.whole')} {shell_word(program.name)} {shell_word(program.debug)} (elfutils)")
     if program.elf.section(".zdebug_info"):
         return Sign(f"{program.name} has its debugging information compressed the old way", "objcopy --decompress-debug-sections")
     if program.elf.section(".symtab"):
@@ -114,7 +114,8 @@ def look_at_line(text, number):
     kind = kind_of(text.path)
     if kind == "recording":
         said = f"; {text.said}" if text.said else ""
-        return f"it is a recording: perf script -i {text.name} -F ip,brstack prints its text{said}"
+        force = "-f " * ("use -f" in said)
+        return f"it is a recording: perf script {force}-i {shell_word(text.name)} -F ip,brstack prints its text{said}"
     if kind in PACKED:
         return "it is packed: unpack it"
     if kind in FOREIGN:
@@ -159,13 +160,15 @@ def look_at_unread(path):
         return "its name: there is no such file"
     if not os.access(path, os.R_OK):
         return "leave to read it (chmod)"
+    if any("\udc80" <= each <= "\udcff" for each in path):
+        return "a name in UTF-8 (ln -s): pgo opens no other"
     return ""
 
 
 # Of profiles that have lines.
 
 def same_binary(program):
-    return f"the binary that ran: perf buildid-list and readelf -n {program.name} tell its number"
+    return f"the binary that ran: perf buildid-list and readelf -n {shell_word(program.name)} tell its number"
 
 
 def of_program(part, text):

@@ -3,6 +3,7 @@
 A part of level 1 sums up some of the files, a part of a higher level some of the parts below, and the one part of the last
 level all of them. Sums are sums: whichever tree it is, and in whatever order the files come, the bytes are the same.
 """
+import contextlib
 import hashlib
 import json
 import os
@@ -15,6 +16,8 @@ from pgo_tools.files import opened, put_in_place
 from pgo_tools.numbers import decimal
 
 FORM = "merge-tree's tree 1"
+# How every description begins, of whatever version.
+START = b'{"form": "merge-tree\'s tree '
 
 
 class File(NamedTuple):
@@ -107,6 +110,13 @@ def part_of(tree, word):
 
 def description(folder):
     return os.path.join(folder, "tree")
+
+
+def is_described(folder):
+    """A tree is described in a folder, by this version of merge-tree or another."""
+    with contextlib.suppress(OSError), opened(description(folder))[0] as file:
+        return file.read(len(START)) == START
+    return False
 
 
 def write(tree):

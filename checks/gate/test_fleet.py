@@ -3,7 +3,7 @@ the demo for a service."""
 import os
 import unittest
 
-from common import DONE, TOP, Case, needs
+from common import DONE, FAILED, TOP, Case, needs
 import test_merge_tree
 from test_using import chapters, commands
 
@@ -70,6 +70,18 @@ class Engines(test_merge_tree.Tree):
 
     def test_nomad(self):
         self.assertIn(b"not run", self.merge("--print=nomad", "tree").out)
+
+    def test_names_that_would_be_more_than_names(self):
+        for folder, engines in (("a\nall: evil", ("make", "parallel", "slurm", "kubernetes", "nomad")), ("a{}", ("parallel",))):
+            self.expect(self.merge(f"--plan={folder}", "-o", "out", *self.files), DONE)
+            for name in engines:
+                self.tells(self.merge(f"--print={name}", folder), FAILED, f"{name} would take that name for more than a name")
+        folder = "%j$(x)%{y"
+        self.expect(self.merge(f"--plan={folder}", "-o", "out", *self.files), DONE)
+        written = (("slurm", b"/%%j$(x)%%{y'/slurm-%A_%a.log"), ("kubernetes", b"/%j$$(x)%{y"), ("nomad", b"/%j$(x)%%{y"), ("make", b"/%j$$(x)%{y"))
+        for name, escaped in written:
+            with self.subTest(name):
+                self.assertIn(escaped, self.merge(f"--print={name}", folder).out)
 
 
 SBATCH = """#!/bin/sh

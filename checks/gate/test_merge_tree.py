@@ -1,6 +1,7 @@
 """contrib/merge-tree: sums by any tree, and what it says and leaves behind where something goes wrong on the way."""
 import json
 import os
+import pathlib
 import resource
 import signal
 import subprocess
@@ -9,7 +10,7 @@ import time
 import unittest
 
 from common import CONTRIB, DONE, FAILED, BAD_WORDS, MISSING, NO_MEMORY, PGO, HERE, READ_FAULT, REFUSED, TOP, WRITE_FAULT, Case, needs, needs_file
-from common import on_closed_output, python, run
+from common import on_closed_output, python, run, terminated
 
 TREE = CONTRIB / "merge-tree"
 FLEET = TOP / "bench" / "fleet.py"
@@ -277,10 +278,62 @@ class Refusals(Tree):
                 for name in names:
                     self.file(f"months.tree/{name}", profile(1))
                 for words in (["-o", "months"], ["-o", "months", "--resume"], ["-o", "out", "--plan=months.tree"]):
-                    self.tells(self.merge(*words, f"months.tree/{names[0]}"), WRITE_FAULT, "months.tree is there, and is no tree of merge-tree")
+                    self.tells(self.merge(*words, "p/0"), WRITE_FAULT, "months.tree is there, and is no tree of merge-tree")
                     self.assertEqual(self.names("months.tree"), sorted(names))
                 for name in names:
                     (self.folder / "months.tree" / name).unlink()
+
+    def test_a_folder_that_is_named_as_a_file_of_a_tree(self):
+        self.file("out.tree/1.0.prof/kept")
+        self.tells(self.merge("-o", "out", *self.files), WRITE_FAULT, "out.tree is there, and is no tree of merge-tree")
+        self.assertEqual(self.names("out.tree/1.0.prof"), ["kept"])
+
+    def test_files_in_the_folder_of_the_tree(self):
+        self.expect(self.merge("-o", "out", "--plan=months.tree", *self.files), DONE)
+        self.file("months.tree/1.0.prof", profile(1))
+        for words in (["-o", "months", "months.tree/1.0.prof"], ["--plan=months.tree", "-o", "months.tree/sum", "p/0"], ["--plan=.", "-o", "sum", "p/0"]):
+            with self.subTest(words=words):
+                self.tells(self.merge(*words), BAD_WORDS, "is the folder of the tree, and has files that go in or come out")
+        self.assertEqual(self.names("months.tree"), ["1.0.prof", "lock", "tree"])
+
+    def test_a_manifest_that_is_another_file(self):
+        self.file("a.manifest", profile(1))
+        self.tells(self.merge("-o", "a", "a.manifest", "p/0"), BAD_WORDS, "a.manifest is listed to be merged, too")
+        self.file("jar.manifest", "Manifest-Version: 1.0\n")
+        for words in (["p/0"], ["--fetch=cp", "p/0"]):
+            self.tells(self.merge("-o", "jar", *words), BAD_WORDS, "jar.manifest is no manifest of merge-tree, and would be lost")
+        self.file("folder.manifest/kept")
+        self.tells(self.merge("-o", "folder", "p/0"), WRITE_FAULT, "folder.manifest: it is a folder")
+        self.tells(self.merge("-o", "a" * 240, "p/0"), WRITE_FAULT, "the name is too long to have a manifest beside it")
+        self.assertEqual(self.names(), ["a.manifest", "folder.manifest", "jar.manifest", "p"])
+
+    def test_what_came_to_its_place_meanwhile(self):
+        self.expect(self.merge("-o", "out", "--plan=tree", *self.files), DONE)
+        self.file("out", "int main(void) { return 0; }\n")
+        self.tells(self.merge("--run", "tree"), BAD_WORDS, "out is no profile in text, and would be lost")
+        self.assertEqual((self.folder / "out").read_text(), "int main(void) { return 0; }\n")
+
+    def test_names_that_are_nothing(self):
+        for words in (["-o", ""], ["-o", "out", "--plan="], ["--part=", "tree"]):
+            with self.subTest(words=words):
+                self.tells(self.merge(*words, *self.files), BAD_WORDS, "a name, and not nothing")
+        self.assertEqual(self.names(), ["p"])
+
+    def test_a_list_with_the_other_end(self):
+        self.tells(self.merge(given=b"p/0\0p/1\0"), BAD_WORDS, "the list has NULs what helps: -0")
+
+    def test_names_in_another_locale(self):
+        name = os.fsdecode("p/é".encode())
+        self.file(name, profile(1))
+        plain = {"LC_ALL": "C", "PYTHONUTF8": "0", "PYTHONCOERCECLOCALE": "0"}
+        self.expect(self.merge(given=lines(name), environment=plain), DONE, self.sum_of([name]))
+
+    def test_a_name_with_a_line_feed(self):
+        name = "bad\nmerge-tree: all profiles are good"
+        self.file(name, "no profile\n")
+        for words in (["-o", "out"], ["-o", "out", "--skip-bad=100"], ["-o", "out", "--plan=tree"], ["--part=1.0"]):
+            ran = self.merge(*words, *(["tree"] if words == ["--part=1.0"] else ["p/0", name]))
+            self.assertNotIn("\nmerge-tree: all", "\n" + ran.said, words)
 
     def test_a_folder_that_was_only_made(self):
         self.file("out.tree/lock")
@@ -303,6 +356,21 @@ class Refusals(Tree):
 
     def test_no_memory(self):
         self.tells(self.merge("p/0", environment=self.pgo_that("echo 'no memory' >&2; exit 7")), NO_MEMORY, "no memory")
+
+
+class Closed(Tree):
+    """Streams that the caller closed."""
+
+    count = 6
+
+    def test_a_part(self):
+        for closed in ([0], [1], [2], [0, 1], [1, 2], [0, 2], [0, 1, 2]):
+            with self.subTest(closed=closed):
+                self.expect(self.merge("--plan=tree", "-o", "out", *self.files), DONE)
+                ran = self.merge("--part=1.0", "tree", prepare=lambda: [os.close(each) for each in closed], limit=20)
+                self.assertEqual((ran.status, (self.folder / "out").read_bytes()), (DONE, self.sum_of(self.files)))
+                for name in ("out", "out.manifest"):
+                    (self.folder / name).unlink()
 
 
 class BadFiles(Tree):
@@ -352,6 +420,27 @@ class BadFiles(Tree):
             (self.folder / name).write_text("")
         self.expect(self.merge("--empty-ok", *self.files), DONE, self.sum_of(self.files))
         self.tells(self.merge("--empty-ok", *self.files[:9]), FAILED, "the sum is empty")
+
+
+    def test_one_that_is_larger_than_profiles_may_be(self):
+        """Nothing of it is held: it has no line, and no bytes on the disk."""
+        with open(self.file("large"), "wb") as large:
+            large.truncate((1 << 28) + 1)
+        ran = self.merge("--skip-bad=50", "large", "p/0", prepare=lambda: resource.setrlimit(resource.RLIMIT_AS, (400 << 20,) * 2))
+        self.tells(ran, DONE, "left out: .*large: refused at 268435456: FileTooLarge")
+        self.assertEqual(ran.out, self.sum_of(["p/0"]))
+
+    def test_one_of_many_builds(self):
+        self.file("many", profile(1) + "".join(f"# build {number}{'0' * 500}\n" for number in range(10000)))
+        ran = self.merge("--skip-bad=50", "many", "p/0")
+        self.tells(ran, DONE, "it is of several builds")
+        self.assertLess(len(ran.said), 4096)
+
+    def test_a_number_of_many_zeros(self):
+        name = self.file("zeros", b"x:" + b"0" * 4000000 + b"y\n")
+        used = resource.getrusage(resource.RUSAGE_CHILDREN).ru_utime
+        self.tells(self.merge(name.name), REFUSED, "zeros: refused at 1: BadLine")
+        self.assertLess(resource.getrusage(resource.RUSAGE_CHILDREN).ru_utime - used, 2)
 
 
 class Builds(Tree):
@@ -480,6 +569,23 @@ class Steps(Tree):
         self.expect(self.merge("--run", "tree"), DONE)
         self.assertEqual((self.folder / "out").read_bytes(), self.whole)
 
+    def test_damaged_descriptions(self):
+        self.plan()
+        path = self.folder / "tree/tree"
+        told = json.loads(path.read_text())
+        changes = [{"width": 1}, {"width": 0}, {"width": "4"}, {"files": []}, {"files": [["p/0", "1"]]}, {"files": [[7, 1]]}, {"out": "a\0b"}, {"id": None}]
+        for damaged in [*(json.dumps({**told, **change}) for change in changes), "[" * 200000]:
+            with self.subTest(damaged[-60:]):
+                path.write_text(damaged)
+                self.tells(self.merge("--run", "tree", limit=20), FAILED, "tree/tree describes no tree")
+
+    def test_a_nested_manifest(self):
+        self.plan()
+        self.file("tree/1.0.manifest", "[" * 200000)
+        self.expect(self.merge("--run", "tree"), DONE)
+        self.file("out.manifest", "[" * 200000)
+        self.tells(self.merge("-o", "out", "--resume", *self.files), BAD_WORDS, "out.manifest is no manifest of merge-tree")
+
     def test_no_such_part_or_tree(self):
         for part in ("4.0", "1.5", "0.0", "x", "1.-1"):
             self.tells(self.merge(f"--part={part}", "tree"), BAD_WORDS, "has no part .*1.0 to 1.4, 2.0 to 2.1, 3.0 to 3.0")
@@ -607,7 +713,7 @@ class InTheWay(Tree):
             self.refused(WRITE_FAULT, "out.tree is there, and is no tree of merge-tree", "--resume")
             (self.folder / "out.tree" / name).unlink()
         os.mkfifo(self.folder / "out.manifest")
-        self.refused(READ_FAULT, "out.manifest: it is no file", "--resume")
+        self.refused(WRITE_FAULT, "out.manifest: it is a device or a pipe", "--resume")
         os.mkfifo(self.folder / "out.tree/tree")
         self.tells(self.merge("--run", "out.tree", limit=20), READ_FAULT, "out.tree/tree: it is no file")
 
@@ -785,6 +891,20 @@ class Rooms(Tree):
             self.assertIn((self.folder / "left").read_text(), ("out.tree\n", ""))
         self.assertGreater(pages, 6)
 
+    def test_last_nights_sum_stays_with_its_manifest(self):
+        """There is room for the tree, which is elsewhere, and none for the sum."""
+        if run("unshare", "-m", "true").status:
+            self.skipTest("unshare -m is not allowed")
+        self.file("large", "".join(f"f{number}:1:0\n 1: 1\n" for number in range(10000)))
+        calls = f"'{TREE}' -o disk/out p/0 && '{TREE}' --plan=tree -o disk/out p/0 large && cp disk/* old && {{ '{TREE}' --run tree; status=$?; }}"
+        (self.folder / "disk").mkdir()
+        (self.folder / "old").mkdir()
+        (self.folder / "new").mkdir()
+        ran = self.run_here("unshare", "-m", "sh", "-c", f"mount -t tmpfs -o size=64k none disk && {calls} && cp disk/* new; exit $status")
+        self.tells(ran, WRITE_FAULT, "No space left|room")
+        for name in ("out", "out.manifest"):
+            self.assertEqual((self.folder / "new" / name).read_bytes(), (self.folder / "old" / name).read_bytes())
+
 
 class Changing(Tree):
     """A file that changes while it is read is none that is whole."""
@@ -813,6 +933,46 @@ class Fetched(Tree):
         script = self.file("bring it", '#!/bin/sh\nset -eu\n[ "$1" = -v ]\ncp "p/${2#store://}" "$3"\n')
         script.chmod(0o755)
         self.expect(self.merge(f"--fetch='{script}' -v", *(f"store://{number}" for number in range(20))), DONE, self.sum_of(self.files))
+
+    def script(self, name, *lines_of_it):
+        path = self.file(name, "\n".join(["#!/bin/sh", *lines_of_it, ""]))
+        path.chmod(0o755)
+        return f"--fetch={path}"
+
+    def test_a_copy_that_is_a_link(self):
+        (self.folder / "elsewhere").mkdir()
+        (self.folder / "p/link").symlink_to(self.folder / "elsewhere")
+        ran = self.merge("--fetch=cp -P", "--skip-bad=50", "p/link", "p/0", "p/1")
+        self.tells(ran, DONE, "left out: p/link: read fault: cp brought a link")
+        self.assertEqual((ran.out, self.names("elsewhere")), (self.sum_of(["p/0", "p/1"]), []))
+
+    def test_a_copy_that_goes_on_with_what_is_there(self):
+        fetch = self.script("get", '[ ! -e "$2" ] || exit 0', 'cp "$1" "$2"', '[ "$1" != p/0 ]')
+        ran = self.merge(fetch, "--skip-bad=50", *self.files)
+        self.tells(ran, DONE, "left out: p/0: read fault")
+        self.assertEqual(ran.out, self.sum_of(self.files[1:]))
+
+    def test_a_copy_of_a_folder(self):
+        self.file("p/folder/kept")
+        ran = self.merge("--fetch=cp -r", "--skip-bad=50", "p/folder", *self.files)
+        self.tells(ran, DONE, "left out: p/folder: read fault: it is a folder")
+        self.assertEqual(ran.out, self.sum_of(self.files))
+
+    def test_a_name_that_is_an_option(self):
+        self.tells(self.merge("--fetch=cp", "--", "--help"), BAD_WORDS, "--help: the name begins with -")
+
+    def test_a_signal(self):
+        """What the command started itself ends, too."""
+        fetch = self.script("get", f"sleep 600 & echo $! >'{self.folder}/sleeps'", "wait")
+        ran = terminated(TREE, fetch, "-o", "out", "p/0", folder=self.folder, until=lambda: (self.folder / "sleeps").exists() and (self.folder / "sleeps").read_text())
+        self.assertEqual(ran.status, 128 + signal.SIGTERM)
+        pid = int((self.folder / "sleeps").read_text())
+        for _ in range(100):
+            if not os.path.exists(f"/proc/{pid}") or " Z " in pathlib.Path(f"/proc/{pid}/stat").read_text():
+                return
+            time.sleep(0.05)
+        os.kill(pid, signal.SIGKILL)
+        self.fail("it goes on")
 
     def test_a_copy_that_fails(self):
         self.tells(self.merge("--fetch=cp", *self.files, "gone"), READ_FAULT, "gone: read fault: cp ended with 1: .*No such file")

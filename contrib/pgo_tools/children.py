@@ -1,4 +1,5 @@
 """Programs and processes that end with the process that started them, whatever ends it."""
+import contextlib
 import ctypes
 import os
 import signal
@@ -24,7 +25,14 @@ def end_with(parent, number=signal.SIGKILL):
 def call(words, **how):
     """Runs a program that ends with this process: its status and its error output as bytes."""
     parent = os.getpid()
-    told = subprocess.run(
-        words, stdin=subprocess.DEVNULL, stderr=subprocess.PIPE, preexec_fn=lambda: end_with(parent), check=False, **how
-    )
-    return told.returncode, told.stderr
+    with subprocess.Popen(
+        words, stdin=subprocess.DEVNULL, stderr=subprocess.PIPE, preexec_fn=lambda: end_with(parent), start_new_session=True, **how
+    ) as started:
+        try:
+            _, said = started.communicate()
+        except BaseException:
+            # What the program started itself ends with it.
+            with contextlib.suppress(ProcessLookupError):
+                os.killpg(started.pid, signal.SIGKILL)
+            raise
+    return started.returncode, said

@@ -131,9 +131,17 @@ def ended(main, argv):
         return status
 
 
+def hold_streams():
+    """Has the numbers of streams that the caller closed taken, so that no file that is opened gets one."""
+    while (handle := os.open(os.devnull, os.O_RDWR)) <= 2:
+        pass
+    os.close(handle)
+
+
 def run(main, argv=None):
     """Runs a script's main, and ends the process with its status. It never returns."""
     hear()
+    hold_streams()
     status = ended(main, sys.argv[1:] if argv is None else argv)
     # What could not be written is not tried again when Python ends.
     for stream in (sys.stdout, sys.stderr):

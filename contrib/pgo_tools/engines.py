@@ -50,7 +50,7 @@ def slurm(tree, script):
     yield "set -eu"
     yield "submit() {"
     yield "    sbatch --parsable --kill-on-invalid-dep=yes --job-name=merge-tree \\"
-    yield f"        --output={shlex.quote(tree.folder)}/slurm-%A_%a.log \"$@\""
+    yield f"        --output={shlex.quote(tree.folder.replace('%', '%%'))}/slurm-%A_%a.log \"$@\""
     yield "}"
     for level, count in steps(tree):
         after = ' --dependency="afterok:$jobs"' if level > 1 else ""
@@ -90,7 +90,7 @@ def kubernetes(tree, script):
                     "  completionMode: Indexed", f"  completions: {count}", f"  parallelism: {min(count, 64)}", "  backoffLimit: 6",
                     "  template:", "    spec:", "      restartPolicy: Never", "      containers:", "      - name: part", "        image: IMAGE"]
         shell = f'exec {call(script, tree.folder, f"{level}.$JOB_COMPLETION_INDEX")}'
-        yield f"        command: [/bin/sh, -c, {as_text(shell)}]"
+        yield f"        command: [/bin/sh, -c, {as_text(shell).replace('$(', '$$(')}]"
         yield from ["        volumeMounts:", "        - name: profiles", f"          mountPath: {as_text(mount(tree))}",
                     "      volumes:", "      - name: profiles", "        persistentVolumeClaim:", "          claimName: profiles"]
 
@@ -100,10 +100,18 @@ def nomad(tree, script):
     yield "# The parts of a tree of profiles, by Nomad: a batch for each level, to be run once the one before is complete."
     yield "# This was written by Nomad's manual and not run."
     for level, count in steps(tree):
-        shell = as_text(f'exec {call(script, tree.folder, f"{level}.$NOMAD_ALLOC_INDEX")}').replace("${", "$${")
+        shell = as_text(f'exec {call(script, tree.folder, f"{level}.$NOMAD_ALLOC_INDEX")}').replace("${", "$${").replace("%{", "%%{")
         yield from [f'job "merge-tree-{tree.id}-{level}" {{', '  type = "batch"', '  group "parts" {', f"    count = {count}",
                     '    task "part" {', '      driver = "raw_exec"', "      config {", '        command = "/bin/sh"',
                     f'        args    = ["-c", {shell}]', "      }", "    }", "  }", "}"]
+
+
+def printed(engine, tree, script):
+    """What an engine runs of a tree. Names that would be more than names there are refused."""
+    for name in (tree.folder, script):
+        if any(each < " " or each == "\x7f" for each in name) or engine == "parallel" and "{" in name:
+            raise Trouble(f"{name}: {engine} would take that name for more than a name", FAILED, "a folder of another name")
+    return ENGINES[engine](tree, script)
 
 
 ENGINES = {"make": make, "parallel": parallel, "slurm": slurm, "kubernetes": kubernetes, "nomad": nomad}

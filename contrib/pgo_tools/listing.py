@@ -3,8 +3,9 @@ import collections
 import os
 import re
 
-from pgo_tools import profile_text
-from pgo_tools.cli import FAILED, USAGE, Trouble, given
+from pgo_tools import manifest
+from pgo_tools.cli import FAILED, USAGE, WRITE_FAULT, Trouble, given
+from pgo_tools.files import target_of
 from pgo_tools.names import text_of
 from pgo_tools.numbers import decimal
 from pgo_tools.tree import File
@@ -12,6 +13,8 @@ from pgo_tools.tree import File
 MOST_WEIGHT = 65535
 # The line that tells a profile's build stands at its end.
 TAIL = 4096
+# How many bytes a file's name may have, and those that it has more than its place while it is written.
+LONGEST_NAME, LONGEST_END = 255, len(".4194304.999.new")
 
 
 def weighed(line):
@@ -27,8 +30,18 @@ def weighed(line):
 
 def from_input(zeros):
     """The files that the input lists, one a line, or each up to a NUL."""
-    lines = text_of(given().read()).split("\0" if zeros else "\n")
-    return [weighed(line) for line in lines if line.strip()]
+    text = os.fsdecode(given().read())
+    if not zeros and "\0" in text:
+        raise Trouble("the list has NULs", USAGE, "-0, for names as find -print0 prints them")
+    return [weighed(line) for line in text.split("\0" if zeros else "\n") if line.strip()]
+
+
+def fetchable(files):
+    """The files, none of whose names would be an option of the command that fetches them."""
+    for name, _ in files:
+        if name.startswith("-"):
+            raise Trouble(f"{name}: the name begins with -, which --fetch would hand over as an option", USAGE, "names that begin otherwise")
+    return files
 
 
 def absolute(files):
@@ -86,12 +99,21 @@ def check_builds(files, choice):
 
 
 def check_out(files, out):
-    """Refuses an output that is listed, since the sum of last night would go into that of this one, and one that is no profile."""
-    if not os.path.exists(out):
-        return
-    key = identity(out)
-    for name, _ in files:
-        if identity(name) == key:
-            raise Trouble(f"{out} is listed to be merged, too: {name}", USAGE, "a folder of its own for it, or a list without it")
-    if profile_text.would_go(out):
-        raise Trouble(f"{out} is no profile in text, and would be lost", USAGE, "another name")
+    """Refuses an output that is listed, since the sum of last night would go into that of this one, or in whose place another file would be lost."""
+    beside = manifest.beside(out)
+    if len(os.fsencode(os.path.basename(beside))) + LONGEST_END > LONGEST_NAME:
+        raise Trouble(f"{out}: the name is too long to have a manifest beside it", WRITE_FAULT, "a shorter name")
+    target_of(beside)
+    listed = {identity(name): name for name, _ in files}
+    for place in (out, beside):
+        if os.path.exists(place) and identity(place) in listed:
+            raise Trouble(f"{place} is listed to be merged, too: {listed[identity(place)]}", USAGE, "a folder of its own for it, or a list without it")
+    manifest.check_place(out)
+
+
+def check_folder(files, out, folder):
+    """Refuses a tree in whose own folder a file is listed, or the sum is to stand: what is there comes and goes with the tree."""
+    inside = os.path.join(os.path.realpath(folder), "")
+    for above in {os.path.dirname(name) for name in [os.path.abspath(out), *(name for name, _ in files)]}:
+        if os.path.join(os.path.realpath(above), "").startswith(inside):
+            raise Trouble(f"{folder} is the folder of the tree, and has files that go in or come out", USAGE, "a folder of its own for the tree")

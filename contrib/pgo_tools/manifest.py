@@ -9,8 +9,10 @@ import os
 import re
 from typing import List, NamedTuple, Optional
 
-from pgo_tools.cli import FAILED, Trouble
-from pgo_tools.files import opened, put_in_place
+from pgo_tools import profile_text
+from pgo_tools.cli import FAILED, USAGE, Trouble
+from pgo_tools.files import MOST_TEXT, opened, put_in_place
+from pgo_tools.names import printable
 from pgo_tools.numbers import decimal
 
 FORM = "merge-tree 1"
@@ -24,6 +26,8 @@ COUNT = re.compile(rb"\n +[0-9.]+: %s(?![^ \n])" % decimal(20).encode())
 HEAD = re.compile(rb"\n[^ \n#][^\n]*:%s(?![^\n])" % decimal(20).encode())
 SAYS = re.compile(rb"\n *[^ \n#]")
 BUILD = re.compile(rb"\n# build ([^\r\n]*)")
+# So many builds of a text are told, and so many bytes of each: a text of strangers may name any number.
+MOST_BUILDS, LONGEST_BUILD = 8, 256
 
 
 class Facts(NamedTuple):
@@ -60,7 +64,9 @@ class Reader:
         self.total += sum(map(int, COUNT.findall(lines)))
         self.heads += sum(map(int, HEAD.findall(lines)))
         self.says = self.says or bool(SAYS.search(lines))
-        self.builds.update(BUILD.findall(lines))
+        for build in BUILD.findall(lines):
+            if len(self.builds) < MOST_BUILDS:
+                self.builds.add(build[:LONGEST_BUILD])
 
     def facts(self):
         self.lines(b"".join([b"\n", *self.open]))
@@ -68,16 +74,24 @@ class Reader:
         return Facts(self.size, self.digest.hexdigest(), self.total, self.heads, self.says, builds)
 
 
-def facts_of(file, copy=None):
-    """The facts of a stream of bytes from where it stands, which is copied to another one on the way where that is given."""
+def facts_of(file, copy=None, most=None):
+    """The facts of a stream of bytes from where it stands, which is copied to another one on the way where that is given.
+
+    Of one that has more than `most` bytes, where that is given, they are those of its first part, which is larger than that.
+    """
     reader = Reader()
     while True:
         block = file.read(BLOCK)
-        if not block:
+        if not block or most is not None and reader.size > most:
             return reader.facts()
         reader.add(block)
         if copy is not None:
             copy.write(block)
+
+
+def facts_within(file, size):
+    """The facts of a file of this size, of which no more is read than a profile may have: it may grow, and hold nothing but a line."""
+    return Facts(size, "", 0, 0, True, []) if size > MOST_TEXT else facts_of(file, most=MOST_TEXT)
 
 
 class Entry(NamedTuple):
@@ -101,6 +115,10 @@ class LeftOut(NamedTuple):
     status: int
     bad: bool
     stamp: List[int]
+
+    def line(self):
+        """The file and the reason, as one line whatever the name is."""
+        return f"{printable(self.name)}: {self.why}"
 
 
 class Below(NamedTuple):
@@ -139,10 +157,10 @@ def written_of(seen):
 
 
 def stamp_at(path):
-    """The same of the file at a path; nothing where there is none."""
+    """The same of the file at a path; nothing where there is none, nor can be."""
     try:
         return stamp_of(os.stat(path))
-    except OSError:
+    except (OSError, ValueError, TypeError):
         return []
 
 
@@ -172,7 +190,7 @@ def read(path) -> Optional[Manifest]:
         kinds = {"files": Entry, "parts": Below, "left_out": LeftOut}
         lists = {key: [kind(**entry) for entry in told.get(key, [])] for key, kind in kinds.items()}
         return Manifest(**{key: told[key] for key in Manifest._fields if key not in kinds}, **lists)
-    except (FileNotFoundError, ValueError, TypeError, KeyError, AttributeError):
+    except (FileNotFoundError, ValueError, TypeError, KeyError, AttributeError, RecursionError):
         return None
 
 
@@ -194,3 +212,11 @@ def check_sums(what, facts, inputs):
 def beside(out):
     """Where the manifest of an output stands."""
     return os.fspath(out) + ".manifest"
+
+
+def check_place(out):
+    """Refuses a place for a sum and its manifest where something else stands, which would be lost."""
+    if profile_text.would_go(out):
+        raise Trouble(f"{out} is no profile in text, and would be lost", USAGE, "another name")
+    if os.path.exists(beside(out)) and read(beside(out)) is None:
+        raise Trouble(f"{beside(out)} is no manifest of merge-tree, and would be lost", USAGE, "another name")

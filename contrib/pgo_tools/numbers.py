@@ -3,7 +3,7 @@
 
 def decimal(most):
     """A pattern of any zeros and then, as a group, so many digits at most."""
-    return f"0*([0-9]{{1,{most}}})"
+    return f"0*([1-9][0-9]{{0,{most - 1}}}|0)"
 
 
 def number_of(digits, bits, base=10):

@@ -15,7 +15,7 @@ from pgo_tools import manifest as told
 from pgo_tools import profile_text
 from pgo_tools.children import call
 from pgo_tools.cli import DONE, FAILED, NO_FILE, NO_MEMORY, NO_PROGRAM, READ_FAULT, REFUSED, WRITE_FAULT, Trouble, say
-from pgo_tools.files import opened, put_in_place, scratch_folder, target_of
+from pgo_tools.files import MOST_TEXT, opened, put_in_place, scratch_folder, target_of
 from pgo_tools.names import text_of
 
 MERGED_AT_ONCE = 8
@@ -33,7 +33,7 @@ class Faults(Trouble):
     """Files that are no profiles, each with its place."""
 
     def __init__(self, files):
-        super().__init__("\n".join(f"{each.name}: {each.why}" for each in files), files[0].status)
+        super().__init__("\n".join(each.line() for each in files), files[0].status)
         self.files = files
 
 
@@ -61,37 +61,46 @@ class Source(NamedTuple):
 # Files, as they are read.
 
 
-def source_of(name, weight, path, taken_away):
-    """A file as a source. One that was brought is taken away, and there for as long as it is open."""
+def source_of(name, weight, path):
+    """A file as a source."""
     file, seen = opened(path)
     try:
-        if taken_away:
-            os.unlink(path)
-        return Source(name, weight, file, told.facts_of(file), told.stamp_of(seen))
+        return Source(name, weight, file, told.facts_within(file, seen.st_size), told.stamp_of(seen))
     except BaseException:
         file.close()
         raise
 
 
+@contextlib.contextmanager
 def fetched(tree, name, scratch):
-    """Where a file stands: by its name, or where the farm's own command put it."""
+    """Where a file stands within the block: by its name, or where the farm's own command put it, in a folder that has nothing else."""
     if not tree.choices.fetch:
-        return name
-    path = os.path.join(scratch, "fetched")
+        yield name
+        return
+    with scratch_folder("fetched.", scratch) as folder:
+        path = os.path.join(folder, "fetched")
+        bring(tree.choices.fetch, name, path)
+        yield path
+
+
+def bring(command, name, path):
+    """Has a command copy a file to a path. A link that it puts there would lead out of the folder."""
     try:
-        status, said = call([*tree.choices.fetch, name, path], stdout=2)
+        status, said = call([*command, name, path], stdout=2)
     except (FileNotFoundError, PermissionError):
-        raise Trouble(f"--fetch: there is no program {tree.choices.fetch[0]}", NO_PROGRAM) from None
+        raise Trouble(f"--fetch: there is no program {command[0]}", NO_PROGRAM) from None
+    if os.path.islink(path):
+        raise OSError(errno.EIO, f"{command[0]} brought a link", name)
     if status or not os.path.exists(path):
         why = text_of(said).strip().replace("\n", "; ")
-        raise OSError(errno.EIO, f"{tree.choices.fetch[0]} ended with {status}" + (f": {why}" if why else ""), name)
-    return path
+        raise OSError(errno.EIO, f"{command[0]} ended with {status}" + (f": {why}" if why else ""), name)
 
 
 def asked(tree, entry, scratch):
     """A file of the list as a source, or why it is left out."""
     try:
-        source = source_of(entry.name, entry.weight, fetched(tree, entry.name, scratch), bool(tree.choices.fetch))
+        with fetched(tree, entry.name, scratch) as path:
+            source = source_of(entry.name, entry.weight, path)
     except OSError as reason:
         if reason.errno in OF_SYSTEM:
             raise Trouble(f"{entry.name}: {reason.strerror}", NO_MEMORY, "fewer jobs at once (-j), smaller parts, ulimit -n") from None
@@ -108,6 +117,8 @@ def asked(tree, entry, scratch):
 
 def reason_against(tree, facts):
     """Why a text does not go in: the reason, the status, and whether that is a fault of the text."""
+    if facts.size > MOST_TEXT:
+        return f"refused at {MOST_TEXT}: FileTooLarge", REFUSED, True
     if not facts.says:
         return () if tree.choices.empty_ok else ("empty: no line of it says anything (--empty-ok takes such)", REFUSED, True)
     if len(facts.builds) > 1:
@@ -416,9 +427,9 @@ def judged(tree, left_out):
     """Names what was left out, and refuses the sum where that is too much."""
     bad, others = [each for each in left_out if each.bad], [each for each in left_out if not each.bad]
     for each in bad:
-        say(f"left out: {each.name}: {each.why}")
+        say(f"left out: {each.line()}")
     if others:
-        say(f"left out: {len(others)} of {len(tree.files)} files, of other builds: {others[0].name}: {others[0].why}")
+        say(f"left out: {len(others)} of {len(tree.files)} files, of other builds: {others[0].line()}")
     most = tree.choices.skip_bad or 0
     if 100 * len(bad) > most * len(tree.files):
         share = f"{len(bad)} of {len(tree.files)} files are bad, more than {most:g}%"
@@ -440,12 +451,16 @@ def put_out(tree, lasting=True):
         told.check_sums(tree.out, whole, [(each.weight, each) for each in entries])
         if len(entries) + len(left_out) != len(tree.files):
             raise Trouble(f"{len(tree.files)} files were to be merged, and {len(entries)} were", FAILED)
-        with contextlib.suppress(FileNotFoundError):
-            os.unlink(told.beside(tree.out))
+        told.check_place(tree.out)
         with put_in_place(tree.out, lasting=lasting) as target:
             if told.differs(told.facts_of(text, target), whole):
                 raise Trouble(f"{tree.text(tree.last())} changed while it was read", FAILED)
             target.write(f"# build {whole.build}\n".encode() if whole.build else b"")
+            # There is room for all of it: last night's manifest stays until then.
+            target.flush()
+            os.fsync(target.fileno())
+            with contextlib.suppress(FileNotFoundError):
+                os.unlink(told.beside(tree.out))
     write_out(tree, whole, entries, left_out, lasting)
 
 

@@ -32,7 +32,7 @@ def outcome(tree, part, pgo):
     except parts.Faults as reason:
         # What helps is said of the first file alone: of ten thousand it is mostly the same.
         helps = [parts.remedy(tree, reason.files[0])] + [""] * (len(reason.files) - 1)
-        return Outcome(reason.status, [[f"{each.name}: {each.why}", said] for each, said in zip(reason.files, helps)])
+        return Outcome(reason.status, [[each.line(), said] for each, said in zip(reason.files, helps)])
     except Trouble as reason:
         return Outcome(reason.status, [[reason.what, reason.helps]])
     except OSError as reason:

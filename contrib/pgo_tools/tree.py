@@ -126,6 +126,14 @@ def write(tree):
         file.write((json.dumps({"form": FORM, **told}) + "\n").encode("ascii"))
 
 
+def is_sound(tree):
+    """What stands in a description is of its kind, and makes levels that end."""
+    texts = [tree.out, tree.id, tree.choices.build, *tree.choices.fetch, *(name for name, _ in tree.files)]
+    numbers = [tree.width, *(weight for _, weight in tree.files)]
+    is_of_kind = all(isinstance(each, str) and "\0" not in each for each in texts) and all(type(each) is int for each in numbers)
+    return is_of_kind and tree.width > 1 and bool(tree.files)
+
+
 def read(folder):
     """The tree in a folder."""
     helps = "the folder that merge-tree --plan=FOLDER made"
@@ -135,10 +143,13 @@ def read(folder):
         if told.pop("form") != FORM:
             raise ValueError
         choices, files = Choices(**told.pop("choices")), [File(*pair) for pair in told.pop("files")]
-        return Tree(choices=choices, files=files, **{**told, "folder": os.path.abspath(folder)})
+        made = Tree(choices=choices, files=files, **{**told, "folder": os.path.abspath(folder)})
+        if not is_sound(made):
+            raise ValueError
+        return made
     except FileNotFoundError:
         raise Trouble(f"{folder} holds no tree", FAILED, helps) from None
-    except (ValueError, TypeError, KeyError, AttributeError):
+    except (ValueError, TypeError, KeyError, AttributeError, RecursionError):
         raise Trouble(f"{description(folder)} describes no tree", FAILED, helps) from None
 
 

@@ -13,6 +13,13 @@ def taken(parser, argv):
     return found
 
 
+def named(word):
+    """For argparse: a name, which an unset variable is not."""
+    if not word:
+        raise argparse.ArgumentTypeError("a name, and not nothing")
+    return word
+
+
 def percent(word):
     """For argparse: a number of percent."""
     try:

@@ -18,7 +18,7 @@ import sys
 import tempfile
 from typing import Callable, NamedTuple
 
-from common import COLD, CONTRIB, HERE, PGO, TOP
+from common import COLD, CONTRIB, HERE, PGO, TEXT, TOP, WORDS
 
 import make
 from make import ADDR, CODE, DECL_LINE, HIGH, LOADED, LOW, NAME, ORIGIN, RANGES, REF4, STRING, abbreviation, elf, function_text, load_line
@@ -212,6 +212,15 @@ def nested_loads(size):
     return {"bin": one_line(count), "perf": b"".join(one(LOADED + k, 2 * (count - k)) for k in range(count))}
 
 
+def loads_apart(size):
+    """The demo's text behind its load line, many further load lines of that name, apart from each other, and branches in none of them."""
+    count = size // 170
+    load = "words 7 PERF_RECORD_MMAP2 7/7: [0x%x(0x1000) @ 0x1000 08:02 5 0]: r-xp /srv/app/words\n"
+    loads = [load % 0x401000] + [load % (0x7F0000000000 + k * 0x10000) for k in range(count)]
+    branches = ["0x%x/0x%x\n" % (0x5000000000 + k * 16, 0x5000000008 + k * 16) for k in range(3 * count)]
+    return {"perf": "".join(loads + branches).encode() + TEXT.read_bytes()}
+
+
 @functools.lru_cache(maxsize=None)
 def alike(what, count):
     """What program/alike.c prints."""
@@ -321,6 +330,7 @@ LADDER_GROWTH = 4.5
 BUILT, WITH_EDGES, SCALED = ([PGO, "build", *option, "bin", "perf", "cfg"] for option in ((), ("--edges",), ("--scaled",)))
 MERGED, BUILT_LADDER = rb"n[0-9a-f]{10}[A-Z]:0:1", b"# function ladder flow"
 DRAWN = [sys.executable, CONTRIB / "draw", "--svg", "f", "built"]
+PROFILED = [sys.executable, CONTRIB / "pgo-profile", "--map=/srv/app/words", WORDS, "perf", "prof"]
 FAMILIES = [
     Family("one long name", binary(one_long_name), WHERE, b"noline", MB),
     Family("one long name of lines", binary(one_name_of_lines), WHERE, b"noline", MB),
@@ -351,6 +361,7 @@ FAMILIES = [
     Family("ladder of great counts, scaled", ladder_of_great_counts, SCALED, BUILT_LADDER, 64000, growth=LADDER_GROWTH),
     Family("a chain, drawn", chain, DRAWN, b"<svg .*", 600000),
     Family("a star, drawn", star, DRAWN, b"<svg .*", 600000),
+    Family("loads apart, pgo-profile", loads_apart, PROFILED, b"prof: 3 functions; .*", 3 * MB),
 ]
 
 

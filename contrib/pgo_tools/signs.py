@@ -1,4 +1,5 @@
 """The signs by which a profile is told to be empty, spoiled or of another binary, each with what helps against it."""
+import bisect
 import os
 import re
 from typing import NamedTuple
@@ -209,8 +210,18 @@ def other_binary(part, text):
 def places(program, text, name):
     """Where the program's code was loaded: from where on, how much, and from which offset of the file."""
     if name:
-        return sorted({(load.start, load.size, load.offset) for load in text.loads() if load.name == name})
+        return [(load.start, load.size, load.offset) for load in text.loads() if load.name == name]
     return [(each.address, each.file_size, each.offset) for each in program.elf.code()]
+
+
+def laid_out(pieces):
+    """The same as (start, end, shift to the offset), from low to high, of which none has an address that one before it has."""
+    rows, end = [], 0
+    for start, size, offset in sorted(pieces):
+        if start + size > end:
+            rows.append((max(start, end), start + size, offset - start))
+            end = start + size
+    return rows
 
 
 def branching(program, text, name):
@@ -218,16 +229,17 @@ def branching(program, text, name):
     status, told, _ = programs.call([programs.pgo(), "counts", programs.as_file(text.path)])
     if status:
         return 0, 0
-    sums, parts = {}, places(program, text, name)
+    sums, rows = {}, laid_out(places(program, text, name))
+    starts = [row[0] for row in rows]
     for line in told.split(b"\n"):
         fields = line.split()
         if len(fields) != 3 or fields[0] == b"#":
             continue
         at = int(fields[0], 16)
-        for start, size, offset in parts:
-            if start <= at < start + size:
-                sums[at - start + offset] = sums.get(at - start + offset, 0) + int(fields[2])
-                break
+        row = bisect.bisect_right(starts, at) - 1
+        if row >= 0 and at < rows[row][1]:
+            place = at + rows[row][2]
+            sums[place] = sums.get(place, 0) + int(fields[2])
     top = sorted(sums, key=lambda at: (-sums[at], -at))[:50]
     good = sum(bool(BRANCH.match(program.elf.data[at : at + 6])) for at in top)
     return good, len(top) - good

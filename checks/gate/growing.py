@@ -20,8 +20,10 @@ from typing import Callable, NamedTuple
 
 from common import COLD, CONTRIB, HERE, PGO, TEXT, TOP, WORDS
 
+sys.path.insert(0, str(CONTRIB))
 import make
 from make import ADDR, CODE, DECL_LINE, HIGH, LOADED, LOW, NAME, ORIGIN, RANGES, REF4, STRING, abbreviation, elf, function_text, load_line
+from pgo_tools.elf import Elf
 
 # What no run of the gate may pass: seconds of a processor, and how many times as long as half the input takes.
 MOST_SECONDS, MOST_GROWTH = 5, 3
@@ -183,6 +185,33 @@ def one_line(count):
     return make.with_lines(make.set_address(CODE) + b"\x03\x09\x01\x02" + make.uleb(count) + make.END, count)
 
 
+DEMO = Elf(WORDS)
+
+
+def demo_with(**behind):
+    """The demo with these bytes behind those of its sections of debugging information."""
+    data = bytearray(WORDS.read_bytes())
+    for number, section in enumerate(DEMO.sections):
+        more = behind.get(section.name[len(".debug_") :])
+        if more is not None:
+            header = struct.unpack_from("<Q", data, 40)[0] + 64 * number
+            struct.pack_into("<QQ", data, header + 24, len(data), section.size + len(more))
+            data += data[section.offset : section.offset + section.size] + more
+    return {"bin": bytes(data)}
+
+
+def units_of_nothing(size):
+    """The demo with units of no bytes behind its own."""
+    return demo_with(info=bytes(size))
+
+
+def units_of_attributes(size):
+    """The demo with units of 12 bytes behind its own, each with many attributes of no bytes."""
+    unit = struct.pack("<IHIBB", 8, 4, DEMO.section(".debug_abbrev").size, 8, 1)
+    flags = [(0x3000 + k, 0x19) for k in range(200)]
+    return demo_with(info=unit * (size // len(unit)), abbrev=abbreviation(1, 0x11, 0, *flags) + b"\0")
+
+
 # Texts.
 
 
@@ -328,9 +357,9 @@ WHERE, MERGE = [PGO, "where", "bin", "401000"], [PGO, "merge", "1", "prof"]
 # Twice a ladder has twice as many ways from an edge to a want, and each is looked for among twice as many blocks.
 LADDER_GROWTH = 4.5
 BUILT, WITH_EDGES, SCALED = ([PGO, "build", *option, "bin", "perf", "cfg"] for option in ((), ("--edges",), ("--scaled",)))
-MERGED, BUILT_LADDER = rb"n[0-9a-f]{10}[A-Z]:0:1", b"# function ladder flow"
+MERGED, BUILT_LADDER, MADE = rb"n[0-9a-f]{10}[A-Z]:0:1", b"# function ladder flow", b"prof: 3 functions; .*"
 DRAWN = [sys.executable, CONTRIB / "draw", "--svg", "f", "built"]
-PROFILED = [sys.executable, CONTRIB / "pgo-profile", "--map=/srv/app/words", WORDS, "perf", "prof"]
+PROFILED = [sys.executable, CONTRIB / "pgo-profile"]
 FAMILIES = [
     Family("one long name", binary(one_long_name), WHERE, b"noline", MB),
     Family("one long name of lines", binary(one_name_of_lines), WHERE, b"noline", MB),
@@ -361,7 +390,9 @@ FAMILIES = [
     Family("ladder of great counts, scaled", ladder_of_great_counts, SCALED, BUILT_LADDER, 64000, growth=LADDER_GROWTH),
     Family("a chain, drawn", chain, DRAWN, b"<svg .*", 600000),
     Family("a star, drawn", star, DRAWN, b"<svg .*", 600000),
-    Family("loads apart, pgo-profile", loads_apart, PROFILED, b"prof: 3 functions; .*", 3 * MB),
+    Family("loads apart, pgo-profile", loads_apart, [*PROFILED, "--map=/srv/app/words", WORDS, "perf", "prof"], MADE, 3 * MB),
+    Family("units of nothing, pgo-profile", units_of_nothing, [*PROFILED, "bin", TEXT, "prof"], MADE, 32 * MB),
+    Family("units of attributes, pgo-profile", units_of_attributes, [*PROFILED, "bin", TEXT, "prof"], MADE, 4 * MB),
 ]
 
 

@@ -18,6 +18,8 @@ NUMBERS = (0x0D, 0x0F, 0x15, 0x1A, 0x1B, 0x22, 0x23)
 BLOCKS = {0x03: "<H", 0x04: "<I", 0x0A: "<B"}
 # An entry has at most so many attributes; a text of at most so many bytes is passed over, and so many of it are kept.
 MOST_ATTRIBUTES, LONGEST_TEXT, KEPT_TEXT = 256, 1 << 16, 256
+# So many attributes are looked at in all, and each unit counts as some: a hundred thousand units. Of what has more, its first ones tell.
+MOST_LOOKS, LOOKS_OF_UNIT = 1 << 19, 4
 STRING, STRP, LINE_STRP, STRX = 0x08, 0x0E, 0x1F, {0x1A: 0, 0x25: 1, 0x26: 2, 0x27: 3, 0x28: 4}
 
 
@@ -46,37 +48,45 @@ class Reader:
                 raise ValueError("a number is too long")
 
     def text(self):
-        end = self.data.find(b"\0", self.at, self.at + LONGEST_TEXT)
-        if end < 0:
-            raise ValueError("a text has no end")
-        raw, self.at = self.data[self.at : min(end, self.at + KEPT_TEXT)], end + 1
-        return raw
+        for most in (KEPT_TEXT, LONGEST_TEXT):
+            raw = bytes(self.data[self.at : self.at + most])
+            size = raw.find(b"\0")
+            if size >= 0:
+                self.at += size + 1
+                return raw[: min(size, KEPT_TEXT)]
+        raise ValueError("a text has no end")
 
 
 class Unit:
-    """A unit's header, and the attributes of its first entry by their numbers, as (form, value)."""
+    """A unit's header, and attributes of its first entry by their numbers, as (form, value)."""
 
     def __init__(self, units, at):
         self.at, self.units = at, units
-        read = Reader(units.info, at)
-        length = read.number(4)
-        self.word = 8 if length == 0xFFFFFFFF else 4
-        length = read.number(8) if self.word == 8 else length
-        self.end = read.at + length
+        length, self.version = struct.unpack_from("<IH", units.info, at)
+        self.word, behind = 4, at + 4
+        if length == 0xFFFFFFFF:
+            length, self.version = struct.unpack_from("<QH", units.info, at + 4)
+            self.word, behind = 8, at + 12
+        self.end = behind + length
         if self.end > len(units.info):
             raise ValueError("a unit passes the section's end")
-        self.version, self.kind = read.number(2), 1
-        if self.version >= 5:
-            self.kind, _, self.table = read.number(1), read.number(1), read.number(self.word)
-            read.at += {4: 8, 5: 8, 2: 8, 6: 8 + self.word}.get(self.kind, 0)
-        else:
-            self.table, _ = read.number(self.word), read.number(1)
-        self.facts = self.read_entry(read) if self.version in (2, 3, 4, 5) else {}
+        self.facts = self.read_entry(Reader(units.info, behind + 2)) if self.version in (2, 3, 4, 5) else {}
 
     def read_entry(self, read):
+        """The attributes by which the producer is known. As a rule they stand in front, and what is behind them is not read."""
+        if self.version == 5:
+            kind, _, table = read.number(1), read.number(1), read.number(self.word)
+            read.at += {4: 8, 5: 8, 2: 8, 6: 8 + self.word}.get(kind, 0)
+        else:
+            table, _ = read.number(self.word), read.number(1)
         facts = {}
-        for name, form, constant in self.units.abbreviation(self.table, read.uleb()):
-            facts.setdefault(name, self.value(read, form, constant))
+        for name, form, constant in self.units.abbreviation(table, read.uleb()):
+            self.units.looks -= 1
+            value = self.value(read, form, constant)
+            if name in (PRODUCER, OFFSETS_BASE):
+                facts.setdefault(name, value)
+                if PRODUCER in facts and (OFFSETS_BASE in facts or facts[PRODUCER][0] not in STRX):
+                    break
         return facts
 
     def value(self, read, form, constant=None):
@@ -123,6 +133,7 @@ class Units:
         self.info = self.bytes_of(".debug_info")
         # No unit needs bytes of the tables again that another one has read: tables that overlap end it.
         self.left = 4 * len(self.bytes_of(".debug_abbrev")) + LONGEST_TEXT
+        self.looks = MOST_LOOKS
 
     def bytes_of(self, name):
         if name not in self.cache:
@@ -158,9 +169,10 @@ class Units:
         raise ValueError("an entry has too many attributes")
 
     def each(self):
-        """The units from first to last; it ends at one that is damaged."""
+        """The units from first to last; it ends at one that is damaged, or where too much was looked at."""
         at = 0
-        while at < len(self.info):
+        while at < len(self.info) and self.looks > 0:
+            self.looks -= LOOKS_OF_UNIT
             try:
                 unit = Unit(self, at)
             except (struct.error, ValueError, KeyError, IndexError, OverflowError):

@@ -4,7 +4,6 @@ import mmap
 import os
 import re
 import struct
-import zlib
 from typing import NamedTuple
 
 from pgo_tools.cli import REFUSED, Trouble
@@ -16,7 +15,7 @@ LOAD, LOADED_NOTE, EXECUTE = 1, 4, 1
 X86_64 = 62
 # An extended operation of few bytes with the number 4.
 DISCRIMINATOR = re.compile(rb"\x00[\x02-\x06]\x04")
-FAULTS = (struct.error, IndexError, ValueError, OverflowError, KeyError, zlib.error)
+FAULTS = (struct.error, IndexError, ValueError, OverflowError, KeyError)
 # Names are read once each. Those that overlap, as suffixes do, have so many times the file's bytes at most.
 MOST_OVERLAP = 4
 # Notes are looked at up to this one, and no longer than these bytes: a table may name the same ones again and again.
@@ -103,16 +102,12 @@ class Elf:
         """The first section of this name, or None."""
         return next((each for each in self.sections if each.name == name and each.kind), None)
 
-    def bytes_of(self, name, limit=1 << 30):
-        """The bytes of a section, unpacked where zlib can; b"" where there is none."""
+    def bytes_of(self, name):
+        """The bytes of a section, which are not copied; none where it is missing or packed, since pgo takes no packed one either."""
         section = self.section(name)
-        if section is None or section.kind == NOBITS:
-            return b""
-        raw = self.data[section.offset : section.offset + section.size]
-        if not section.flags & COMPRESSED:
-            return raw
-        kind, = struct.unpack_from("<I", raw)
-        return zlib.decompressobj().decompress(raw[24:], limit) if kind == 1 else b""
+        if section is None or section.kind == NOBITS or section.flags & COMPRESSED:
+            return memoryview(b"")
+        return memoryview(self.data)[section.offset : section.offset + section.size]
 
     def is_compressed(self):
         """Debugging information is packed, in the standard's way or the old one."""
@@ -146,7 +141,7 @@ class Elf:
 
     def debug_link(self):
         """The debug file that the program names, without folders, and its CRC; or None (GDB, "Debugging Information in Separate Files")."""
-        raw = self.bytes_of(".gnu_debuglink")
+        raw = bytes(self.bytes_of(".gnu_debuglink"))
         name = raw.partition(b"\0")[0]
         at = (len(name) + 4) // 4 * 4
         if not name or b"/" in name or name in (b".", b"..") or len(raw) < at + 4:
@@ -177,7 +172,7 @@ class Elf:
 
         What looks like such an operation can be something else, so a few in a large program are none.
         """
-        lines = self.bytes_of(".debug_line", 1 << 26)[: 1 << 26]
+        lines = self.bytes_of(".debug_line")[: 1 << 26]
         return len(DISCRIMINATOR.findall(lines)) * 4000 > len(lines)
 
 

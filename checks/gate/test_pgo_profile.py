@@ -8,13 +8,27 @@ import re
 import shutil
 import struct
 import subprocess
+import sys
 import unittest
 
-from common import COLD, CONTRIB, PGO, TEXT, TOP, WORDS, Case, needs, on_closed_output, run, terminated
+from common import COLD, CONTRIB, PGO, TEXT, TOP, WORDS, Case, needs, on_closed_output, python, run, terminated
+
+sys.path.insert(0, str(CONTRIB))
+from pgo_tools.elf import Elf  # noqa: E402
 
 SCRIPT = CONTRIB / "pgo-profile"
 LOAD = "words 7 PERF_RECORD_MMAP2 7/7: [0x401000(0x1000) @ 0x1000 08:02 5 0]: r-xp {}\n"
 ONE = TEXT.read_bytes().split(b"\n")[0] + b"\n"
+
+
+# pgo-profile where so many bytes are free in each folder.
+WITH_ROOM = """
+import collections, runpy, shutil, sys
+room = collections.namedtuple("Usage", "free")(int(sys.argv[1]))
+shutil.disk_usage = lambda _: room
+del sys.argv[:2]
+runpy.run_path(sys.argv[0], run_name="__main__")
+"""
 
 
 def load_line(name, build=None):
@@ -189,6 +203,46 @@ class Forms(Profiles):
     def test_no_room_for_a_copy(self):
         packed = self.file("text.gz", gzip.compress(TEXT.read_bytes()))
         self.judge(6, "write fault in .*TMPDIR", WORDS, packed, prepare=lambda: limit_files(50000))
+
+    def test_a_packed_text_without_an_end(self):
+        """It is unpacked up to the line that pgo refuses, which is told as of the text itself."""
+        endless = gzip.compress(ONE + bytes(1 << 24)) + gzip.compress(bytes(1 << 24) + b"\n") * 4
+        self.judge(4, r"refused: file 2 at 2: LineTooLong \(endless.gz\)", WORDS, self.file("endless.gz", endless).name,
+                   prepare=lambda: limit_files(1 << 20))
+        self.same(WORDS, self.file("longest.gz", gzip.compress(b"#" * 65536 + b"\n" + TEXT.read_bytes())))
+
+    def test_half_of_the_room_is_left(self):
+        """Also where what takes the room is good: many lines over again, and debugging information that is packed."""
+        text = self.file("text.gz", gzip.compress(TEXT.read_bytes()))
+        for room, status in ((TEXT.stat().st_size * 2 - 2, 6), (TEXT.stat().st_size * 2, 0)):
+            ran = self.with_room(room, WORDS, text)
+            self.tells(ran, status, "write fault in .*text.gz takes more than half of the room that is free.*TMPDIR" if status else "^$")
+
+    @needs("objcopy")
+    def test_half_of_the_room_is_left_by_a_program(self):
+        shutil.copy(WORDS, self.folder / "packed")
+        self.assertEqual(self.run_here("objcopy", "--compress-debug-sections", "packed").status, 0)
+        self.tells(self.with_room(1000, "packed", TEXT), 6, "write fault in .*packed takes more than half of the room.*TMPDIR")
+        self.tells(self.with_room(1 << 20, "packed", TEXT), 0, "^$")
+
+    def test_a_program_that_would_be_too_large_is_not_unpacked(self):
+        """A section says that it is packed, and makes the program as large as pgo takes it, or larger. A stand-in for objcopy tells its calls."""
+        os.mkdir(self.folder / "bin")
+        self.file("bin/objcopy", f"#!/bin/sh\necho called >>'{self.folder}/calls'\nexit 1\n").chmod(0o755)
+        data = bytearray(WORDS.read_bytes())
+        section = Elf(WORDS).section(".debug_info")
+        header = data.index(struct.pack("<QQ", section.offset, section.size), struct.unpack_from("<Q", data, 40)[0]) - 24
+        data[header + 9] |= 8
+        for size, calls in (((1 << 30) - len(data), True), ((1 << 30) - len(data) + 1, False)):
+            struct.pack_into("<IIQ", data, section.offset, 1, 0, size)
+            ran = self.with_room(1 << 40, self.file("large", data), TEXT, environment={"PATH": f"{self.folder}/bin:{os.environ['PATH']}"})
+            self.tells(ran, 4, "Compressed .*large")
+            self.assertEqual("calls" in self.names(), calls)
+            self.file("calls").unlink()
+
+    def with_room(self, room, *words, **how):
+        """Runs it where so many bytes are free in each folder."""
+        return python("-c", WITH_ROOM, str(room), SCRIPT, *words, "prof", folder=self.folder, **how)
 
     def test_a_text_without_a_last_line_feed(self):
         self.judge(0, "cut.txt does not end with a line feed.*print the text again", WORDS, self.file("cut.txt", TEXT.read_bytes()[:-1]).name)

@@ -113,6 +113,16 @@ class Elf:
         """Debugging information is packed, in the standard's way or the old one."""
         return any(each.flags & COMPRESSED or each.name.startswith(".zdebug_") for each in self.sections)
 
+    def unpacked_size(self):
+        """How many bytes the file has once its sections are unpacked, by the sizes that stand in front of what is packed."""
+        size = len(self.data)
+        for each in self.sections:
+            if each.flags & COMPRESSED:
+                size += int.from_bytes(self.data[each.offset + 8 : each.offset + 16], "little")
+            elif each.name.startswith(".zdebug_"):
+                size += int.from_bytes(self.data[each.offset + 4 : each.offset + 12], "big")
+        return size
+
     def is_position_independent(self):
         """The program runs at other addresses than its file says: load lines tell which."""
         return self.kind == SHARED

@@ -10,11 +10,16 @@ import zlib
 from typing import NamedTuple
 
 from pgo_tools import branch_text, programs
+from pgo_tools.branch_text import LONGEST
 from pgo_tools.cli import USAGE, WRITE_FAULT, Trouble
 from pgo_tools.elf import Elf
-from pgo_tools.files import PACKED, kind_of, open_packed
+from pgo_tools.files import PACKED, kind_by, kind_of, open_packed
 
 DEBUG_FOLDER = "/usr/lib/debug"
+# A branch text has at most so many bytes, and a program so many (docs/LIMITS.md).
+MOST_BYTES, MOST_OF_PROGRAM = 1 << 40, 1 << 30
+# Copies are made by pieces of so many bytes.
+PIECE = 1 << 20
 
 
 class Text(NamedTuple):
@@ -76,15 +81,44 @@ def text_in(name, folder, asked):
     return Text(name, path)
 
 
+def room_in(folder):
+    """How many bytes may be made there: half of the room that is free. Others need room, too."""
+    return shutil.disk_usage(folder).free // 2
+
+
+def no_room(folder, what=""):
+    return Trouble(f"write fault in {folder}{what}", WRITE_FAULT, "room there, or TMPDIR in front, which names another folder")
+
+
+def begun_line(piece, begun):
+    """Of how many bytes the line is that goes on behind a piece of a text, so many being begun in front of it; None where a line is too long."""
+    at = -begun
+    while len(piece) - at > LONGEST:
+        end = piece.rfind(b"\n", max(at, 0), at + LONGEST + 1)
+        if end < 0:
+            return None
+        at = end + 1
+    end = piece.rfind(b"\n", max(at, 0))
+    return len(piece) - (at if end < 0 else end + 1)
+
+
 def copied(path, copy):
-    """The content of a file or a pipe, unpacked, as a file."""
+    """The content of a file or a pipe, unpacked, as a file. A text ends where pgo refuses it in any case: a packed one may have no end."""
+    folder = os.path.dirname(copy)
+    room, size, is_text, begun = room_in(folder), 0, False, 0
     try:
         with open_packed(path) as source, open(copy, "wb") as target:
-            shutil.copyfileobj(source, target, 1 << 20)
+            while begun is not None and size <= MOST_BYTES and (piece := source.read(PIECE)):
+                is_text = is_text if size else kind_by(piece) != "recording"
+                size += len(piece)
+                if size > room:
+                    raise no_room(folder, f": {path} takes more than half of the room that is free")
+                target.write(piece)
+                begun = begun_line(piece, begun) if is_text else 0
     except OSError as reason:
         if reason.filename not in (None, copy):
             raise
-        raise Trouble(f"write fault in {os.path.dirname(copy)}", WRITE_FAULT, "room there, or TMPDIR in front, which names another folder") from None
+        raise no_room(folder) from None
     return copy
 
 
@@ -132,7 +166,7 @@ def program_in(name, folder):
         debug = debug_file(path, elf)
         path, elf = made_of(path, elf, debug and joined(path, debug, folder))
     if elf is not None and elf.is_compressed():
-        path, elf = made_of(path, elf, decompressed(path, folder))
+        path, elf = made_of(path, elf, decompressed(path, elf, folder))
     return Program(name, path, elf, debug)
 
 
@@ -148,10 +182,14 @@ def made_of(path, elf, made):
     return made, new
 
 
-def decompressed(path, folder):
+def decompressed(path, elf, folder):
+    """The program with its debugging information unpacked, or None: also where pgo would take no program as large as that."""
     objcopy = programs.tool("objcopy", "llvm-objcopy", "eu-elfcompress")
-    if not objcopy:
+    size = elf.unpacked_size()
+    if not objcopy or size > MOST_OF_PROGRAM:
         return None
+    if size > room_in(folder):
+        raise no_room(folder, f": {path} takes more than half of the room that is free once it is unpacked")
     made = f"{folder}/plain"
     word = "--decompress-debug-sections"
     words = [objcopy, "-t", "none", "-o", made, path] if objcopy.endswith("eu-elfcompress") else [objcopy, word, path, made]

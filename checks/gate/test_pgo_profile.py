@@ -8,13 +8,12 @@ import re
 import shutil
 import struct
 import subprocess
-import sys
 import unittest
 
 from common import COLD, CONTRIB, PGO, TEXT, TOP, WORDS, Case, needs, on_closed_output, python, run, terminated
 
-sys.path.insert(0, str(CONTRIB))
-from pgo_tools.elf import Elf  # noqa: E402
+from growing import DEMO, demo_with
+from make import STRING, abbreviation
 
 SCRIPT = CONTRIB / "pgo-profile"
 LOAD = "words 7 PERF_RECORD_MMAP2 7/7: [0x401000(0x1000) @ 0x1000 08:02 5 0]: r-xp {}\n"
@@ -230,7 +229,7 @@ class Forms(Profiles):
         os.mkdir(self.folder / "bin")
         self.file("bin/objcopy", f"#!/bin/sh\necho called >>'{self.folder}/calls'\nexit 1\n").chmod(0o755)
         data = bytearray(WORDS.read_bytes())
-        section = Elf(WORDS).section(".debug_info")
+        section = DEMO.section(".debug_info")
         header = data.index(struct.pack("<QQ", section.offset, section.size), struct.unpack_from("<Q", data, 40)[0]) - 24
         data[header + 9] |= 8
         for size, calls in (((1 << 30) - len(data), True), ((1 << 30) - len(data) + 1, False)):
@@ -446,6 +445,9 @@ class Names(Profiles):
         two = self.file("loaded", line % (plain, "/srv/old/program") + one + text).name
         self.judge(1, "load lines have 2 names that fit .*--map=\"/srv/app/program\" --map=\"/srv/old/program\"", program, two)
         self.judge(0, "", "--map=/srv/app/program", program, two)
+        many = self.file("loaded", "".join(line % (plain, f"/srv/{number:03}/program") for number in range(100)) + text).name
+        self.judge(1, 'load lines have 100 names that fit .*--map="/srv/004/program" and 95 more$', program, many)
+        self.judge(1, 'no load line has this name: none .*--map="/srv/004/program" and 95 more$', "--map=none", program, many)
         other = self.file("loaded", line % (plain, "/srv/app/service") + text).name
         self.judge(1, 'is position-independent.*--map="/srv/app/service"', program, other)
         self.judge(1, "is position-independent.*show-mmap-events", program, TEXT)
@@ -639,6 +641,13 @@ class Shares(Profiles):
         told = self.run_here("nm", "both").out.decode()
         main = int(re.search(r"([0-9a-f]+) T main", told)[1], 16)
         self.judge(0, r"several compilers made both \((clang|gcc) \d+%, (clang|gcc) \d+%\)", "both", self.file("text", f"0x{main + 4:x}/0x{main:x}\n" * 50))
+
+    def test_many_makers(self):
+        table = abbreviation(1, 0x11, 0, (0x25, STRING)) + b"\0"
+        units = [b"%03d made it\0" % number for number in range(100)]
+        units = [struct.pack("<IHIBB", 8 + len(each), 4, DEMO.section(".debug_abbrev").size, 8, 1) + each for each in units]
+        many = self.file("many", demo_with(info=b"".join(units), abbrev=table)["bin"])
+        self.judge(0, r"several compilers made .*many \(clang \d+%, 000 [^,]*, 001 [^,]*, 002 [^,]*, 003 [^,]*, and 96 more\)", many, TEXT)
 
     @needs("gcc")
     def test_gcc_with_base(self):

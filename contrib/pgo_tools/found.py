@@ -5,6 +5,8 @@ from pgo_tools.cli import Trouble
 from pgo_tools.names import shell_word
 
 DELETED = " (deleted)"
+# Of what fits so much is told.
+MOST_NAMES = 5
 
 
 def percent(share):
@@ -23,7 +25,8 @@ def wants_base(elf):
 
 def shares(elf):
     """Who made the code, in words: "clang 90%, gcc 10%"."""
-    return ", ".join(f"{maker} {percent(share)}" for maker, share in elf.makers())
+    told = [f"{maker} {percent(share)}" for maker, share in elf.makers()]
+    return ", ".join(told[:MOST_NAMES] + [f"and {len(told) - MOST_NAMES} more"] * (len(told) > MOST_NAMES))
 
 
 def is_mixed(elf):
@@ -56,7 +59,10 @@ def loaded_name(program, loads):
 
 
 def as_options(names):
-    return "\n".join(f"    --map={quoted(name)}" for name in names)
+    """The first few names as options, and how many more there are."""
+    lines = [f"    --map={quoted(name)}" for name in names[:MOST_NAMES]]
+    more = [f"    and {len(names) - MOST_NAMES} more"] if len(names) > MOST_NAMES else []
+    return "\n".join(lines + more)
 
 
 def quoted(name):
@@ -65,10 +71,10 @@ def quoted(name):
 
 
 def names_to_choose(program, loads):
-    """The first few names of the load lines: those that end as the program does, if there are any, and else all."""
+    """Names of the load lines: those that end as the program does, if there are any, and else the first few."""
     names = sorted({load.name for load in loads if load.name.startswith("/")})
     same = [name for name in names if last_name(name) == os.path.basename(program.name)]
-    return (same or names)[:5] if not same else same
+    return same or names[:MOST_NAMES]
 
 
 def other_build(program, loads, name):

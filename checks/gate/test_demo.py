@@ -37,6 +37,13 @@ class Demo(Case):
         time.sleep(0.1)
         self.assertEqual(self.names(), [])
 
+    @unittest.skipUnless(IS_WHOLE, "clang, cc or qemu-x86_64 is not there")
+    def test_a_compiler_of_the_folder(self):
+        self.file("bin/mine", "#!/bin/sh\necho called >&2\nexit 9\n").chmod(0o755)
+        for words in (["--clang=bin/mine"], ["--clang=mine"]):
+            ran = self.run_here(DEMO, *words, environment={"PATH": f"bin:{os.environ['PATH']}"})
+            self.tells(ran, 1, "^demo: .*/bin/mine ended with 9 called$")
+
     def test_a_missing_program_is_named(self):
         self.tells(self.run_here(DEMO, "--clang=not-there"), NO_PROGRAM, "^demo: there is no ")
 

@@ -254,6 +254,21 @@ class Sources(Launcher):
         self.source.write_bytes(before)
         self.runs_release()
 
+    def test_what_cannot_be_summed_up(self):
+        """Nothing is said of such sources, and nothing is built of them. As with a small stack a stand-in does not take their names."""
+        self.change()
+        self.tells_others()
+        for name, text in (("sha256sum", '#!/bin/sh\n[ $# = 0 ] || exit 1\nexec "$REAL"\n'), ("xargs", "#!/bin/sh\nexit 1\n"), ("sort", "#!/bin/sh\nexit 1\n")):
+            with self.subTest(name):
+                self.script(self.bin / name, text.replace("$REAL", shutil.which(name)))
+                self.runs_release()
+                self.runs_release()
+                self.assertNotIn("seen", self.names("top/out"))
+                self.refuses(126, "^pgo: the sources could not be summed up.*contrib/release --sources", "--build")
+                self.assertFalse(self.called.exists(), "rt was called")
+                (self.bin / name).unlink()
+        self.tells_others()
+
     def test_touched(self):
         self.kept()
         os.utime(self.source)

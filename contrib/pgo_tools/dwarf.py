@@ -30,11 +30,10 @@ class Reader:
         self.data, self.at = data, at
 
     def number(self, size):
-        piece = self.data[self.at : self.at + size]
-        if len(piece) < size:
+        at, self.at = self.at, self.at + size
+        if self.at > len(self.data):
             raise ValueError("it ends within a number")
-        self.at += size
-        return int.from_bytes(piece, "little")
+        return int.from_bytes(self.data[at : self.at], "little")
 
     def uleb(self):
         value = shift = 0
@@ -79,14 +78,14 @@ class Unit:
             read.at += {4: 8, 5: 8, 2: 8, 6: 8 + self.word}.get(kind, 0)
         else:
             table, _ = read.number(self.word), read.number(1)
-        facts = {}
-        for name, form, constant in self.units.abbreviation(table, read.uleb()):
-            self.units.looks -= 1
+        facts, looks = {}, 0
+        for looks, (name, form, constant) in enumerate(self.units.abbreviation(table, read.uleb()), 1):
             value = self.value(read, form, constant)
             if name in (PRODUCER, OFFSETS_BASE):
                 facts.setdefault(name, value)
                 if PRODUCER in facts and (OFFSETS_BASE in facts or facts[PRODUCER][0] not in STRX):
                     break
+        self.units.looks -= looks
         return facts
 
     def value(self, read, form, constant=None):
@@ -94,7 +93,7 @@ class Unit:
         if form == 0x16:
             form = read.uleb()
         if form in FIXED:
-            return form, constant if form == 0x21 else read.number(FIXED[form])
+            return form, read.number(FIXED[form]) if FIXED[form] else constant or 0
         if form in WORDS:
             return form, read.number(self.word)
         if form in NUMBERS:

@@ -48,7 +48,11 @@ def timed(words, folder, seconds, megabytes) -> Ended:
         resource.setrlimit(resource.RLIMIT_AS, (megabytes << 20, megabytes << 20))
 
     with open(folder / "written", "w+b") as out, open(folder / "said", "w+b") as err:
-        started = subprocess.Popen(words, cwd=folder, stdin=subprocess.DEVNULL, stdout=out, stderr=err, preexec_fn=limited, start_new_session=True)
+        # What a script that is ended leaves behind goes with the folder.
+        started = subprocess.Popen(
+            words, cwd=folder, env={**os.environ, "TMPDIR": str(folder)}, stdin=subprocess.DEVNULL, stdout=out, stderr=err, preexec_fn=limited,
+            start_new_session=True,
+        )
         try:
             _, status, used = os.wait4(started.pid, 0)
         except BaseException:

@@ -6,6 +6,8 @@ from pgo_tools.cli import REFUSED, Trouble
 from pgo_tools.names import text_of
 
 LONGEST, MOST_ENTRIES = 65536, 1024
+# Texts are looked through by pieces of so many bytes.
+PIECE = 1 << 20
 RECORD = b"PERF_RECORD_"
 LOAD = re.compile(
     rb"PERF_RECORD_MMAP2 (?:[^ \t]*[^ \t:][ \t]+)*[^ \t]*:[ \t]+\[0x([0-9a-fA-F]+)\(0x([0-9a-fA-F]+)\)[ \t]+@[ \t]+(0|0x[0-9a-fA-F]+)"
@@ -76,12 +78,18 @@ def lines(file):
 
 
 def loads(file):
-    """The load lines of a stream of bytes, from its first line to its last."""
-    for number, line in lines(file):
-        if RECORD in line and len(line) <= LONGEST:
-            load = load_of(number, line)
-            if load:
-                yield load
+    """The load lines of a stream of bytes, from its first line to its last. Most pieces of a text have none, and are looked at whole."""
+    number = 1
+    while piece := file.read(PIECE):
+        piece += file.readline(LONGEST + 1)
+        if RECORD in piece:
+            found = (load_of(at, line) for at, line in enumerate(piece.split(b"\n"), number) if len(line) <= LONGEST)
+            yield from filter(None, found)
+        number += piece.count(b"\n")
+        while piece and not piece.endswith(b"\n"):
+            # The rest of a line that is too long.
+            piece = file.readline(LONGEST + 1)
+            number += piece.count(b"\n")
 
 
 def samples(file, path="the branch text"):

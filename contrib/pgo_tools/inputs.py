@@ -2,6 +2,7 @@
 
 What has to be made for that stands in a folder of the caller's own. What cannot be made is left as it is: pgo says what it lacks.
 """
+import functools
 import os
 import re
 import shutil
@@ -10,7 +11,7 @@ import zlib
 from typing import NamedTuple
 
 from pgo_tools import branch_text, programs
-from pgo_tools.branch_text import LONGEST
+from pgo_tools.branch_text import LONGEST, PIECE
 from pgo_tools.cli import USAGE, WRITE_FAULT, Trouble
 from pgo_tools.elf import Elf
 from pgo_tools.files import PACKED, kind_by, kind_of, open_packed
@@ -18,8 +19,6 @@ from pgo_tools.files import PACKED, kind_by, kind_of, open_packed
 DEBUG_FOLDER = "/usr/lib/debug"
 # A branch text has at most so many bytes, and a program so many (docs/LIMITS.md).
 MOST_BYTES, MOST_OF_PROGRAM = 1 << 40, 1 << 30
-# Copies are made by pieces of so many bytes.
-PIECE = 1 << 20
 
 
 class Text(NamedTuple):
@@ -35,6 +34,7 @@ class Text(NamedTuple):
     def is_file(self):
         return os.path.isfile(self.path)
 
+    @functools.lru_cache(maxsize=1)
     def loads(self):
         """The load lines of code, each with the number of its build where it or the recording has one."""
         if not self.is_file():
@@ -102,19 +102,30 @@ def begun_line(piece, begun):
     return len(piece) - (at if end < 0 else end + 1)
 
 
+def pieces(source, path):
+    """The content of a file, piece by piece; what cannot be read is told of the file."""
+    try:
+        while piece := source.read(PIECE):
+            yield piece
+    except OSError as reason:
+        raise OSError(reason.errno, reason.strerror, path) from None
+
+
 def copied(path, copy):
     """The content of a file or a pipe, unpacked, as a file. A text ends where pgo refuses it in any case: a packed one may have no end."""
     folder = os.path.dirname(copy)
     room, size, is_text, begun = room_in(folder), 0, False, 0
     try:
         with open_packed(path) as source, open(copy, "wb") as target:
-            while begun is not None and size <= MOST_BYTES and (piece := source.read(PIECE)):
+            for piece in pieces(source, path):
                 is_text = is_text if size else kind_by(piece) != "recording"
                 size += len(piece)
                 if size > room:
                     raise no_room(folder, f": {path} takes more than half of the room that is free")
                 target.write(piece)
                 begun = begun_line(piece, begun) if is_text else 0
+                if begun is None or size > MOST_BYTES:
+                    break
     except OSError as reason:
         if reason.filename not in (None, copy):
             raise

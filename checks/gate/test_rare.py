@@ -8,6 +8,7 @@ from common import CONTRIB, MISSING, PGO, REFUSED, BAD_WORDS, Case, run
 
 sys.path.insert(0, str(CONTRIB))
 from block_text import rare  # noqa: E402
+from block_text.touched import Spans  # noqa: E402
 
 MAKER = CONTRIB / "blocks"
 PROGRAM = """
@@ -68,6 +69,21 @@ class Graph(unittest.TestCase):
         self.assertEqual(rare.marked([0, 10, 20, 30], [[1, 2], [3], [], []], [False, True, True, True], kinds), ({2}, {3}))
         # A function that never returns has no block of this kind: its entry would be one.
         self.assertEqual(rare.marked([0, 10], [[1], []], [False, True], rare.Kinds(set(), {10})), (set(), set()))
+
+
+class Touched(unittest.TestCase):
+    """Spans that are drawn, each number being of the last one that was put over it."""
+
+    def test_the_later_span_counts(self):
+        drawn = random.Random(5)
+        for _ in range(300):
+            spans, held = Spans(), [None] * 40
+            for what in range(drawn.randint(1, 12)):
+                start, size = drawn.randrange(30), drawn.randrange(11)
+                spans.put(start, size, what)
+                held[start:start + size] = [what] * size
+            self.assertEqual([spans.at(number) for number in range(-1, 40)], [None] + held)
+            self.assertTrue(all(end <= start for end, start in zip(spans.ends, spans.starts[1:])))
 
 
 class Programs(Case):

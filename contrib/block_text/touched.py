@@ -8,15 +8,42 @@ from pgo_tools.files import open_packed
 NOWHERE = -1
 
 
+class Spans:
+    """Stretches of numbers, in order and apart from each other: where two met, the later one cut the other."""
+
+    def __init__(self):
+        self.starts, self.ends, self.held = [], [], []
+
+    def put(self, start, size, what):
+        """From `start` on so many numbers are of this one now."""
+        end = start + size
+        if start == end:
+            return
+        first, last = bisect.bisect_right(self.ends, start), bisect.bisect_left(self.starts, end)
+        rows = [(start, end, what)]
+        if first < last and self.starts[first] < start:
+            rows.insert(0, (self.starts[first], start, self.held[first]))
+        if first < last and end < self.ends[last - 1]:
+            rows.append((end, self.ends[last - 1], self.held[last - 1]))
+        self.starts[first:last], self.ends[first:last], self.held[first:last] = zip(*rows)
+
+    def at(self, number):
+        """What the number is of, or None."""
+        k = bisect.bisect_right(self.starts, number) - 1
+        return self.held[k] if k >= 0 and number < self.ends[k] else None
+
+
 class Places:
     """Where addresses of a run stand in the program's file: themselves, or by the load lines of a name (docs/FORMATS.md)."""
 
     def __init__(self, path, name):
-        self.name, self.loads, self.known = name, [], {}
-        self.code = Elf(path).code() if name is not None else []
+        self.name, self.loads, self.code, self.known = name, Spans(), Spans(), {}
+        # Of segments that share bytes the first one counts.
+        for part in reversed(Elf(path).code() if name is not None else []):
+            self.code.put(part.offset, part.file_size, part)
 
     def add(self, load):
-        self.loads.append(load)
+        self.loads.put(load.start, load.size, load)
         self.known.clear()
 
     def place(self, address):
@@ -27,11 +54,11 @@ class Places:
         return self.known[address]
 
     def moved(self, address):
-        load = next((it for it in reversed(self.loads) if it.start <= address < it.start + it.size), None)
+        load = self.loads.at(address)
         if load is None or load.name != self.name:
             return NOWHERE
         offset = address - load.start + load.offset
-        part = next((it for it in self.code if it.offset <= offset < it.offset + it.file_size), None)
+        part = self.code.at(offset)
         return offset - part.offset + part.address if part else NOWHERE
 
 

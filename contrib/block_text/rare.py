@@ -76,8 +76,8 @@ def barred(follow, exits, rare, touched):
     """The rare blocks to be told `never`: no sample touched them, and the function still has a way from its entry to an exit, and
     one through each block that was touched. So no function has a cut by it that had none."""
     wanted, before = rare - touched, turned(follow)
-    for dead in [it for it in touched if it not in living(follow, before, exits, wanted)]:
-        wanted -= reached([dead], follow) | reached([dead], before)
+    dead = touched - living(follow, before, exits, wanted)
+    wanted -= reached(dead, follow) | reached(dead, before)
     alive = living(follow, before, exits, wanted)
     return wanted if 0 in alive and touched <= alive else set()
 

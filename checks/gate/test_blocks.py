@@ -15,7 +15,11 @@ from common import (BAD_WORDS, BLOCKS, CONTRIB, DONE, FAILED, MISSING, REFUSED, 
 
 sys.path.insert(0, str(CONTRIB))
 from block_text.block_map import BLOCK_MAP, BlockMap  # noqa: E402
+from block_text.code import Code  # noqa: E402
+from block_text.exceptions import landing_pads  # noqa: E402
+from block_text.flow import CALL  # noqa: E402
 from block_text.program import Refused  # noqa: E402
+from make import elf  # noqa: E402
 
 SCRIPT = CONTRIB / "blocks"
 # Two tables beside each other, each with offsets from itself, and one register for both. Behind each place are as many
@@ -241,9 +245,9 @@ def mapped(blocks):
     return raw
 
 
-def read_map(raw):
-    section = SimpleNamespace(kind=BLOCK_MAP, offset=0, size=len(raw))
-    return BlockMap(SimpleNamespace(data=raw, sections=[section], names={}, read=lambda low, size: None))
+def read_map(raw, headers=1, size=None):
+    section = SimpleNamespace(kind=BLOCK_MAP, offset=0, size=len(raw) if size is None else size)
+    return BlockMap(SimpleNamespace(data=raw, sections=[section] * headers, names={}, read=lambda low, size: None))
 
 
 class Maps(Case):
@@ -267,3 +271,81 @@ class Maps(Case):
         for raw in cases:
             with self.subTest(raw=raw[:20]), self.assertRaises(Refused):
                 read_map(raw)
+
+    def test_headers_that_name_one_map(self):
+        raw = mapped([(0, 4, [1]), (1, 2, [])])
+        self.assertEqual(len(read_map(raw).functions), 1)
+        for size in (len(raw), 1):
+            with self.subTest(size=size), self.assertRaisesRegex(Refused, "map of basic blocks is damaged: its pieces overlap"):
+                read_map(raw, 2, size)
+
+    def test_many_ways_through_blocks_without_code(self):
+        """Each leads to the next one and to a block of its own; in either order; or one to all, and all to it."""
+        count = 400
+        chain = [(k, 0, [k + 1, count + k]) for k in range(count - 1)] + [(count - 1, 0, [])]
+        code = [(count + k, 4, [0]) for k in range(count)]
+        star = [(0, 0, list(range(count, 2 * count)))]
+        for number, blocks in enumerate((chain + code, code + chain[::-1], star + code)):
+            with self.subTest(number), self.assertRaisesRegex(Refused, "too many ways lead through blocks without code"):
+                read_map(mapped(blocks)).blocks(0x1000)
+
+
+def frames(tables):
+    """Frames of 64 bytes of code from 0x2000 on, each with its table at this place of the section behind."""
+    head = struct.pack("<I", 0) + b"\1zLR\0\1\1\1\2\0\0"
+    out = struct.pack("<I", len(head)) + head
+    for k, at in enumerate(tables):
+        body = struct.pack("<QQB", 0x2000 + 64 * k, 64, 8) + struct.pack("<Q", 0x9000 + at)
+        out += struct.pack("<II", len(body) + 4, len(out) + 4) + body
+    return out
+
+
+class Exceptions(Case):
+    """Frames that share a table of calls."""
+
+    def pads(self, count, calls):
+        """What so many frames have, whose table tells of the first calls of each, of a byte, with a pad at the eighth byte."""
+        raw, rows = frames([0] * count), b"".join(bytes([k, 1, 8, 0]) for k in range(calls))
+        lsda = b"\xff\xff\1" + uleb(len(rows)) + rows
+        sections = [SimpleNamespace(name=".eh_frame", kind=1, offset=0, size=len(raw), address=0x8000)]
+        table = SimpleNamespace(name=".gcc_except_table", kind=1, offset=len(raw), size=len(lsda), address=0x9000)
+        return landing_pads(SimpleNamespace(data=raw + lsda, sections=sections, section_of=lambda at: table))
+
+    def test_a_table_for_a_few_frames(self):
+        self.assertEqual(self.pads(2, 2), [(at + k, at + k + 1, at + 8) for at in (0x2000, 0x2040) for k in (0, 1)])
+
+    def test_a_table_for_too_many_frames(self):
+        with self.assertRaisesRegex(Refused, "tables of exceptions are damaged: they overlap"):
+            self.pads(100, 64)
+
+    def test_calls_with_too_many_pads(self):
+        code = Code.__new__(Code)
+        code.program, code.pads = SimpleNamespace(data=bytes(100)), [(0x10, 0x20, 0x30 + k) for k in range(4)]
+        code.pad_starts = [it[0] for it in code.pads]
+        rows = [(0x10 + k, 0x11 + k, CALL, 0) for k in range(16)]
+        found = code.pads_of([(0x10, 0x40)], rows)
+        self.assertEqual(found, {row[0]: [0x30, 0x31, 0x32, 0x33] for row in rows})
+        code.program.data = bytes(60)
+        with self.assertRaisesRegex(Refused, "tables of exceptions are damaged: they overlap"):
+            code.pads_of([(0x10, 0x40)], rows)
+
+
+@needs("objdump")
+class Overlaps(Case):
+    def test_tables_that_several_headers_name(self):
+        """A section of symbols, or of relocations, of half of the file and more: twice is more than the file has."""
+        for kind, name in ((2, b".symtab"), (4, b".rela")):
+            with self.subTest(kind=kind):
+                raw = elf([(b".table", bytes(24 * 100)), (b".strtab", bytes(2))], 16)
+                once, twice = (named_again(raw, kind, times) for times in (1, 2))
+                self.tells(run(SCRIPT, self.file("once", once)), REFUSED, "no code")
+                self.tells(run(SCRIPT, self.file("twice", twice)), REFUSED, "twice is damaged or cut off: its tables overlap")
+
+
+def named_again(raw, kind, times):
+    """The binary, of whose first section so many headers tell, which is loaded and is of this kind."""
+    table, = struct.unpack_from("<Q", raw, 40)
+    row = raw[table + 64 : table + 68] + struct.pack("<IQ", kind, 2) + raw[table + 80 : table + 128]
+    rows = raw[table : table + 64] + row * times + raw[table + 128 :]
+    count = len(rows) // 64
+    return raw[:60] + struct.pack("<HH", count, count - 1) + raw[64:table] + rows

@@ -16,12 +16,18 @@ class BlockMap:
 
     def __init__(self, program):
         self.program, self.functions, self.numbered = program, {}, []
+        # How many bytes are left to read, and steps through blocks without code to go. Whatever shares no bytes takes fewer.
+        self.left = self.steps = len(program.data)
         try:
             for section in program.sections:
                 if section.kind == BLOCK_MAP:
                     piece = Bytes(program.data, section.offset, 0)
                     while piece.at < section.offset + section.size:
+                        at = piece.at
                         self.read(piece)
+                        self.left -= piece.at - at
+                        if self.left < 0:
+                            raise ValueError("its pieces overlap")
         except FAULTS as fault:
             raise Refused(f"the program's map of basic blocks is damaged: {fault}") from None
 
@@ -65,31 +71,38 @@ class BlockMap:
             leaves = bool(what & 3) or self.tail_branch(low, high, inside)
             if what & 8 and k + 1 < len(blocks) and high < blocks[k + 1][1] < high + 64:
                 high = blocks[k + 1][1]
+            self.go(sum(max(0, len(starts[it]) - 1) for it in follow[name]))
             there = list(dict.fromkeys(start for it in follow[name] for start in starts[it]))
             if what & 16 and not there:
                 notes.append(f"block at {low:#x} ends in a jump that leads to places that are not known: exit")
             rows.append([low, high, there, leaves])
         return rows, notes
 
-    @staticmethod
-    def starts(blocks, follow):
+    def go(self, steps):
+        """Counts steps through blocks without code. Of these a compiler leaves few, with a way or none behind each."""
+        self.steps -= steps
+        if self.steps < 0:
+            raise Refused("the program's map of basic blocks is damaged: too many ways lead through blocks without code")
+
+    def starts(self, blocks, follow):
         """Where the flow goes on that enters a block of this name: at its start, or, of one without code, where that leads.
 
         Behind a call that never returns clang has a block without code that leads nowhere: what stands there is another one.
         """
-        code = {name: low for name, low, high, _ in blocks if low < high}
-        found = {}
-        for name, _, _, _ in reversed(blocks):
-            seen, work, ends = {name}, [name], []
+        found = {name: [low] for name, low, high, _ in blocks if low < high}
+        for name in [name for name, low, high, _ in reversed(blocks) if low == high]:
+            seen, work, ends = {name}, [name], {}
             while work:
                 here = work.pop()
-                if here in code or here in found:
-                    ends.extend([code[here]] if here in code else found[here])
+                if here in found:
+                    self.go(len(found[here]))
+                    ends.update(dict.fromkeys(found[here]))
                     continue
+                self.go(1 + len(follow[here]))
                 there = [it for it in follow[here] if it not in seen]
                 seen.update(there)
                 work.extend(reversed(there))
-            found[name] = ends
+            found[name] = list(ends)
         return found
 
     def tail_branch(self, low, high, inside):

@@ -5,7 +5,7 @@ import marshal
 import os
 import tempfile
 
-from block_text.exceptions import landing_pads
+from block_text.exceptions import OVERLAP, damaged, landing_pads
 from block_text.flow import BRANCH, CALL, JUMP, POINTER, RETURN, TO_NOWHERE, Reader, never_returns, printed
 from block_text.tables import Tables
 
@@ -115,15 +115,18 @@ class Code:
         return unit
 
     def pads_of(self, ranges, rows):
-        found = {}
-        if not self.pads:
-            return found
+        """The landing pads of each call."""
+        found, left = {}, len(self.program.data)
+        calls = sorted(row[0] for row in rows if row[2] == CALL) if self.pads else []
         for low, high in ranges:
             first, last = bisect.bisect_left(self.pad_starts, low), bisect.bisect_left(self.pad_starts, high)
             for start, end, pad in self.pads[first:last]:
-                for row in rows:
-                    if start <= row[0] < end and row[2] == CALL:
-                        found.setdefault(row[0], []).append(pad)
+                held = calls[bisect.bisect_left(calls, start):bisect.bisect_left(calls, end)]
+                left -= len(held)
+                if left < 0:
+                    raise damaged(OVERLAP)
+                for call in held:
+                    found.setdefault(call, []).append(pad)
         return found
 
     def follow(self, k, unit, parts):

@@ -5,6 +5,13 @@ from block_text.program import Refused
 from pgo_tools.elf import FAULTS, NOBITS
 
 
+OVERLAP = "they overlap"
+
+
+def damaged(why):
+    return Refused(f"the program's tables of exceptions are damaged: {why}")
+
+
 class Bytes:
     """A place in the bytes of a section, and what is read from there."""
 
@@ -52,7 +59,7 @@ def landing_pads(program):
     frames = next((it for it in program.sections if it.name == ".eh_frame" and it.kind != NOBITS), None)
     if frames is None:
         return []
-    found, heads = [], {}
+    found, heads = Found(len(program.data)), {}
     try:
         at, end = frames.offset, frames.offset + frames.size
         while at + 4 <= end:
@@ -70,8 +77,20 @@ def landing_pads(program):
                 read_frame(program, entry, heads[at + 4 - link], found)
             at += 4 + size
     except FAULTS as fault:
-        raise Refused(f"the program's tables of exceptions are damaged: {fault}") from None
-    return sorted(found)
+        raise damaged(fault) from None
+    return sorted(found.pads)
+
+
+class Found:
+    """The landing pads that were found, and how many rows of tables may still be read: what shares no bytes has fewer than the file bytes."""
+
+    def __init__(self, most):
+        self.pads, self.left = [], most
+
+    def count(self):
+        self.left -= 1
+        if self.left < 0:
+            raise ValueError(OVERLAP)
 
 
 def frame_head(entry):
@@ -114,10 +133,11 @@ def read_frame(program, entry, head, found):
     end += calls.at
     before = 0
     while calls.at < end:
+        found.count()
         low, size, pad = calls.pointer(encoding), calls.pointer(encoding), calls.pointer(encoding)
         calls.uleb()
         if low < before or low + size > length:
             return  # a table for each part of a function, and this one's length goes to the end of the last
         before = low + size
         if pad:
-            found.append((start + low, start + low + size, (start if base is None else base) + pad))
+            found.pads.append((start + low, start + low + size, (start if base is None else base) + pad))

@@ -33,11 +33,20 @@ class Program(Elf):
         self.loaded = sorted((it for it in self.sections if it.flags & ALLOC and it.kind != NOBITS and it.size),
                              key=lambda it: it.address)
         self.starts = [it.address for it in self.loaded]
+        self.left = len(self.data)
         try:
             self.read_symbols()
             self.read_relocations()
         except FAULTS as fault:
             raise Refused(f"{path} is damaged or cut off: {fault}") from None
+
+    def taken(self, table):
+        """The rows of 24 bytes of a table; a ValueError where it and those that were taken before have more bytes than the file."""
+        piece = self.data[table.offset:table.offset + table.size // 24 * 24]
+        self.left -= len(piece)
+        if self.left < 0:
+            raise ValueError("its tables overlap")
+        return piece
 
     def read_symbols(self):
         """The functions by address with all their names, and the sized objects."""
@@ -45,7 +54,7 @@ class Program(Elf):
         self.names, self.sizes, objects = {}, {}, []
         for table in tables:
             base = self.sections[table.link].offset
-            piece = self.data[table.offset:table.offset + table.size // 24 * 24]
+            piece = self.taken(table)
             for name, info, _, index, value, size in struct.iter_unpack("<IBBHQQ", piece):
                 if not index or index >= len(self.sections):
                     continue
@@ -67,7 +76,7 @@ class Program(Elf):
         for section in self.sections:
             if section.kind != RELA or not section.flags & ALLOC:
                 continue
-            piece = self.data[section.offset:section.offset + section.size // 24 * 24]
+            piece = self.taken(section)
             pieces.append(piece)
             symbols = self.sections[section.link]
             names = self.sections[symbols.link].offset

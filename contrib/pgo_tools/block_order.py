@@ -32,6 +32,30 @@ class Chain:
             self.size += sizes[block]
 
 
+class Rows:
+    """Rows of blocks, with the jumps inside each. Of two that are joined the one of fewer blocks moves, so that no block moves often."""
+
+    def __init__(self, blocks, jumps):
+        self.jumps = jumps
+        self.of = {block: block for block in blocks}
+        self.rows = {block: collections.deque([block]) for block in blocks}
+        self.inside = {block: collections.deque() for block in blocks}
+
+    def join(self, one, other):
+        """Puts a row behind another one."""
+        few, many = (one, other) if len(self.rows[one]) <= len(self.rows[other]) else (other, one)
+        between = [jump for block in self.rows[few] for jump in self.jumps[block] if self.of[jump[1] if jump[0] == block else jump[0]] == many]
+        for held in (self.rows, self.inside):
+            moved = held.pop(few)
+            if few == one:
+                held[many].extendleft(reversed(moved))
+            else:
+                held[many].extend(moved)
+            if held is self.rows:
+                self.of.update(dict.fromkeys(moved, many))
+        self.inside[many].extend(between)
+
+
 class Order:
     """The chains of a function's blocks, which become one row. `entry` stands first."""
 
@@ -61,10 +85,12 @@ class Order:
         for tail, head, _ in sorted(jumps, key=lambda it: (-it[2], it)):
             behind.setdefault(tail, head)
             before.setdefault(head, tail)
+        rows = Rows(self.sizes, self.jumps)
         for tail, head in behind.items():
-            one, other = self.of[tail], self.of[head]
-            if head != self.entry and before[head] == tail and one != other:
-                self.join(one, other, self.chains[one].row + self.chains[other].row)
+            if head != self.entry and before[head] == tail and rows.of[tail] != rows.of[head]:
+                rows.join(rows.of[tail], rows.of[head])
+        self.chains = {row[0]: Chain(list(row), self.sizes, list(rows.inside[name])) for name, row in rows.rows.items()}
+        self.of = {block: name for name, chain in self.chains.items() for block in chain.row}
 
     def near(self, name):
         """The chains that jumps lead to or from, in order."""

@@ -1,17 +1,24 @@
 """contrib/lined: counts of blocks by their own addresses, on the demo beside exact counts, and on programs of each compiler that is
 here, position-independent or not, stripped or not, walked through by drawn ways whose counts are known."""
 import collections
+import importlib.machinery
+import importlib.util
 import random
 import shutil
+import struct
 import sys
 import unittest
 
 from common import BLOCKS, CONTRIB, HERE, MISSING, PGO, REFUSED, TEXT, TOP, WORDS, BAD_WORDS, Case, needs, run
 
 sys.path.insert(0, str(CONTRIB))
+from make import elf  # noqa: E402
 from pgo_tools import dwarf_writer  # noqa: E402
 
 LINED, MAKER = CONTRIB / "lined", CONTRIB / "blocks"
+LOADER = importlib.machinery.SourceFileLoader("lined", str(LINED))
+lined = importlib.util.module_from_spec(importlib.util.spec_from_loader("lined", LOADER))
+LOADER.exec_module(lined)
 NOTE = "lined: for pgo build, people and contrib/draw; a profile made with it is not for clang\n"
 COMPILERS = ["gcc", "clang-14", "clang-19"]
 OUTSIDE = 0x10
@@ -240,6 +247,23 @@ class Refusals(Case):
             with self.subTest(length=length):
                 cut = self.file("cut", whole[:length])
                 self.tells(self.run_here(LINED, cut, BLOCKS, "-o", "lined"), REFUSED, "is no ELF file|damaged or cut off")
+
+    def test_sections_that_overlap(self):
+        """Two headers of one section, which is most of the file: both would be copied."""
+        raw = elf([(b".one", bytes(4000)), (b".two", b"")], 16)
+        table, = struct.unpack_from("<Q", raw, 40)
+        one, two = table + 64, table + 128
+        self.file("cfg", "func f\nblock 0 0x401000 0x401010 exit\nend\n")
+        self.expect(self.run_here(LINED, self.file("apart", raw), "cfg", "-o", "lined"), 0, b"", NOTE)
+        twice = self.file("twice", raw[: two + 4] + raw[one + 4 : two] + raw[two + 64 :])
+        self.tells(self.run_here(LINED, twice, "cfg", "-o", "none"), REFUSED, "twice is damaged: its sections overlap")
+
+    def test_a_block_lies_in_one_segment(self):
+        code = lined.Code([(0x30, 0x50), (0x10, 0x40), (0x50, 0x60)])
+        held = [(low, high) for low in range(0x0F, 0x62) for high in range(low + 1, 0x63) if code.holds(low, high)]
+        wanted = [(low, high) for low in range(0x0F, 0x62) for high in range(low + 1, 0x63)
+                  if 0x10 <= low and high <= 0x40 or 0x30 <= low and high <= 0x50 or 0x50 <= low and high <= 0x60]
+        self.assertEqual(held, wanted)
 
     def test_an_output_that_is_read_too(self):
         binary = self.file("words", WORDS.read_bytes())

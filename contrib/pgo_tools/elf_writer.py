@@ -55,7 +55,7 @@ class Layout:
 
     def __init__(self, elf):
         self.elf, self.whole = elf, whole_end(elf)
-        self.end = self.whole
+        self.end, self.left = self.whole, len(elf.data)
         self.pieces, self.headers, self.names = [], [NONE], bytearray(1)
 
     def place(self, raw, align):
@@ -77,6 +77,9 @@ class Layout:
         if header.kind != NOBITS and not header.flags & ALLOC and at + header.size > self.whole:
             if len(held) < header.size:
                 raise Trouble(f"{self.elf.path} is damaged or cut off: {section.name} passes its end", REFUSED, "copy it again")
+            self.left -= len(held)
+            if self.left < 0:
+                raise Trouble(f"{self.elf.path} is damaged: its sections overlap", REFUSED, "copy it again")
             at = self.place(held, header.align)
         self.headers.append(header._replace(name=self.name(section.name), offset=at))
 

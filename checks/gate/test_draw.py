@@ -1,10 +1,16 @@
 """contrib/draw: graphs and pictures of repairs, and that no name, number or source of a stranger breaks them."""
+import io
 import os
 import re
+import sys
 import xml.dom.minidom
 
 from common import (BAD_WORDS, BLOCKS, CONTRIB, DONE, FAILED, MISSING, PGO, REFUSED, TEXT, TOP, WORDS, WRITE_FAULT, Case, into_closed_pipe, needs,
                     needs_file, on_closed_output, run)
+
+sys.path.insert(0, str(CONTRIB))
+from pgo_tools import block_text, repair_text  # noqa: E402
+from pgo_tools.cli import Trouble  # noqa: E402
 
 SCRIPT = CONTRIB / "draw"
 NAMES = [line.split()[1] for line in BLOCKS.read_text().splitlines() if line.startswith("func ")]
@@ -118,6 +124,16 @@ class Cuts(Case):
                 ran = self.run_here(SCRIPT, "--blocks=blocks", "loop", "built")
                 self.tells(ran, status, said)
                 self.assertEqual(ran.out, b"")
+
+    def test_more_blocks_or_edges_than_a_function_has(self):
+        block, edge = "# block {} weight 1 count 1 in 0 out 0\n", "# edge 0 0 weight 1 count 1\n"
+        blocks = "".join(block.format(k) for k in range(block_text.MOST_BLOCKS + 1))
+        edges = block.format(0) + edge * (block_text.MOST_EDGES + 1)
+        for lines, most in ((blocks, block_text.MOST_BLOCKS), (edges, block_text.MOST_EDGES + 1)):
+            with self.subTest(most=most):
+                text = io.BytesIO(f"# function loop flow\n{lines}# end 0\n".encode())
+                with self.assertRaisesRegex(Trouble, f"line {most + 2} is none of a repair"):
+                    list(repair_text.functions(text))
 
     def test_repairs_that_are_none(self):
         for text, said in [

@@ -2,6 +2,7 @@
 import re
 from typing import NamedTuple, Optional
 
+from pgo_tools.block_text import MOST_BLOCKS, MOST_EDGES
 from pgo_tools.cli import REFUSED, Trouble
 from pgo_tools.files import lines_of
 from pgo_tools.numbers import number_of
@@ -79,13 +80,13 @@ def add(repair, line):
     is_flow = repair.kind == "flow"
     match = (FLOW_BLOCK if is_flow else CUT_BLOCK).fullmatch(line)
     if match:
-        if value_of(match[1]) != len(repair.blocks) or repair.edges:
+        if value_of(match[1]) != len(repair.blocks) or repair.edges or len(repair.blocks) == MOST_BLOCKS:
             return False
         told = [value_of(each) for each in match.groups()[2:]]
         repair.blocks.append(Block(weight_of(match[2]), *(told if is_flow else [None, *told])))
         return True
     match = EDGE.fullmatch(line)
-    if match and is_flow:
+    if match and is_flow and len(repair.edges) < MOST_EDGES:
         tail, head = value_of(match[1]), value_of(match[2])
         repair.edges.append(Edge(tail, head, weight_of(match[3]), value_of(match[4])))
         return max(tail, head) < len(repair.blocks)

@@ -132,6 +132,8 @@ def would_go(path):
 class Node:
     """A function, or a call that was inlined: its lines by (offset, disc), and its calls by (offset, disc, callee)."""
 
+    __slots__ = "name", "head", "lines", "calls"
+
     def __init__(self, name, head: Optional[int] = None):
         self.name, self.head = name, head
         self.lines, self.calls = {}, {}

@@ -307,6 +307,68 @@ def drawn(size, edges_of):
     return {"built": b"\n".join(lines) + b"\n# end 0\n"}
 
 
+# What the scripts read.
+
+BLOCK_MAP, SYMBOLS, LANDING_PAD, RETURNS = 0x6FFF4C0A, 2, 4, 1
+
+
+def map_of(blocks):
+    """The map of a function of blocks of 4 bytes, (what it is, successors) each."""
+    out = [b"\x02\x04", struct.pack("<Q", CODE), make.uleb(len(blocks))]
+    out += [make.uleb(number) + b"\0\4" + make.uleb(what) for number, (what, _) in enumerate(blocks)]
+    out += [make.uleb(len(there)) + b"".join(make.uleb(it) + b"\1" for it in there) for _, there in blocks]
+    return b"".join(out)
+
+
+def mapped(blocks):
+    """A binary with clang's map of these blocks, all of which is code of the function f."""
+    size = 4 * len(blocks)
+    symbol = struct.pack("<IBBHQQ", 1, 0x12, 0, 1, CODE, size)
+    raw = bytearray(elf([(b".llvm_bb_addr_map", map_of(blocks)), (b".symtab", symbol), (b".strtab", b"\0f\0")], size))
+    table, = struct.unpack_from("<Q", raw, 40)
+    struct.pack_into("<Q", raw, 96, size)
+    struct.pack_into("<I", raw, table + 64 + 4, BLOCK_MAP)
+    struct.pack_into("<I", raw, table + 128 + 4, SYMBOLS)
+    struct.pack_into("<I", raw, table + 128 + 40, 3)
+    return bytes(raw)
+
+
+def loads_of_blocks(size):
+    """Load lines, each within the one before, with a range behind each, for a binary with a map of its blocks."""
+    return {"bin": mapped([(RETURNS, [])]), "perf": nested_loads(size)["perf"]}
+
+
+def behind_a_pad(size):
+    """Blocks in a chain behind a landing pad. Samples touched all of them but the pad."""
+    count = size // 12
+    blocks = [(RETURNS, [1]), (LANDING_PAD, [2])] + [(0, [k]) for k in range(3, count)] + [(RETURNS, [])]
+    return {"bin": mapped(blocks), "perf": b"0x%x/0x10 0x10/0x%x 0x%x/0x10\n" % (CODE + 4 * count - 1, CODE + 8, CODE)}
+
+
+def laid_out(size):
+    """A chain of blocks, each of which ran."""
+    count = size // 140
+    follow = [[k + 1] for k in range(count - 1)] + [[]]
+    places = [(CODE + 4 * k, CODE + 4 * k + 4) for k in range(count)]
+    edges = [(k, k + 1) for k in range(count - 1)]
+    return {"bin": mapped([(0, there) for there in follow]), "cfg": function_text(b"f", places, edges, {count - 1}),
+            "built": drawn(73 * count, lambda _: edges)["built"]}
+
+
+def segments_and_blocks(size):
+    """A binary of many segments of code, and ten blocks for each of them."""
+    count = size // 440
+    one = function_text(b"f", [(CODE + k, CODE + k + 1) for k in range(10 * count)], [], {0})
+    raw, other = elf([], 10 * count), struct.pack("<IIQQQQQQ", 1, 5, 0, 1, 1, 0, 1, 0x1000)
+    head = raw[:32] + struct.pack("<Q", len(raw)) + raw[40:56] + struct.pack("<H", count) + raw[58:64]
+    return {"bin": head + raw[64:] + other * (count - 1) + raw[64:120], "cfg": one}
+
+
+def alike_hot(size):
+    """A profile whose functions all ran as often."""
+    return {"prof": b"".join(b"f%d:1:1\n 1: 1\n" % k for k in range(size // 16))}
+
+
 def chain(size):
     return drawn(size, lambda count: [(k, k + 1) for k in range(count - 1)])
 
@@ -320,7 +382,8 @@ def star(size):
 
 class Family(NamedTuple):
     """Inputs of one kind, what is run on them, the first line of its answer (a pattern), the size that docs/LIMITS.md speaks of, the
-    address space in megabytes that suffices for it, whether making them takes a C compiler, and how many times as long twice the input may take."""
+    address space in megabytes that suffices for it, whether making them takes a C compiler, how many times as long twice the input may take,
+    and what it says besides (a pattern)."""
 
     name: str
     files: "Callable[[int], dict[str, bytes]]"
@@ -330,6 +393,7 @@ class Family(NamedTuple):
     megabytes: int = 400
     compiled: bool = False
     growth: float = MOST_GROWTH
+    said: bytes = b""
 
     def sizes(self):
         """The sizes of the gate: a quarter of that size, and half of it."""
@@ -347,7 +411,7 @@ class Family(NamedTuple):
 
     def wrong(self, ended: Ended) -> str:
         """What is wrong with the answer, however long it took, or nothing."""
-        if ended.status == 0 and not ended.said and re.fullmatch(self.first, ended.first):
+        if ended.status == 0 and re.fullmatch(self.said, ended.said) and re.fullmatch(self.first, ended.first):
             return ""
         return f"status {ended.status}, first line {ended.first[:80]!r}, {ended.said[:200]!r}"
 
@@ -362,8 +426,8 @@ WHERE, MERGE = [PGO, "where", "bin", "401000"], [PGO, "merge", "1", "prof"]
 LADDER_GROWTH = 4.5
 BUILT, WITH_EDGES, SCALED = ([PGO, "build", *option, "bin", "perf", "cfg"] for option in ((), ("--edges",), ("--scaled",)))
 MERGED, BUILT_LADDER, MADE = rb"n[0-9a-f]{10}[A-Z]:0:1", b"# function ladder flow", b"prof: 3 functions; .*"
-DRAWN = [sys.executable, CONTRIB / "draw", "--svg", "f", "built"]
-PROFILED = [sys.executable, CONTRIB / "pgo-profile"]
+script = lambda name, *words: [sys.executable, CONTRIB / name, *words]
+DRAWN, BY_MAP = script("draw", "--svg", "f", "built"), b"# Blocks of bin, by its map of basic blocks"
 FAMILIES = [
     Family("one long name", binary(one_long_name), WHERE, b"noline", MB),
     Family("one long name of lines", binary(one_name_of_lines), WHERE, b"noline", MB),
@@ -394,9 +458,14 @@ FAMILIES = [
     Family("ladder of great counts, scaled", ladder_of_great_counts, SCALED, BUILT_LADDER, 64000, growth=LADDER_GROWTH),
     Family("a chain, drawn", chain, DRAWN, b"<svg .*", 600000),
     Family("a star, drawn", star, DRAWN, b"<svg .*", 600000),
-    Family("loads apart, pgo-profile", loads_apart, [*PROFILED, "--map=/srv/app/words", WORDS, "perf", "prof"], MADE, 3 * MB),
-    Family("units of nothing, pgo-profile", units_of_nothing, [*PROFILED, "bin", TEXT, "prof"], MADE, 32 * MB),
-    Family("units of attributes, pgo-profile", units_of_attributes, [*PROFILED, "bin", TEXT, "prof"], MADE, 4 * MB),
+    Family("nested loads, blocks", loads_of_blocks, script("blocks", "--perf=perf", "--map=/bin/x", "bin"), BY_MAP, 1600000),
+    Family("behind a pad, blocks", behind_a_pad, script("blocks", "--perf=perf", "bin"), BY_MAP, 48000),
+    Family("a chain, laid out", laid_out, script("layout", "bin", "cfg", "built"), b"v1", 1400000),
+    Family("segments and blocks, lined", segments_and_blocks, script("lined", "bin", "cfg"), rb"(?s)\x7fELF.*", 1760000, said=b"lined: for pgo build, .*\n"),
+    Family("functions alike, compared", alike_hot, script("compare", "prof", "prof"), b"lines 100.0% alike, functions 100.0%", 200000),
+    Family("loads apart, pgo-profile", loads_apart, script("pgo-profile", "--map=/srv/app/words", WORDS, "perf", "prof"), MADE, 3 * MB),
+    Family("units of nothing, pgo-profile", units_of_nothing, script("pgo-profile", "bin", TEXT, "prof"), MADE, 32 * MB),
+    Family("units of attributes, pgo-profile", units_of_attributes, script("pgo-profile", "bin", TEXT, "prof"), MADE, 4 * MB),
 ]
 
 

@@ -420,13 +420,17 @@ def binary(made):
     return lambda size: {"bin": made(size)}
 
 
+def script(name, *words):
+    """A call of a script of contrib."""
+    return [sys.executable, CONTRIB / name, *words]
+
+
 MB = 1000000
 WHERE, MERGE = [PGO, "where", "bin", "401000"], [PGO, "merge", "1", "prof"]
 # Twice a ladder has twice as many ways from an edge to a want, and each is looked for among twice as many blocks.
 LADDER_GROWTH = 4.5
 BUILT, WITH_EDGES, SCALED = ([PGO, "build", *option, "bin", "perf", "cfg"] for option in ((), ("--edges",), ("--scaled",)))
 MERGED, BUILT_LADDER, MADE = rb"n[0-9a-f]{10}[A-Z]:0:1", b"# function ladder flow", b"prof: 3 functions; .*"
-script = lambda name, *words: [sys.executable, CONTRIB / name, *words]
 DRAWN, BY_MAP = script("draw", "--svg", "f", "built"), b"# Blocks of bin, by its map of basic blocks"
 FAMILIES = [
     Family("one long name", binary(one_long_name), WHERE, b"noline", MB),

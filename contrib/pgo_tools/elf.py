@@ -16,6 +16,8 @@ X86_64 = 62
 # An extended operation of few bytes with the number 4.
 DISCRIMINATOR = re.compile(rb"\x00[\x02-\x06]\x04")
 FAULTS = (struct.error, IndexError, ValueError, OverflowError, KeyError)
+# A binary that pgo reads has so many bytes at most (docs/LIMITS.md).
+LARGEST = 1 << 30
 # Names are read once each. Those that overlap, as suffixes do, have so many times the file's bytes at most.
 MOST_OVERLAP = 4
 # Notes are looked at up to this one, and no longer than these bytes: a table may name the same ones again and again.

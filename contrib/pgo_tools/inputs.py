@@ -13,12 +13,12 @@ from typing import NamedTuple
 from pgo_tools import branch_text, programs
 from pgo_tools.branch_text import LONGEST, PIECE
 from pgo_tools.cli import USAGE, WRITE_FAULT, Trouble
-from pgo_tools.elf import Elf
+from pgo_tools.elf import LARGEST, Elf
 from pgo_tools.files import PACKED, kind_by, kind_of, open_packed
 
 DEBUG_FOLDER = "/usr/lib/debug"
-# A branch text has at most so many bytes, and a program so many (docs/LIMITS.md).
-MOST_BYTES, MOST_OF_PROGRAM = 1 << 40, 1 << 30
+# A branch text has at most so many bytes (docs/LIMITS.md).
+MOST_BYTES = 1 << 40
 
 
 class Text(NamedTuple):
@@ -197,7 +197,7 @@ def decompressed(path, elf, folder):
     """The program with its debugging information unpacked, or None: also where pgo would take no program as large as that."""
     objcopy = programs.tool("objcopy", "llvm-objcopy", "eu-elfcompress")
     size = elf.unpacked_size()
-    if not objcopy or size > MOST_OF_PROGRAM:
+    if not objcopy or size > LARGEST:
         return None
     if size > room_in(folder):
         raise no_room(folder, f": {path} takes more than half of the room that is free once it is unpacked")

@@ -458,7 +458,8 @@ def put_out(tree, lasting=True):
             target.write(f"# build {whole.build}\n".encode() if whole.build else b"")
             # There is room for all of it: last night's manifest stays until then.
             target.flush()
-            os.fsync(target.fileno())
+            if lasting:
+                os.fsync(target.fileno())
             with contextlib.suppress(FileNotFoundError):
                 os.unlink(told.beside(tree.out))
     write_out(tree, whole, entries, left_out, lasting)

@@ -126,12 +126,12 @@ def write(tree):
         file.write((json.dumps({"form": FORM, **told}) + "\n").encode("ascii"))
 
 
-def is_sound(tree):
+def is_of_its_kind(tree):
     """What stands in a description is of its kind, and makes levels that end."""
     texts = [tree.out, tree.id, tree.choices.build, *tree.choices.fetch, *(name for name, _ in tree.files)]
     numbers = [tree.width, *(weight for _, weight in tree.files)]
-    is_of_kind = all(isinstance(each, str) and "\0" not in each for each in texts) and all(type(each) is int for each in numbers)
-    return is_of_kind and tree.width > 1 and bool(tree.files)
+    are_texts = all(isinstance(each, str) and "\0" not in each for each in texts)
+    return are_texts and all(type(each) is int for each in numbers) and tree.width > 1 and bool(tree.files)
 
 
 def read(folder):
@@ -144,7 +144,7 @@ def read(folder):
             raise ValueError
         choices, files = Choices(**told.pop("choices")), [File(*pair) for pair in told.pop("files")]
         made = Tree(choices=choices, files=files, **{**told, "folder": os.path.abspath(folder)})
-        if not is_sound(made):
+        if not is_of_its_kind(made):
             raise ValueError
         return made
     except FileNotFoundError:

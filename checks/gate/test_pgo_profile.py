@@ -225,14 +225,16 @@ class Forms(Profiles):
         self.tells(self.with_room(1 << 20, "packed", TEXT), 0, "^$")
 
     def test_a_program_that_would_be_too_large_is_not_unpacked(self):
-        """A section says that it is packed, and makes the program as large as pgo takes it, or larger. A stand-in for objcopy tells its calls."""
+        """A section says that it is packed, and makes the program as large as pgo takes it, or larger: without what was packed. A stand-in
+        for objcopy tells its calls."""
         os.mkdir(self.folder / "bin")
         self.file("bin/objcopy", f"#!/bin/sh\necho called >>'{self.folder}/calls'\nexit 1\n").chmod(0o755)
         data = bytearray(WORDS.read_bytes())
         section = DEMO.section(".debug_info")
         header = data.index(struct.pack("<QQ", section.offset, section.size), struct.unpack_from("<Q", data, 40)[0]) - 24
         data[header + 9] |= 8
-        for size, calls in (((1 << 30) - len(data), True), ((1 << 30) - len(data) + 1, False)):
+        left = (1 << 30) - len(data) + section.size
+        for size, calls in ((left, True), (left + 1, False)):
             struct.pack_into("<IIQ", data, section.offset, 1, 0, size)
             ran = self.with_room(1 << 40, self.file("large", data), TEXT, environment={"PATH": f"{self.folder}/bin:{os.environ['PATH']}"})
             self.tells(ran, 4, "Compressed .*large")

@@ -117,13 +117,17 @@ class Elf:
 
     def unpacked_size(self):
         """How many bytes the file has once its sections are unpacked, by the sizes that stand in front of what is packed."""
-        size = len(self.data)
+        packed = size = 0
         for each in self.sections:
             if each.flags & COMPRESSED:
                 size += int.from_bytes(self.data[each.offset + 8 : each.offset + 16], "little")
             elif each.name.startswith(".zdebug_"):
                 size += int.from_bytes(self.data[each.offset + 4 : each.offset + 12], "big")
-        return size
+            else:
+                continue
+            packed += each.size
+        # What was packed goes; where headers name the same bytes again and again, no more than all.
+        return size + max(0, len(self.data) - packed)
 
     def is_position_independent(self):
         """The program runs at other addresses than its file says: load lines tell which."""

@@ -437,6 +437,17 @@ class Names(Profiles):
         return program, line, text
 
     @needs("objdump", "cc")
+    def test_one_program_twice(self):
+        """One name is given and the other one found, or own addresses are those of the load line. Two names are two loads."""
+        program, line, text = self.independent()
+        loads = [line % ("08:02 5 0", name) for name in ("/srv/app/program", "/srv/old/program")]
+        one, two = self.file("one", loads[0] + text).name, self.file("two", "".join(loads) + text).name
+        fixed = self.file("fixed", load_line("/srv/app/words") + TEXT.read_text()).name
+        self.judge(2, "--also=program is .* once more, and would count twice", "--map=/srv/app/program", "--also=program", program, one)
+        self.judge(2, "--also=.* is .* once more, and would count twice", "--map=/srv/app/words", f"--also={WORDS}", WORDS, fixed)
+        self.judge(0, "no branch is of /srv/app/program, though", "--map=/srv/app/program", "--map=/srv/old/program", "--also=program", program, two)
+
+    @needs("objdump", "cc")
     def test_found(self):
         program, line, text = self.independent()
         number = re.search(r"Build ID: ([0-9a-f]+)", self.run_here("readelf", "-n", program).out.decode())

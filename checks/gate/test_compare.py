@@ -2,7 +2,7 @@
 import gzip
 import unittest
 
-from common import CONTRIB, DONE, FAILED, BAD_WORDS, MISSING, REFUSED, READ_FAULT, Case, needs_file, into_closed_pipe, on_closed_output, WRITE_FAULT
+from common import CONTRIB, DONE, FAILED, BAD_WORDS, MISSING, REFUSED, READ_FAULT, Case, needs_file, into_closed_pipe, on_closed_output, python, WRITE_FAULT
 
 COMPARE = CONTRIB / "compare"
 
@@ -90,6 +90,11 @@ class Compare(Case):
         ran = self.compare("old", "odd")
         self.assertEqual(ran.status, DONE)
         self.assertIn(b"\\xe2\\x80\\xae", ran.out)
+
+    def test_a_system_without_its_devices(self):
+        """As in a root folder of little more than the script. A stand-in names a device that is not there."""
+        calls = "import os, runpy, sys; os.devnull = 'none'; del sys.argv[0]; runpy.run_path(sys.argv[0], run_name='__main__')"
+        self.expect(python("-c", calls, COMPARE, "old", "old", folder=self.folder), DONE, self.compare("old", "old").out)
 
     @needs_file("/dev/full")
     def test_outputs(self):

@@ -132,10 +132,11 @@ def ended(main, argv):
 
 
 def hold_streams():
-    """Has the numbers of streams that the caller closed taken, so that no file that is opened gets one."""
-    while (handle := os.open(os.devnull, os.O_RDWR)) <= 2:
-        pass
-    os.close(handle)
+    """Has the numbers of streams that the caller closed taken, so that no file that is opened gets one; where there is /dev/null."""
+    with contextlib.suppress(OSError):
+        while (handle := os.open(os.devnull, os.O_RDWR)) <= 2:
+            pass
+        os.close(handle)
 
 
 def run(main, argv=None):

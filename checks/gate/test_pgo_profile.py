@@ -10,7 +10,7 @@ import struct
 import subprocess
 import unittest
 
-from common import COLD, CONTRIB, PGO, TEXT, TOP, WORDS, Case, needs, on_closed_output, python, run, terminated
+from common import COLD, CONTRIB, PGO, TEXT, TOP, WORDS, Case, into_closed_pipe, needs, on_closed_output, python, run, terminated
 
 from growing import DEMO, demo_with
 from make import STRING, abbreviation
@@ -112,6 +112,10 @@ class Demo(Profiles):
     def test_a_closed_output(self):
         ran = on_closed_output(SCRIPT, WORDS, TEXT, "prof", folder=self.folder)
         self.tells(ran, 6, "^pgo-profile: output: it is closed$")
+        self.assertEqual(self.names(), ["prof"])
+
+    def test_a_closed_pipe_is_quiet(self):
+        self.expect(into_closed_pipe(SCRIPT, WORDS, TEXT, "prof", folder=self.folder), 6)
         self.assertEqual(self.names(), ["prof"])
 
     def test_a_signal(self):

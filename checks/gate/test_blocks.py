@@ -319,15 +319,15 @@ class Exceptions(Case):
             self.pads(100, 64)
 
     def test_calls_with_too_many_pads(self):
+        """A function has no more of them than bytes, however large the file is."""
         code = Code.__new__(Code)
-        code.program, code.pads = SimpleNamespace(data=bytes(100)), [(0x10, 0x20, 0x30 + k) for k in range(4)]
+        code.program, code.pads = SimpleNamespace(data=bytes(1000)), [(0x10, 0x20, 0x30 + k) for k in range(4)]
         code.pad_starts = [it[0] for it in code.pads]
         rows = [(0x10 + k, 0x11 + k, CALL, 0) for k in range(16)]
-        found = code.pads_of([(0x10, 0x40)], rows)
+        found = code.pads_of([(0x10, 0x50)], rows)
         self.assertEqual(found, {row[0]: [0x30, 0x31, 0x32, 0x33] for row in rows})
-        code.program.data = bytes(60)
         with self.assertRaisesRegex(Refused, "tables of exceptions are damaged: they overlap"):
-            code.pads_of([(0x10, 0x40)], rows)
+            code.pads_of([(0x10, 0x4F)], rows)
 
 
 @needs("objdump")

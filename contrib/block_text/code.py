@@ -115,8 +115,8 @@ class Code:
         return unit
 
     def pads_of(self, ranges, rows):
-        """The landing pads of each call."""
-        found, left = {}, len(self.program.data)
+        """The landing pads of each call. Frames that share no bytes have one for a call at most."""
+        found, left = {}, sum(high - low for low, high in ranges)
         calls = sorted(row[0] for row in rows if row[2] == CALL) if self.pads else []
         for low, high in ranges:
             first, last = bisect.bisect_left(self.pad_starts, low), bisect.bisect_left(self.pad_starts, high)

@@ -179,11 +179,15 @@ class Forms(Profiles):
 
     def test_a_recording_of_another_user(self):
         """A stand-in for perf says what perf says of such a file, and the remedy has the option that it asks for."""
-        os.mkdir(self.folder / "bin")
         said = "File perf.data not owned by current user or root (use -f to override)"
-        self.file("bin/perf", f"#!/bin/sh\necho '{said}' >&2\nexit 255\n").chmod(0o755)
         self.judge(4, "it is a recording: perf script -f -i 'perf data' -F ip,brstack", WORDS, self.file("perf data", b"PERFILE2").name,
-                   environment={"PATH": f"{self.folder}/bin:{os.environ['PATH']}"})
+                   environment=self.with_perf(f"echo '{said}' >&2\nexit 255"))
+
+    def with_perf(self, script):
+        """The environment in which this stands for perf."""
+        os.makedirs(self.folder / "bin", exist_ok=True)
+        self.file("bin/perf", f"#!/bin/sh\n{script}\n").chmod(0o755)
+        return {"PATH": f"{self.folder}/bin:{os.environ['PATH']}"}
 
     def test_a_name_that_is_no_text(self):
         name = self.folder / os.fsdecode(b"\xff.txt")
@@ -193,12 +197,10 @@ class Forms(Profiles):
     def test_the_numbers_of_builds_that_a_recording_has(self):
         """A stand-in for perf prints the demo's text with a load line, and says of which build the file was."""
         number = re.search(r"# build (.*)", self.run_here(SCRIPT, WORDS, TEXT, "made.prof") and (self.folder / "made.prof").read_text())[1]
-        os.mkdir(self.folder / "bin")
         self.file("text", load_line("/srv/app/words") + TEXT.read_text())
         for build, status, said in ((number, 0, ""), ("0123456789", 1, "the build 0123456789 ran, and .*words is ")):
-            stand_in = self.file("bin/perf", f'#!/bin/sh\ncase $1 in script) cat "{self.folder}/text" ;; *) echo {build} /srv/app/words ;; esac\n')
-            stand_in.chmod(0o755)
-            self.judge(status, said, WORDS, self.file("perf.data", b"PERFILE2"), environment={"PATH": f"{self.folder}/bin:{os.environ['PATH']}"})
+            perf = self.with_perf(f'case $1 in script) cat "{self.folder}/text" ;; *) echo {build} /srv/app/words ;; esac')
+            self.judge(status, said, WORDS, self.file("perf.data", b"PERFILE2"), environment=perf)
 
     def test_samples_of_a_text_are_not_chosen(self):
         self.judge(2, "--pid=7: .*words.txt is no recording", "--pid=7", WORDS, TEXT)
@@ -220,6 +222,15 @@ class Forms(Profiles):
         for room, status in ((TEXT.stat().st_size * 2 - 2, 6), (TEXT.stat().st_size * 2, 0)):
             ran = self.with_room(room, WORDS, text)
             self.tells(ran, status, "write fault in .*text.gz takes more than half of the room that is free.*TMPDIR" if status else "^$")
+
+    def test_half_of_the_room_is_left_by_a_recording(self):
+        """A stand-in for perf prints lines without an end, and one line, of which no more is taken than what pgo refuses."""
+        recording = self.file("perf.data", b"PERFILE2")
+        for prints, status, said in (("yes '#'", 6, "write fault in .*perf.data takes more than half of the room that is free.*TMPDIR"),
+                                     ("tr '\\0' x </dev/zero", 4, r"refused: file 2 at 1: LineTooLong \(.*perf.data\)")):
+            with self.subTest(prints):
+                ran = self.with_room(1 << 23, WORDS, recording, environment=self.with_perf(f"case $1 in script) exec {prints} ;; esac"), prepare=lambda: limit_files(1 << 24))
+                self.tells(ran, status, said)
 
     @needs("objcopy")
     def test_half_of_the_room_is_left_by_a_program(self):

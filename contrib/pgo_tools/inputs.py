@@ -6,7 +6,9 @@ import functools
 import os
 import re
 import shutil
+import signal
 import stat
+import subprocess
 import zlib
 from typing import NamedTuple
 
@@ -15,6 +17,7 @@ from pgo_tools.branch_text import LONGEST, PIECE
 from pgo_tools.cli import USAGE, WRITE_FAULT, Trouble
 from pgo_tools.elf import LARGEST, Elf
 from pgo_tools.files import PACKED, kind_by, kind_of, open_packed
+from pgo_tools.names import text_of
 
 DEBUG_FOLDER = "/usr/lib/debug"
 # A branch text has at most so many bytes (docs/LIMITS.md).
@@ -72,7 +75,7 @@ def text_in(name, folder, asked):
     path = programs.as_file(name)
     kind = kind_of(path)
     if kind in PACKED or is_stream(path):
-        path = copied(path, f"{folder}/text")
+        path = copy_of(path, f"{folder}/text")
         kind = kind_of(path)
     if kind == "recording":
         return printed(name, path, folder, asked)
@@ -111,12 +114,12 @@ def pieces(source, path):
         raise OSError(reason.errno, reason.strerror, path) from None
 
 
-def copied(path, copy):
-    """The content of a file or a pipe, unpacked, as a file. A text ends where pgo refuses it in any case: a packed one may have no end."""
+def copied(source, path, copy):
+    """The content of a stream, that of a file of this name, as a file. A text ends where pgo refuses it in any case: a packed one may have no end."""
     folder = os.path.dirname(copy)
     room, size, is_text, begun = room_in(folder), 0, False, 0
     try:
-        with open_packed(path) as source, open(copy, "wb") as target:
+        with open(copy, "wb") as target:
             for piece in pieces(source, path):
                 is_text = is_text if size else kind_by(piece) != "recording"
                 size += len(piece)
@@ -133,17 +136,25 @@ def copied(path, copy):
     return copy
 
 
+def copy_of(path, copy):
+    """The content of a file or a pipe, unpacked, as a file."""
+    with open_packed(path) as source:
+        return copied(source, path, copy)
+
+
 def printed(name, path, folder, asked):
     """A recording as perf script prints it, where perf is there and can."""
     perf = programs.tool("perf")
     if not perf:
         return Text(name, path, "there is no perf here to print it")
-    copy = f"{folder}/printed"
-    with open(copy, "wb") as target:
-        words = [perf, "script", "-i", os.path.abspath(path), "--show-mmap-events", "-F", "ip,brstack", *asked]
-        status, _, said = programs.call(words, stdout=target)
-    if status:
-        return Text(name, path, "perf script says: " + (said.split("\n") or [""])[-1])
+    words = [perf, "script", "-i", os.path.abspath(path), "--show-mmap-events", "-F", "ip,brstack", *asked]
+    with open(f"{folder}/said", "w+b") as said:
+        with programs.running(words, stdin=subprocess.DEVNULL, stdout=subprocess.PIPE, stderr=said) as process:
+            copy = copied(process.stdout, name, f"{folder}/printed")
+        # It ends by SIGPIPE where no more of its text is taken.
+        if process.returncode not in (0, -signal.SIGPIPE):
+            said.seek(0)
+            return Text(name, path, "perf script says: " + text_of(said.read()).strip().split("\n")[-1])
     told = programs.answer(perf, "buildid-list", "-i", os.path.abspath(path))
     builds = re.findall(r"^([0-9a-f]{8,}) (/.*)$", told, re.MULTILINE)
     return Text(name, copy, "", tuple((each, number) for number, each in builds), tuple(asked))

@@ -126,6 +126,10 @@ class Sums(Tree):
         self.expect(self.merge("-o", "out", "--", os.fsdecode(odd), "-dash", "3 small"), DONE)
         self.assertEqual((self.folder / "out").read_bytes(), whole)
 
+    def test_a_name_of_blanks(self):
+        self.file(" ", profile(9))
+        self.expect(self.merge("-0", given=b" \0p/0\0\0"), DONE, self.sum_of([" ", "p/0"]))
+
     def test_weights_of_a_list(self):
         self.expect(self.merge(given=b"3\tp/0\n1\tp/1\np/2\n65535\tp/3\n"), DONE, self.expected((3, "p/0"), (1, "p/1"), (1, "p/2"), (65535, "p/3")))
         for weight in ("0", "65536", "99999999999"):

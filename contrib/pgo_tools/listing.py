@@ -33,7 +33,8 @@ def from_input(zeros):
     text = os.fsdecode(given().read())
     if not zeros and "\0" in text:
         raise Trouble("the list has NULs", USAGE, "-0, for names as find -print0 prints them")
-    return [weighed(line) for line in text.split("\0" if zeros else "\n") if line.strip()]
+    # A line of blanks is no name, but of names that end with a NUL it may be one.
+    return [weighed(line) for line in text.split("\0" if zeros else "\n") if (line if zeros else line.strip())]
 
 
 def fetchable(files):

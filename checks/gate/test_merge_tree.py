@@ -300,6 +300,13 @@ class Refusals(Tree):
                 self.tells(self.merge(*words), BAD_WORDS, "is the folder of the tree, and has files that go in or come out")
         self.assertEqual(self.names("months.tree"), ["1.0.prof", "lock", "tree"])
 
+    def test_a_folder_of_the_tree_that_is_the_sum(self):
+        (self.folder / "link").symlink_to("out")
+        for name in ("out", "out.manifest", "p/../out", "link"):
+            with self.subTest(name):
+                self.tells(self.merge(f"--plan={name}", "-o", "out", *self.files), BAD_WORDS, "is the folder of the tree, and has files that go in or come out")
+        self.assertEqual(self.names(), ["link", "p"])
+
     def test_a_manifest_that_is_another_file(self):
         self.file("a.manifest", profile(1))
         self.tells(self.merge("-o", "a", "a.manifest", "p/0"), BAD_WORDS, "a.manifest is listed to be merged, too")

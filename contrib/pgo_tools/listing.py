@@ -113,8 +113,9 @@ def check_out(files, out):
 
 
 def check_folder(files, out, folder):
-    """Refuses a tree in whose own folder a file is listed, or the sum is to stand: what is there comes and goes with the tree."""
+    """Refuses a tree whose own folder is to be the sum, or has it, or a file that is listed: what is there comes and goes with the tree."""
     inside = os.path.join(os.path.realpath(folder), "")
-    for above in {os.path.dirname(name) for name in [os.path.abspath(out), *(name for name, _ in files)]}:
-        if os.path.join(os.path.realpath(above), "").startswith(inside):
+    above = {os.path.dirname(name) for name in [os.path.abspath(out), *(name for name, _ in files)]}
+    for place in [out, manifest.beside(out), *above]:
+        if os.path.join(os.path.realpath(place), "").startswith(inside):
             raise Trouble(f"{folder} is the folder of the tree, and has files that go in or come out", USAGE, "a folder of its own for the tree")

@@ -584,11 +584,26 @@ class Steps(Tree):
         self.plan()
         path = self.folder / "tree/tree"
         told = json.loads(path.read_text())
-        changes = [{"width": 1}, {"width": 0}, {"width": "4"}, {"files": []}, {"files": [["p/0", "1"]]}, {"files": [[7, 1]]}, {"out": "a\0b"}, {"id": None}]
+        changes = [{"width": 1}, {"width": 0}, {"width": "4"}, {"files": []}, {"files": [["p/0", "1"]]}, {"files": [[7, 1]]}, {"out": "a\0b"}, {"id": None},
+                   {"out": "\ud800"}, {"files": [["\ud800", 1]]}, *({"choices": {**told["choices"], "skip_bad": bad}} for bad in ("1", -1, 101))]
         for damaged in [*(json.dumps({**told, **change}) for change in changes), "[" * 200000]:
             with self.subTest(damaged[-60:]):
                 path.write_text(damaged)
                 self.tells(self.merge("--run", "tree", limit=20), FAILED, "tree/tree describes no tree")
+
+    def test_damaged_manifests(self):
+        """What is of another kind than what merge-tree writes is no manifest: its part is made anew."""
+        self.make("2.0", "2.1", "3.0")
+        (self.folder / "out").unlink()
+        held = {name: (self.folder / "tree" / name).read_text() for name in ("1.0.manifest", "3.0.manifest")}
+        for name, change in (("1.0.manifest", {"files": [{"total": "1"}]}), ("1.0.manifest", {"files": [{"weight": None}]}), ("1.0.manifest", {"merged": "4"}),
+                             ("3.0.manifest", {"build": "\ud800"}), ("3.0.manifest", {"total": []})):
+            with self.subTest(name=name, change=change):
+                told = json.loads(held[name])
+                files = [{**entry, **change["files"][0]} for entry in told["files"]] if "files" in change else told.get("files", [])
+                self.file(f"tree/{name}", json.dumps({**told, **change, "files": files}))
+                self.expect(self.merge("--run", "tree", limit=20), DONE)
+                self.assertEqual((self.folder / "out").read_bytes(), self.whole)
 
     def test_a_nested_manifest(self):
         self.plan()

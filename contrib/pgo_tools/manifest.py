@@ -12,7 +12,7 @@ from typing import List, NamedTuple, Optional
 from pgo_tools import profile_text
 from pgo_tools.cli import FAILED, USAGE, Trouble
 from pgo_tools.files import MOST_TEXT, opened, put_in_place
-from pgo_tools.names import printable
+from pgo_tools.names import printable, raw_of
 from pgo_tools.numbers import decimal
 
 FORM = "merge-tree 1"
@@ -180,6 +180,16 @@ def write(path, manifest, more=(), lasting=True):
         file.write(("{\n" + ",\n".join(said) + "\n}\n").encode("ascii"))
 
 
+def checked(told):
+    """A manifest or an entry as it is; a TypeError or a ValueError where a field holds what merge-tree writes nowhere."""
+    for value, kind in zip(told, type(told).__annotations__.values()):
+        if isinstance(kind, type) and type(value) is not kind:
+            raise TypeError
+        if kind is str:
+            raw_of(value)
+    return told
+
+
 def read(path) -> Optional[Manifest]:
     """The manifest at a path; None where there is none, or what stands there is none that was written to its end."""
     try:
@@ -188,8 +198,8 @@ def read(path) -> Optional[Manifest]:
         if told.get("form") != FORM:
             return None
         kinds = {"files": Entry, "parts": Below, "left_out": LeftOut}
-        lists = {key: [kind(**entry) for entry in told.get(key, [])] for key, kind in kinds.items()}
-        return Manifest(**{key: told[key] for key in Manifest._fields if key not in kinds}, **lists)
+        lists = {key: [checked(kind(**entry)) for entry in told.get(key, [])] for key, kind in kinds.items()}
+        return checked(Manifest(**{key: told[key] for key in Manifest._fields if key not in kinds}, **lists))
     except (FileNotFoundError, ValueError, TypeError, KeyError, AttributeError, RecursionError):
         return None
 

@@ -16,7 +16,7 @@ from pgo_tools import profile_text
 from pgo_tools.children import call
 from pgo_tools.cli import DONE, FAILED, NO_FILE, NO_MEMORY, NO_PROGRAM, READ_FAULT, REFUSED, WRITE_FAULT, Trouble, say
 from pgo_tools.files import MOST_TEXT, opened, put_in_place, scratch_folder, target_of
-from pgo_tools.names import text_of
+from pgo_tools.names import raw_of, text_of
 
 MERGED_AT_ONCE = 8
 ANY = "any"
@@ -455,7 +455,7 @@ def put_out(tree, lasting=True):
         with put_in_place(tree.out, lasting=lasting) as target:
             if told.differs(told.facts_of(text, target), whole):
                 raise Trouble(f"{tree.text(tree.last())} changed while it was read", FAILED)
-            target.write(f"# build {whole.build}\n".encode() if whole.build else b"")
+            target.write(raw_of(f"# build {whole.build}\n") if whole.build else b"")
             # There is room for all of it: last night's manifest stays until then.
             target.flush()
             if lasting:

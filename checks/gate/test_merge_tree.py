@@ -689,6 +689,38 @@ class Resumed(Tree):
             path.write_bytes(path.read_bytes()[:-10])
         self.resumed(100)
 
+    def test_what_comes_into_the_folder_meanwhile(self):
+        ran = self.merge("-o", "out", "-j1", "--part-size=2", *self.files, environment=self.pgo_that(f"echo kept >'{self.folder}/out.tree/mine'"))
+        self.expect(ran, DONE)
+        self.assertEqual(self.names("out.tree"), ["mine"])
+        self.assertEqual((self.folder / "out").read_bytes(), self.sum_of(self.files))
+
+    def when(self, *lines_of_it):
+        """A call in a process where something is done between two of its steps, as another call would."""
+        started = "import fcntl, os, runpy, shutil, sys\nsys.argv[0] = sys.argv[1]\nmain = runpy.run_path(sys.argv[1])['main']\nfrom pgo_tools import cli\n"
+        script = self.file("when.py", "\n".join([started, *lines_of_it, "os._exit(cli.ended(main, sys.argv[2:]))", ""]))
+        return python(script, TREE, "-j1", "-o", "out", *self.files[:3], folder=self.folder, environment={"PGO": PGO})
+
+    def test_a_tree_that_another_takes_away_and_a_third_makes(self):
+        """The lock that was opened is then none of the tree's."""
+        ran = self.when("real = fcntl.flock", "def lock(*words):", "    shutil.rmtree('out.tree')", "    os.mkdir('out.tree')",
+                        "    open('out.tree/lock', 'w').close()", "    open('out.tree/1.0.prof', 'w').close()", "    real(*words)", "fcntl.flock = lock")
+        self.tells(ran, FAILED, "another merge-tree is at work in .*out.tree")
+        self.assertEqual(self.names("out.tree"), ["1.0.prof", "lock"])
+        self.nothing_out()
+
+    def test_a_tree_that_another_takes_away(self):
+        ran = self.when("real = os.open", "def opened(path, *words, **how):", "    if str(path).endswith('/lock'):", "        os.rmdir('out.tree')",
+                        "    return real(path, *words, **how)", "os.open = opened")
+        self.tells(ran, FAILED, "another merge-tree is at work in .*out.tree")
+
+    def test_a_tree_that_another_begins_where_this_one_ends(self):
+        ran = self.when("real = os.unlink", "def gone(path, **how):", "    real(path, **how)", "    if os.path.basename(path) == 'lock':",
+                        "        open('out.tree/lock', 'w').close()", "os.unlink = gone")
+        self.tells(ran, DONE, "^$")
+        self.assertEqual((self.folder / "out").read_bytes(), self.sum_of(self.files[:3]))
+        self.assertEqual(self.names("out.tree"), ["lock"])
+
     def test_two_at_once(self):
         wait = self.pgo_that(f"while [ ! -e '{self.folder}/go' ]; do sleep 0.02; done")
         first = subprocess.Popen([TREE, "-o", "out", *self.files], cwd=self.folder, env={**os.environ, **wait}, stderr=subprocess.PIPE)

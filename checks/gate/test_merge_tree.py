@@ -983,6 +983,27 @@ class Changing(Tree):
         self.nothing_out()
 
 
+# Runs merge-tree, whose part is told to end once the command that it started has started another one, before it knows its number.
+WHILE_STARTED = """
+import os, runpy, signal, subprocess, sys, time
+sys.argv[0] = sys.argv[1]
+main = runpy.run_path(sys.argv[1])["main"]
+from pgo_tools import cli
+real = subprocess.Popen
+
+def begun(*words, **how):
+    started = real(*words, **how)
+    while not os.path.exists("sleeps") or not os.path.getsize("sleeps"):
+        time.sleep(0.01)
+    os.kill(os.getpid(), signal.SIGTERM)
+    return started
+
+subprocess.Popen = begun
+cli.hear()
+os._exit(cli.ended(main, sys.argv[2:]))
+"""
+
+
 class Fetched(Tree):
     """Files that a command brings."""
 
@@ -1024,13 +1045,24 @@ class Fetched(Tree):
         fetch = self.script("get", f"sleep 600 & echo $! >'{self.folder}/sleeps'", "wait")
         ran = terminated(TREE, fetch, "-o", "out", "p/0", folder=self.folder, until=lambda: (self.folder / "sleeps").exists() and (self.folder / "sleeps").read_text())
         self.assertEqual(ran.status, 128 + signal.SIGTERM)
-        pid = int((self.folder / "sleeps").read_text())
+        self.assertTrue(self.ends(int((self.folder / "sleeps").read_text())), "it goes on")
+
+    def test_a_signal_while_it_is_started(self):
+        """It comes between the command's first steps and those of the process that waits for it."""
+        fetch = self.script("get", f"sleep 40 & echo $! >'{self.folder}/sleeps'", "wait")
+        script = self.file("when.py", WHILE_STARTED)
+        ran = python(script, TREE, fetch, "-o", "out", "p/0", folder=self.folder, limit=20, environment={"PGO": PGO})
+        self.tells(ran, FAILED, "part 1.0 was ended before its end")
+        self.assertTrue(self.ends(int((self.folder / "sleeps").read_text())), "it goes on")
+
+    def ends(self, pid):
+        """A process ends soon; one that does not is ended."""
         for _ in range(100):
             if not os.path.exists(f"/proc/{pid}") or " Z " in pathlib.Path(f"/proc/{pid}/stat").read_text():
-                return
+                return True
             time.sleep(0.05)
         os.kill(pid, signal.SIGKILL)
-        self.fail("it goes on")
+        return False
 
     def test_a_copy_that_fails(self):
         self.tells(self.merge("--fetch=cp", *self.files, "gone"), READ_FAULT, "gone: read fault: cp ended with 1: .*No such file")

@@ -5,6 +5,8 @@ import os
 import signal
 import subprocess
 
+from pgo_tools.cli import undisturbed
+
 PR_SET_PDEATHSIG = 1
 
 try:
@@ -24,15 +26,22 @@ def end_with(parent, number=signal.SIGKILL):
 
 def call(words, **how):
     """Runs a program that ends with this process: its status and its error output as bytes."""
-    parent = os.getpid()
-    with subprocess.Popen(
-        words, stdin=subprocess.DEVNULL, stderr=subprocess.PIPE, preexec_fn=lambda: end_with(parent), start_new_session=True, **how
-    ) as started:
-        try:
-            _, said = started.communicate()
-        except BaseException:
-            # What the program started itself ends with it.
+    parent, started = os.getpid(), None
+    try:
+        # A signal that comes while it is started is heard once it can be ended, too.
+        with undisturbed():
+            started = subprocess.Popen(
+                words, stdin=subprocess.DEVNULL, stderr=subprocess.PIPE, preexec_fn=lambda: end_with(parent), start_new_session=True, **how
+            )
+        _, said = started.communicate()
+    except BaseException:
+        # What the program started itself ends with it.
+        if started:
             with contextlib.suppress(ProcessLookupError):
                 os.killpg(started.pid, signal.SIGKILL)
-            raise
+        raise
+    finally:
+        if started:
+            with started:
+                pass
     return started.returncode, said

@@ -20,7 +20,7 @@ from typing import Callable, NamedTuple, Optional
 
 sys.dont_write_bytecode = True
 # A shell has what it starts behind it pass signals over, and so would all that is started here, which is to be tried with them.
-for each in (signal.SIGINT, signal.SIGHUP):
+for each in (signal.SIGINT, signal.SIGHUP, signal.SIGQUIT):
     if signal.getsignal(each) == signal.SIG_IGN:
         signal.signal(each, signal.default_int_handler if each == signal.SIGINT else signal.SIG_DFL)
 HERE = pathlib.Path(__file__).resolve().parent

@@ -207,7 +207,7 @@ class Objdump(Case):
     def test_it_ends_with_the_script(self):
         mark = self.folder / "pid"
         held = {**os.environ, **self.tool(f"echo $$ >{mark}; exec sleep 100")}
-        for by in (signal.SIGTERM, signal.SIGHUP, signal.SIGINT):
+        for by in (signal.SIGTERM, signal.SIGHUP, signal.SIGINT, signal.SIGQUIT):
             with self.subTest(by=by.name), subprocess.Popen([SCRIPT, WORDS], env=held, stderr=subprocess.PIPE) as script:
                 while not (mark.exists() and mark.read_text().strip()):
                     time.sleep(0.01)

@@ -76,9 +76,9 @@ class Engines(test_merge_tree.Tree):
             self.expect(self.merge(f"--plan={folder}", "-o", "out", *self.files), DONE)
             for name in engines:
                 self.tells(self.merge(f"--print={name}", folder), FAILED, f"{name} would take that name for more than a name")
-        folder = "%j$(x)%{y"
+        folder = "%j$$(x)%{y"
         self.expect(self.merge(f"--plan={folder}", "-o", "out", *self.files), DONE)
-        written = (("slurm", b"/%%j$(x)%%{y'/slurm-%A_%a.log"), ("kubernetes", b"/%j$$(x)%{y"), ("nomad", b"/%j$(x)%%{y"), ("make", b"/%j$$(x)%{y"))
+        written = (("slurm", b"/%%j$$(x)%%{y'/slurm-%A_%a.log"), ("kubernetes", b"/%j$$$$(x)%{y"), ("nomad", b"/%j$$(x)%%{y"), ("make", b"/%j$$$$(x)%{y"))
         for name, escaped in written:
             with self.subTest(name):
                 self.assertIn(escaped, self.merge(f"--print={name}", folder).out)

@@ -218,7 +218,7 @@ class Tools(Another):
         mark = self.folder / "pid"
         held = {**os.environ, **self.tool(f"echo $$ >{mark}; exec sleep 100")}
         words = [SCRIPT, f"--bin={WORDS}", PROFILE]
-        for by in (signal.SIGTERM, signal.SIGHUP, signal.SIGINT):
+        for by in (signal.SIGTERM, signal.SIGHUP, signal.SIGINT, signal.SIGQUIT):
             with self.subTest(by=by.name), subprocess.Popen(words, env=held, stderr=subprocess.PIPE) as script:
                 while not (mark.exists() and mark.read_text().strip()):
                     time.sleep(0.01)

@@ -342,6 +342,7 @@ class Refusals(Tree):
     def test_a_name_with_a_line_feed(self):
         name = "bad\nmerge-tree: all profiles are good"
         self.file(name, "no profile\n")
+        self.tells(self.merge("-o", "out", name, name), BAD_WORDS, r"^merge-tree: .*/bad.x0amerge-tree: all profiles are good is listed twice what helps: each file once")
         for words in (["-o", "out"], ["-o", "out", "--skip-bad=100"], ["-o", "out", "--plan=tree"], ["--part=1.0"]):
             ran = self.merge(*words, *(["tree"] if words == ["--part=1.0"] else ["p/0", name]))
             self.assertNotIn("\nmerge-tree: all", "\n" + ran.said, words)
@@ -585,7 +586,7 @@ class Steps(Tree):
         path = self.folder / "tree/tree"
         told = json.loads(path.read_text())
         changes = [{"width": 1}, {"width": 0}, {"width": "4"}, {"files": []}, {"files": [["p/0", "1"]]}, {"files": [[7, 1]]}, {"out": "a\0b"}, {"id": None},
-                   {"out": "\ud800"}, {"files": [["\ud800", 1]]}, *({"choices": {**told["choices"], "skip_bad": bad}} for bad in ("1", -1, 101))]
+                   {"out": "\ud800"}, {"files": [["\ud800", 1]]}, *({"choices": {**told["choices"], **bad}} for bad in ({"skip_bad": "1"}, {"skip_bad": -1}, {"skip_bad": 101}, {"fetch": "cp"}))]
         for damaged in [*(json.dumps({**told, **change}) for change in changes), "[" * 200000]:
             with self.subTest(damaged[-60:]):
                 path.write_text(damaged)
@@ -709,6 +710,11 @@ class Resumed(Tree):
         self.assertEqual(self.names("out.tree"), ["1.0.prof", "lock"])
         self.nothing_out()
 
+    def test_a_file_system_without_locks(self):
+        ran = self.when("import errno", "def lock(*words):", "    raise OSError(errno.ENOLCK, 'No locks available')", "fcntl.flock = lock")
+        self.tells(ran, WRITE_FAULT, "out.tree/lock cannot be locked .No locks available.")
+        self.nothing_out()
+
     def test_a_tree_that_another_takes_away(self):
         ran = self.when("real = os.open", "def opened(path, *words, **how):", "    if str(path).endswith('/lock'):", "        os.rmdir('out.tree')",
                         "    return real(path, *words, **how)", "os.open = opened")
@@ -801,7 +807,7 @@ class Ended(Tree):
             time.sleep(0.02)
 
     def test_signals(self):
-        for by in (signal.SIGTERM, signal.SIGINT, signal.SIGHUP, signal.SIGKILL):
+        for by in (signal.SIGTERM, signal.SIGINT, signal.SIGHUP, signal.SIGQUIT, signal.SIGKILL):
             with self.subTest(by.name):
                 (self.folder / "calls").unlink(missing_ok=True)
                 for name in ("out", "out.manifest"):
@@ -999,7 +1005,6 @@ def begun(*words, **how):
     return started
 
 subprocess.Popen = begun
-cli.hear()
 os._exit(cli.ended(main, sys.argv[2:]))
 """
 

@@ -14,6 +14,8 @@ from pgo_tools.names import printable
 # The statuses, as pgo's own (docs/FORMATS.md, "Statuses").
 DONE, FAILED, USAGE, NO_FILE, REFUSED, READ_FAULT, WRITE_FAULT, NO_MEMORY = range(8)
 NO_PROGRAM = 127
+# By these a script ends as by Ctrl-C: what it was at is undone, and what it started ends.
+HEARD = (signal.SIGINT, signal.SIGTERM, signal.SIGHUP, signal.SIGQUIT)
 
 
 class Trouble(Exception):
@@ -67,7 +69,7 @@ def given():
 
 def stop(number, _frame):
     """The handler of signals. Only the first one counts, so that nothing cuts the way out short."""
-    for each in (signal.SIGINT, signal.SIGTERM, signal.SIGHUP):
+    for each in HEARD:
         signal.signal(each, signal.SIG_IGN)
     raise Stopped(number)
 
@@ -76,7 +78,7 @@ def stop(number, _frame):
 def undisturbed():
     """A signal that comes within the block is heard behind it: what is begun there is then known, and what is ended there is gone."""
     late, is_main = [], threading.current_thread() is threading.main_thread()
-    heard = [each for each in (signal.SIGINT, signal.SIGTERM, signal.SIGHUP) if is_main and signal.getsignal(each) == stop]
+    heard = [each for each in HEARD if is_main and signal.getsignal(each) == stop]
     for each in heard:
         signal.signal(each, lambda number, _: late.append(number))
     try:
@@ -89,8 +91,8 @@ def undisturbed():
 
 
 def hear():
-    """Has SIGTERM and SIGHUP end the script as Ctrl-C does, but for what the caller has it pass over (nohup)."""
-    for each in (signal.SIGINT, signal.SIGTERM, signal.SIGHUP):
+    """Has signals end the script as Ctrl-C does, but for what the caller has it pass over (nohup)."""
+    for each in HEARD:
         if signal.getsignal(each) != signal.SIG_IGN:
             signal.signal(each, stop)
 
@@ -105,9 +107,19 @@ def fault(reason):
     return READ_FAULT, said
 
 
+def hold_streams():
+    """Has the numbers of streams that the caller closed taken, so that no file that is opened gets one; where there is /dev/null."""
+    with contextlib.suppress(OSError):
+        while (handle := os.open(os.devnull, os.O_RDWR)) <= 2:
+            pass
+        os.close(handle)
+
+
 def ended(main, argv):
     """The status of a script's main, whatever stops it."""
     try:
+        hear()
+        hold_streams()
         status = main(argv) or DONE
         if sys.stdout is not None:
             sys.stdout.flush()
@@ -131,18 +143,8 @@ def ended(main, argv):
         return status
 
 
-def hold_streams():
-    """Has the numbers of streams that the caller closed taken, so that no file that is opened gets one; where there is /dev/null."""
-    with contextlib.suppress(OSError):
-        while (handle := os.open(os.devnull, os.O_RDWR)) <= 2:
-            pass
-        os.close(handle)
-
-
 def run(main, argv=None):
     """Runs a script's main, and ends the process with its status. It never returns."""
-    hear()
-    hold_streams()
     status = ended(main, sys.argv[1:] if argv is None else argv)
     # What could not be written is not tried again when Python ends.
     for stream in (sys.stdout, sys.stderr):

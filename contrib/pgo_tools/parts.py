@@ -16,7 +16,7 @@ from pgo_tools import profile_text
 from pgo_tools.children import call
 from pgo_tools.cli import DONE, FAILED, NO_FILE, NO_MEMORY, NO_PROGRAM, READ_FAULT, REFUSED, WRITE_FAULT, Trouble, say
 from pgo_tools.files import MOST_TEXT, opened, put_in_place, scratch_folder, target_of
-from pgo_tools.names import raw_of, text_of
+from pgo_tools.names import printable, raw_of, text_of
 
 MERGED_AT_ONCE = 8
 ANY = "any"
@@ -103,7 +103,7 @@ def asked(tree, entry, scratch):
             source = source_of(entry.name, entry.weight, path)
     except OSError as reason:
         if reason.errno in OF_SYSTEM:
-            raise Trouble(f"{entry.name}: {reason.strerror}", NO_MEMORY, "fewer jobs at once (-j), smaller parts, ulimit -n") from None
+            raise Trouble(f"{printable(entry.name)}: {reason.strerror}", NO_MEMORY, "fewer jobs at once (-j), smaller parts, ulimit -n") from None
         missing = isinstance(reason, (FileNotFoundError, NotADirectoryError, PermissionError))
         why = (reason.strerror or str(reason)).lower() if missing else f"read fault: {reason.strerror}"
         return told.LeftOut(entry.name, entry.weight, why.replace("no such file or directory", "no such file"),
@@ -154,7 +154,7 @@ def at_fault(sources, status, said):
     # What was read here a moment ago is there: that pgo cannot open or read it is no fault of the file.
     if OF_SUMS in why or match[1] != "refused" or not isinstance(source, Source):
         name = f"{source.name} and those before it" if isinstance(source, Source) else f"the sum of {source.name}"
-        raise Trouble(f"{name}: {why}", status, "smaller weights" if OF_SUMS in why else "")
+        raise Trouble(f"{printable(name)}: {why}", status, "smaller weights" if OF_SUMS in why else "")
     return int(match[2]) - 1, why
 
 

@@ -10,11 +10,10 @@ from typing import List, NamedTuple
 
 from pgo_tools import parts
 from pgo_tools.children import end_with
-from pgo_tools.cli import FAILED, NO_FILE, READ_FAULT, REFUSED, Stopped, Trouble, fault, say
+from pgo_tools.cli import FAILED, HEARD, NO_FILE, READ_FAULT, REFUSED, Stopped, Trouble, fault, say
 
 # Behind these faults, which are those of files, the other parts are made all the same, so that each file is named.
 OF_FILES = (NO_FILE, REFUSED, READ_FAULT)
-HEARD = (signal.SIGINT, signal.SIGTERM, signal.SIGHUP)
 
 
 class Outcome(NamedTuple):

@@ -131,7 +131,7 @@ def is_of_its_kind(tree):
     texts = [tree.out, tree.id, tree.choices.build, *tree.choices.fetch, *(name for name, _ in tree.files)]
     numbers = [tree.width, *(weight for _, weight in tree.files)]
     # A text that cannot be one of the system's names is a UnicodeEncodeError, which is a ValueError.
-    are_texts = all(isinstance(each, str) and b"\0" not in os.fsencode(each) for each in texts)
+    are_texts = type(tree.choices.fetch) is list and all(isinstance(each, str) and b"\0" not in os.fsencode(each) for each in texts)
     skipped = tree.choices.skip_bad
     is_percent = skipped is None or type(skipped) in (int, float) and 0 <= skipped <= 100
     return are_texts and is_percent and all(type(each) is int for each in numbers) and tree.width > 1 and bool(tree.files)

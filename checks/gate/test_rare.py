@@ -76,14 +76,19 @@ class Touched(unittest.TestCase):
 
     def test_the_later_span_counts(self):
         drawn = random.Random(5)
-        for _ in range(300):
-            spans, held = Spans(), [None] * 40
-            for what in range(drawn.randint(1, 12)):
-                start, size = drawn.randrange(30), drawn.randrange(11)
-                spans.put(start, size, what)
-                held[start:start + size] = [what] * size
-            self.assertEqual([spans.at(number) for number in range(-1, 40)], [None] + held)
-            self.assertTrue(all(end <= start for end, start in zip(spans.ends, spans.starts[1:])))
+        for most in (Spans.MOST, 2, 3, 5):
+            for _ in range(100):
+                spans, held = Spans(), [None] * 70
+                spans.MOST = most
+                for what in range(drawn.randint(1, 40)):
+                    start, size = drawn.randrange(60), drawn.randrange(11)
+                    spans.put(start, size, what)
+                    held[start:start + size] = [what] * size
+                self.assertEqual([spans.at(number) for number in range(-1, 70)], [None] + held)
+                rows = [row for piece in spans.pieces for row in piece]
+                self.assertTrue(all(one[1] <= other[0] for one, other in zip(rows, rows[1:])))
+                self.assertEqual(spans.starts, [piece[0][0] for piece in spans.pieces])
+                self.assertTrue(all(len(piece) <= most for piece in spans.pieces))
 
 
 class Programs(Case):

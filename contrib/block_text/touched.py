@@ -9,28 +9,44 @@ NOWHERE = -1
 
 
 class Spans:
-    """Stretches of numbers, in order and apart from each other: where two met, the later one cut the other."""
+    """Stretches of numbers, in order and apart from each other: where two met, the later one cut the other.
+
+    Rows (start, end, what) stand in pieces of a hundred or so, so that one that is put between others moves few of them.
+    """
+
+    MOST = 128
 
     def __init__(self):
-        self.starts, self.ends, self.held = [], [], []
+        self.pieces, self.starts = [], []
 
     def put(self, start, size, what):
         """From `start` on so many numbers are of this one now."""
         end = start + size
         if start == end:
             return
-        first, last = bisect.bisect_right(self.ends, start), bisect.bisect_left(self.starts, end)
-        rows = [(start, end, what)]
-        if first < last and self.starts[first] < start:
-            rows.insert(0, (self.starts[first], start, self.held[first]))
-        if first < last and end < self.ends[last - 1]:
-            rows.append((end, self.ends[last - 1], self.held[last - 1]))
-        self.starts[first:last], self.ends[first:last], self.held[first:last] = zip(*rows)
+        low = max(0, bisect.bisect_right(self.starts, start) - 1)
+        high = max(low + 1, bisect.bisect_left(self.starts, end))
+        rows = [row for piece in self.pieces[low:high] for row in piece]
+        first, last = bisect.bisect_left(rows, (start,)), bisect.bisect_left(rows, (end,))
+        if first and start < rows[first - 1][1]:
+            first -= 1
+        cut = [(start, end, what)]
+        if first < last and rows[first][0] < start:
+            cut.insert(0, (rows[first][0], start, rows[first][2]))
+        if first < last and end < rows[last - 1][1]:
+            cut.append((end, *rows[last - 1][1:]))
+        rows[first:last] = cut
+        step = self.MOST // 2 if len(rows) > self.MOST else self.MOST
+        self.pieces[low:high] = [rows[at : at + step] for at in range(0, len(rows), step)]
+        self.starts[low:high] = [piece[0][0] for piece in self.pieces[low : low + -(-len(rows) // step)]]
 
     def at(self, number):
         """What the number is of, or None."""
         k = bisect.bisect_right(self.starts, number) - 1
-        return self.held[k] if k >= 0 and number < self.ends[k] else None
+        if k < 0:
+            return None
+        row = self.pieces[k][bisect.bisect_left(self.pieces[k], (number + 1,)) - 1]
+        return row[2] if number < row[1] else None
 
 
 class Places:

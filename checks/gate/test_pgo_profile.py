@@ -232,6 +232,15 @@ class Forms(Profiles):
                 ran = self.with_room(1 << 23, WORDS, recording, environment=self.with_perf(f"case $1 in script) exec {prints} ;; esac"), prepare=lambda: limit_files(1 << 24))
                 self.tells(ran, status, said)
 
+    def test_perf_that_is_ended_leaves_no_half_text(self):
+        """A stand-in for perf is ended by SIGPIPE with its text half printed, of which all was taken; by another it is an end of its own
+        where no more is taken."""
+        recording = self.file("perf.data", b"PERFILE2")
+        for prints, said in (("head -n 1 \"%s\"; kill -PIPE $$" % TEXT, "it is a recording: .*perf script says: nothing, and ends with -13$"),
+                             ("tr '\\0' x </dev/zero; exit 3", r"refused: file 2 at 1: LineTooLong \(.*perf.data\)")):
+            with self.subTest(prints):
+                self.judge(4, said, WORDS, recording, environment=self.with_perf(f"case $1 in script) {prints} ;; esac"))
+
     @needs("objcopy")
     def test_half_of_the_room_is_left_by_a_program(self):
         shutil.copy(WORDS, self.folder / "packed")

@@ -6,7 +6,6 @@ import functools
 import os
 import re
 import shutil
-import signal
 import stat
 import subprocess
 import zlib
@@ -115,7 +114,7 @@ def pieces(source, path):
 
 
 def copied(source, path, copy):
-    """The content of a stream, that of a file of this name, as a file. A text ends where pgo refuses it in any case: a packed one may have no end."""
+    """Copies a stream, that of a file of this name: whether to its end. A text ends where pgo refuses it in any case: a packed one may have no end."""
     folder = os.path.dirname(copy)
     room, size, is_text, begun = room_in(folder), 0, False, 0
     try:
@@ -128,18 +127,19 @@ def copied(source, path, copy):
                 target.write(piece)
                 begun = begun_line(piece, begun) if is_text else 0
                 if begun is None or size > MOST_BYTES:
-                    break
+                    return False
     except OSError as reason:
         if reason.filename not in (None, copy):
             raise
         raise no_room(folder) from None
-    return copy
+    return True
 
 
 def copy_of(path, copy):
     """The content of a file or a pipe, unpacked, as a file."""
     with open_packed(path) as source:
-        return copied(source, path, copy)
+        copied(source, path, copy)
+    return copy
 
 
 def printed(name, path, folder, asked):
@@ -148,13 +148,15 @@ def printed(name, path, folder, asked):
     if not perf:
         return Text(name, path, "there is no perf here to print it")
     words = [perf, "script", "-i", os.path.abspath(path), "--show-mmap-events", "-F", "ip,brstack", *asked]
+    copy = f"{folder}/printed"
     with open(f"{folder}/said", "w+b") as said:
         with programs.running(words, stdin=subprocess.DEVNULL, stdout=subprocess.PIPE, stderr=said) as process:
-            copy = copied(process.stdout, name, f"{folder}/printed")
-        # It ends by SIGPIPE where no more of its text is taken.
-        if process.returncode not in (0, -signal.SIGPIPE):
+            is_whole = copied(process.stdout, name, copy)
+        # Where no more of its text is taken it ends by SIGPIPE, or as a script around it makes of that: pgo refuses the text.
+        if is_whole and process.returncode:
             said.seek(0)
-            return Text(name, path, "perf script says: " + text_of(said.read()).strip().split("\n")[-1])
+            last = text_of(said.read()).strip().split("\n")[-1]
+            return Text(name, path, f"perf script says: {last or f'nothing, and ends with {process.returncode}'}")
     told = programs.answer(perf, "buildid-list", "-i", os.path.abspath(path))
     builds = re.findall(r"^([0-9a-f]{8,}) (/.*)$", told, re.MULTILINE)
     return Text(name, copy, "", tuple((each, number) for number, each in builds), tuple(asked))

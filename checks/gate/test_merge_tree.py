@@ -720,6 +720,18 @@ class Resumed(Tree):
                         "    return real(path, *words, **how)", "os.open = opened")
         self.tells(ran, FAILED, "another merge-tree is at work in .*out.tree")
 
+    def test_a_tree_that_another_takes_away_while_it_is_looked_at(self):
+        """It is gone in front of the look, or behind it; or its description is."""
+        gone, description = "shutil.rmtree('out.tree')", "os.unlink('out.tree/tree')"
+        at_start = ["real = os.path.islink", "def link(path):", "    os.path.islink = real", f"    {gone}", "    return real(path)", "os.path.islink = link"]
+        listing = ["real = os.scandir", "def listed(path):", "    os.scandir, found = real, list(real(path))", "    {}", "    return found", "os.scandir = listed"]
+        for lines, status, said in ((at_start, FAILED, "another merge-tree is at work in .*out.tree"),
+                                    ([each.format(gone) for each in listing], FAILED, "another merge-tree is at work in .*out.tree"),
+                                    ([each.format(description) for each in listing], DONE, "^$")):
+            with self.subTest(lines[3]):
+                self.expect(self.merge("--plan=out.tree", "-o", "out", *self.files[:3]), DONE)
+                self.tells(self.when(*lines), status, said)
+
     def test_a_tree_that_another_begins_where_this_one_ends(self):
         ran = self.when("real = os.unlink", "def gone(path, **how):", "    real(path, **how)", "    if os.path.basename(path) == 'lock':",
                         "        open('out.tree/lock', 'w').close()", "os.unlink = gone")

@@ -1,5 +1,11 @@
 """contrib/compare: how much alike two profiles are, what became hot or cold, and the bounds by which a farm keeps the old one."""
+import fcntl
 import gzip
+import signal
+import struct
+import subprocess
+import termios
+import time
 import unittest
 
 from common import CONTRIB, DONE, FAILED, BAD_WORDS, MISSING, REFUSED, READ_FAULT, Case, needs_file, into_closed_pipe, on_closed_output, python, WRITE_FAULT
@@ -95,6 +101,23 @@ class Compare(Case):
         """As in a root folder of little more than the script. A stand-in names a device that is not there."""
         calls = "import os, runpy, sys; os.devnull = 'none'; del sys.argv[0]; runpy.run_path(sys.argv[0], run_name='__main__')"
         self.expect(python("-c", calls, COMPARE, "old", "old", folder=self.folder), DONE, self.compare("old", "old").out)
+
+    def test_a_signal_while_it_says_what_is_wrong(self):
+        """Nobody reads the error output, which a long name fills."""
+        with subprocess.Popen([COMPARE, "x" * 100000, "old"], cwd=self.folder, stdout=subprocess.PIPE, stderr=subprocess.PIPE) as started:
+            end = time.monotonic() + 60
+            while self.held(started.stderr) < 1 << 16 and started.poll() is None and time.monotonic() < end:
+                time.sleep(0.01)
+            started.terminate()
+            try:
+                self.assertEqual(started.wait(timeout=20), 128 + signal.SIGTERM)
+            finally:
+                started.kill()
+            self.assertNotIn(b"Traceback", started.stderr.read())
+
+    def held(self, pipe):
+        """How many bytes wait in a pipe."""
+        return struct.unpack("i", fcntl.ioctl(pipe, termios.FIONREAD, bytes(4)))[0]
 
     @needs_file("/dev/full")
     def test_outputs(self):

@@ -115,11 +115,9 @@ def hold_streams():
         os.close(handle)
 
 
-def ended(main, argv):
-    """The status of a script's main, whatever stops it."""
+def told(main, argv):
+    """The status of a script's main, and what is said where it fails."""
     try:
-        hear()
-        hold_streams()
         status = main(argv) or DONE
         if sys.stdout is not None:
             sys.stdout.flush()
@@ -127,10 +125,6 @@ def ended(main, argv):
     except Trouble as reason:
         say(reason.what, reason.helps)
         return reason.status
-    except Stopped as reason:
-        return 128 + reason.number
-    except KeyboardInterrupt:
-        return 128 + signal.SIGINT
     except BrokenPipeError:
         # Who reads has had enough, and wants no message.
         return WRITE_FAULT
@@ -141,6 +135,18 @@ def ended(main, argv):
         status, said = fault(reason)
         say(said)
         return status
+
+
+def ended(main, argv):
+    """The status of a script's main, whatever stops it: a signal, too, that comes while a message waits for who reads it."""
+    try:
+        hear()
+        hold_streams()
+        return told(main, argv)
+    except Stopped as reason:
+        return 128 + reason.number
+    except KeyboardInterrupt:
+        return 128 + signal.SIGINT
 
 
 def run(main, argv=None):

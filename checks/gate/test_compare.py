@@ -102,6 +102,9 @@ class Compare(Case):
         calls = "import os, runpy, sys; os.devnull = 'none'; del sys.argv[0]; runpy.run_path(sys.argv[0], run_name='__main__')"
         self.expect(python("-c", calls, COMPARE, "old", "old", folder=self.folder), DONE, self.compare("old", "old").out)
 
+    def test_a_name_with_a_line_feed(self):
+        self.expect(self.compare("bad\ncompare: all is good", "old"), MISSING, b"", b"compare: bad\\x0acompare: all is good: No such file or directory\n")
+
     def test_a_signal_while_it_says_what_is_wrong(self):
         """Nobody reads the error output, which a long name fills."""
         with subprocess.Popen([COMPARE, "x" * 100000, "old"], cwd=self.folder, stdout=subprocess.PIPE, stderr=subprocess.PIPE) as started:

@@ -99,7 +99,7 @@ def hear():
 
 def fault(reason):
     """The status of a call of the system that failed, and what is said of it."""
-    said = f"{reason.filename if reason.filename is not None else 'output'}: {reason.strerror or reason}"
+    said = f"{printable(str(reason.filename)) if reason.filename is not None else 'output'}: {reason.strerror or reason}"
     if reason.errno in (errno.ENOENT, errno.ENOTDIR):
         return NO_FILE, said
     if reason.filename is None or reason.errno in (errno.ENOSPC, errno.EFBIG, errno.EDQUOT, errno.EROFS):

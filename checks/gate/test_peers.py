@@ -87,8 +87,8 @@ class Peers(Case):
             self.assertIn(f"- {line}", table)
 
     def test_solver(self):
-        """A stand-in for solver_bench, and none for a compiler."""
-        spin = f"{sys.executable} -c 'import time\nwhile time.process_time() < 0.0005 * '$3': pass'"
+        """A stand-in for solver_bench, which takes half a thousandth of a second each time beside what it takes to start; and none for a compiler."""
+        spin = f"{sys.executable} -c 'import time\nend = time.process_time() + 0.0005 * '$3'\nwhile time.process_time() < end: pass'"
         self.file("solver", f'#!/bin/sh\n{spin}\necho "$3 times solved, of cost 1"\n').chmod(0o755)
         self.file("bin/c++", "#!/bin/sh\necho no lemon >&2\nexit 1\n").chmod(0o755)
         table = self.table("--small", "--only=solver", "--solver=solver", PATH=f"{self.folder}/bin:{os.environ['PATH']}")

@@ -42,7 +42,7 @@ class Demo(Case):
         self.file("bin/mine", "#!/bin/sh\necho called >&2\nexit 9\n").chmod(0o755)
         for words in (["--clang=bin/mine"], ["--clang=mine"]):
             ran = self.run_here(DEMO, *words, environment={"PATH": f"bin:{os.environ['PATH']}"})
-            self.tells(ran, 1, "^demo: .*/bin/mine ended with 9 called$")
+            self.tells(ran, 1, "^demo: called demo: .*/bin/mine ended with 9$")
 
     def test_a_missing_program_is_named(self):
         self.tells(self.run_here(DEMO, "--clang=not-there"), NO_PROGRAM, "^demo: there is no ")

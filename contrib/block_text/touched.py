@@ -37,8 +37,8 @@ class Spans:
             cut.append((end, *rows[last - 1][1:]))
         rows[first:last] = cut
         step = self.MOST // 2 if len(rows) > self.MOST else self.MOST
-        self.pieces[low:high] = [rows[at : at + step] for at in range(0, len(rows), step)]
-        self.starts[low:high] = [piece[0][0] for piece in self.pieces[low : low + -(-len(rows) // step)]]
+        pieces = [rows[at : at + step] for at in range(0, len(rows), step)]
+        self.pieces[low:high], self.starts[low:high] = pieces, [piece[0][0] for piece in pieces]
 
     def at(self, number):
         """What the number is of, or None."""

@@ -5,7 +5,7 @@ import os
 import signal
 import subprocess
 
-from pgo_tools.cli import undisturbed
+from pgo_tools.programs import running
 
 PR_SET_PDEATHSIG = 1
 
@@ -24,24 +24,16 @@ def end_with(parent, number=signal.SIGKILL):
         os.kill(os.getpid(), number)
 
 
+def end_all(process):
+    """Ends a program that has a session of its own, and what it started itself."""
+    with contextlib.suppress(ProcessLookupError):
+        os.killpg(process.pid, signal.SIGKILL)
+
+
 def call(words, **how):
     """Runs a program that ends with this process: its status and its error output as bytes."""
-    parent, started = os.getpid(), None
-    try:
-        # A signal that comes while it is started is heard once it can be ended, too.
-        with undisturbed():
-            started = subprocess.Popen(
-                words, stdin=subprocess.DEVNULL, stderr=subprocess.PIPE, preexec_fn=lambda: end_with(parent), start_new_session=True, **how
-            )
-        _, said = started.communicate()
-    except BaseException:
-        # What the program started itself ends with it.
-        if started:
-            with contextlib.suppress(ProcessLookupError):
-                os.killpg(started.pid, signal.SIGKILL)
-        raise
-    finally:
-        if started:
-            with started:
-                pass
-    return started.returncode, said
+    parent = os.getpid()
+    how.update(env=None, stdin=subprocess.DEVNULL, stderr=subprocess.PIPE, start_new_session=True)
+    with running(words, end_all, preexec_fn=lambda: end_with(parent), **how) as process:
+        _, said = process.communicate()
+    return process.returncode, said

@@ -25,6 +25,10 @@ class Trouble(Exception):
         super().__init__(what)
         self.what, self.status, self.helps = what, status, helps
 
+    def said(self):
+        """The lines that are told of it, each with what helps."""
+        return [(self.what, self.helps)]
+
 
 class Stopped(BaseException):
     """A signal asked the script to end. What it was at is undone on the way out."""
@@ -40,10 +44,10 @@ def name():
 
 
 def say(what, helps=""):
-    """Tells a line on the error output, and below it what helps. No byte of a file's name or text reaches a terminal raw."""
-    lines = [f"{name()}: {what}"] + ([f"  what helps: {helps}"] if helps else [])
+    """Tells a line on the error output, whatever names it has, and below it what helps. No byte of a file reaches a terminal raw."""
+    lines = [f"{name()}: {what}"] + (f"  what helps: {helps}".split("\n") if helps else [])
     with contextlib.suppress(OSError, ValueError, AttributeError):
-        for line in "\n".join(lines).split("\n"):
+        for line in lines:
             sys.stderr.write(printable(line) + "\n")
         sys.stderr.flush()
 
@@ -99,7 +103,7 @@ def hear():
 
 def fault(reason):
     """The status of a call of the system that failed, and what is said of it."""
-    said = f"{printable(str(reason.filename)) if reason.filename is not None else 'output'}: {reason.strerror or reason}"
+    said = f"{reason.filename if reason.filename is not None else 'output'}: {reason.strerror or reason}"
     if reason.errno in (errno.ENOENT, errno.ENOTDIR):
         return NO_FILE, said
     if reason.filename is None or reason.errno in (errno.ENOSPC, errno.EFBIG, errno.EDQUOT, errno.EROFS):
@@ -123,7 +127,8 @@ def told(main, argv):
             sys.stdout.flush()
         return status
     except Trouble as reason:
-        say(reason.what, reason.helps)
+        for what, helps in reason.said():
+            say(what, helps)
         return reason.status
     except BrokenPipeError:
         # Who reads has had enough, and wants no message.

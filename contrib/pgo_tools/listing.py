@@ -6,7 +6,7 @@ import re
 from pgo_tools import manifest
 from pgo_tools.cli import FAILED, USAGE, WRITE_FAULT, Trouble, given
 from pgo_tools.files import target_of
-from pgo_tools.names import printable, text_of
+from pgo_tools.names import text_of
 from pgo_tools.numbers import decimal
 from pgo_tools.tree import File
 
@@ -24,7 +24,7 @@ def weighed(line):
         return File(line, 1)
     match = re.fullmatch(decimal(5), weight)
     if not match or not 1 <= int(match[1]) <= MOST_WEIGHT:
-        raise Trouble(f"{printable(name)}: a weight of {weight}", USAGE, f"weights are from 1 to {MOST_WEIGHT}")
+        raise Trouble(f"{name}: a weight of {weight}", USAGE, f"weights are from 1 to {MOST_WEIGHT}")
     return File(name, int(match[1]))
 
 
@@ -41,7 +41,7 @@ def fetchable(files):
     """The files, none of whose names would be an option of the command that fetches them."""
     for name, _ in files:
         if name.startswith("-"):
-            raise Trouble(f"{printable(name)}: the name begins with -, which --fetch would hand over as an option", USAGE, "names that begin otherwise")
+            raise Trouble(f"{name}: the name begins with -, which --fetch would hand over as an option", USAGE, "names that begin otherwise")
     return files
 
 
@@ -65,12 +65,12 @@ def once(files, add_weights, identity_of):
     for name, weight in files:
         key = identity_of(name)
         if key in held and not add_weights:
-            also = "" if first[key] == name else f", as {printable(first[key])} too"
-            raise Trouble(f"{printable(name)} is listed twice{also}", USAGE, "each file once; --add-weights takes it as often as its lines say together")
+            also = "" if first[key] == name else f", as {first[key]} too"
+            raise Trouble(f"{name} is listed twice{also}", USAGE, "each file once; --add-weights takes it as often as its lines say together")
         held[key] = held.get(key, 0) + weight
         first.setdefault(key, name)
         if held[key] > MOST_WEIGHT:
-            raise Trouble(f"{printable(name)}: its weights add up to {held[key]}", USAGE, f"weights are from 1 to {MOST_WEIGHT}")
+            raise Trouble(f"{name}: its weights add up to {held[key]}", USAGE, f"weights are from 1 to {MOST_WEIGHT}")
     return [File(first[key], weight) for key, weight in held.items()]
 
 
@@ -108,7 +108,7 @@ def check_out(files, out):
     listed = {identity(name): name for name, _ in files}
     for place in (out, beside):
         if os.path.exists(place) and identity(place) in listed:
-            raise Trouble(f"{place} is listed to be merged, too: {printable(listed[identity(place)])}", USAGE, "a folder of its own for it, or a list without it")
+            raise Trouble(f"{place} is listed to be merged, too: {listed[identity(place)]}", USAGE, "a folder of its own for it, or a list without it")
     manifest.check_place(out)
 
 

@@ -12,7 +12,7 @@ from typing import List, NamedTuple, Optional
 from pgo_tools import profile_text
 from pgo_tools.cli import FAILED, USAGE, Trouble
 from pgo_tools.files import MOST_TEXT, opened, put_in_place
-from pgo_tools.names import printable, raw_of
+from pgo_tools.names import raw_of
 from pgo_tools.numbers import decimal
 
 FORM = "merge-tree 1"
@@ -117,8 +117,8 @@ class LeftOut(NamedTuple):
     stamp: List[int]
 
     def line(self):
-        """The file and the reason, as one line whatever the name is."""
-        return f"{printable(self.name)}: {self.why}"
+        """The file and the reason."""
+        return f"{self.name}: {self.why}"
 
 
 class Below(NamedTuple):

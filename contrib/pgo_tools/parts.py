@@ -16,7 +16,8 @@ from pgo_tools import profile_text
 from pgo_tools.children import call
 from pgo_tools.cli import DONE, FAILED, NO_FILE, NO_MEMORY, NO_PROGRAM, READ_FAULT, REFUSED, WRITE_FAULT, Trouble, say
 from pgo_tools.files import MOST_TEXT, opened, put_in_place, scratch_folder, target_of
-from pgo_tools.names import printable, raw_of, text_of
+from pgo_tools.names import raw_of, text_of
+from pgo_tools.programs import last_line
 
 MERGED_AT_ONCE = 8
 ANY = "any"
@@ -30,11 +31,14 @@ OF_SYSTEM = (errno.EMFILE, errno.ENFILE, errno.ENOMEM, errno.ENOBUFS)
 
 
 class Faults(Trouble):
-    """Files that are no profiles, each with its place."""
+    """Files that are no profiles, each with its place. What helps is told of the first one: of ten thousand it is mostly the same."""
 
-    def __init__(self, files):
-        super().__init__("\n".join(each.line() for each in files), files[0].status)
+    def __init__(self, files, helps):
+        super().__init__(files[0].line(), files[0].status, helps)
         self.files = files
+
+    def said(self):
+        return [(each.line(), "" if number else self.helps) for number, each in enumerate(self.files)]
 
 
 def remedy(tree, file):
@@ -103,7 +107,7 @@ def asked(tree, entry, scratch):
             source = source_of(entry.name, entry.weight, path)
     except OSError as reason:
         if reason.errno in OF_SYSTEM:
-            raise Trouble(f"{printable(entry.name)}: {reason.strerror}", NO_MEMORY, "fewer jobs at once (-j), smaller parts, ulimit -n") from None
+            raise Trouble(f"{entry.name}: {reason.strerror}", NO_MEMORY, "fewer jobs at once (-j), smaller parts, ulimit -n") from None
         missing = isinstance(reason, (FileNotFoundError, NotADirectoryError, PermissionError))
         why = (reason.strerror or str(reason)).lower() if missing else f"read fault: {reason.strerror}"
         return told.LeftOut(entry.name, entry.weight, why.replace("no such file or directory", "no such file"),
@@ -132,11 +136,6 @@ def reason_against(tree, facts):
 # Merges.
 
 
-def last_line(said):
-    """What pgo says: the launcher may have said something before."""
-    return text_of(said).strip().rpartition("\n")[2]
-
-
 def at_fault(sources, status, said):
     """The number of the source that pgo refused for itself, and why. Anything else ends the sum."""
     match = SAID.fullmatch(said)
@@ -154,7 +153,7 @@ def at_fault(sources, status, said):
     # What was read here a moment ago is there: that pgo cannot open or read it is no fault of the file.
     if OF_SUMS in why or match[1] != "refused" or not isinstance(source, Source):
         name = f"{source.name} and those before it" if isinstance(source, Source) else f"the sum of {source.name}"
-        raise Trouble(f"{printable(name)}: {why}", status, "smaller weights" if OF_SUMS in why else "")
+        raise Trouble(f"{name}: {why}", status, "smaller weights" if OF_SUMS in why else "")
     return int(match[2]) - 1, why
 
 
@@ -167,7 +166,7 @@ def merge(pgo, sources, target):
         target.truncate()
         status, said = call([pgo, "merge", *words], stdout=target, pass_fds=[each.file.fileno() for each in good])
         if status:
-            number, why = at_fault(good, status, last_line(said))
+            number, why = at_fault(good, status, last_line(text_of(said)))
             refused.append(good.pop(number).left_out(why, status))
             continue
         changed = [each for each in good if told.written_of(os.fstat(each.file.fileno())) != each.stamp[: told.WRITTEN]]
@@ -206,8 +205,8 @@ def merge_sums(pgo, sums, target):
     words = [word for each in sums for word in ("1", f"/dev/fd/{each.file.fileno()}")]
     status, said = call([pgo, "merge", *words], stdout=target, pass_fds=[each.file.fileno() for each in sums])
     if status:
-        at_fault(sums, status, last_line(said))
-        raise Trouble(last_line(said), status)
+        at_fault(sums, status, last_line(text_of(said)))
+        raise Trouble(last_line(text_of(said)), status)
     for each in sums:
         each.file.close()
 
@@ -234,7 +233,7 @@ def add_files(tree, part, pgo, target, scratch):
     made.left_out.sort(key=lambda each: order[each.name])
     bad = [each for each in made.left_out if each.bad]
     if bad and tree.choices.skip_bad is None:
-        raise Faults(bad)
+        raise Faults(bad, remedy(tree, bad[0]))
     if sums:
         add_up(pgo, sums, target, scratch)
     return made

@@ -52,19 +52,20 @@ def plain_words():
 
 
 @contextlib.contextmanager
-def running(words, **how):
+def running(words, end=subprocess.Popen.kill, **how):
     """A program that runs beside the block, and is ended with it where the block is left by a Trouble or a signal.
 
     A signal that comes while the program is started is heard once it can be ended, too.
     """
+    how.setdefault("env", plain_words())
     process = None
     try:
         with undisturbed():
-            process = subprocess.Popen(words, env=plain_words(), **how)
+            process = subprocess.Popen(words, **how)
         yield process
     except BaseException:
         if process:
-            process.kill()
+            end(process)
         raise
     finally:
         if process:
@@ -81,6 +82,11 @@ def call(words, stdin=subprocess.DEVNULL, stdout=subprocess.PIPE, given=None):
     with running(words, stdin=source, stdout=stdout, stderr=subprocess.PIPE) as process:
         said, err = process.communicate(given)
     return process.returncode, said or b"", text_of(err).strip()
+
+
+def last_line(said):
+    """What a program of pgo says: the launcher may have said something before."""
+    return said.strip().rpartition("\n")[2]
 
 
 def answer(*words):

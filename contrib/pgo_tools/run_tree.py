@@ -6,7 +6,7 @@ import os
 import selectors
 import signal
 import traceback
-from typing import List, NamedTuple
+from typing import List, NamedTuple, Tuple
 
 from pgo_tools import parts
 from pgo_tools.children import end_with
@@ -20,7 +20,7 @@ class Outcome(NamedTuple):
     """How a part ended: its status, and what is said of it, each with what helps."""
 
     status: int
-    said: List[List[str]]
+    said: List[Tuple[str, str]]
 
 
 def outcome(tree, part, pgo):
@@ -28,19 +28,15 @@ def outcome(tree, part, pgo):
     try:
         parts.make(tree, part, pgo)
         return Outcome(0, [])
-    except parts.Faults as reason:
-        # What helps is said of the first file alone: of ten thousand it is mostly the same.
-        helps = [parts.remedy(tree, reason.files[0])] + [""] * (len(reason.files) - 1)
-        return Outcome(reason.status, [[each.line(), said] for each, said in zip(reason.files, helps)])
     except Trouble as reason:
-        return Outcome(reason.status, [[reason.what, reason.helps]])
+        return Outcome(reason.status, reason.said())
     except OSError as reason:
         status, said = fault(reason)
-        return Outcome(status, [[said, ""]])
+        return Outcome(status, [(said, "")])
     except MemoryError:
-        return Outcome(7, [["no memory", "fewer jobs at once (-j)"]])
+        return Outcome(7, [("no memory", "fewer jobs at once (-j)")])
     except Exception:  # A mistake of this script: told whole.
-        return Outcome(FAILED, [[traceback.format_exc(), ""]])
+        return Outcome(FAILED, [(line, "") for line in traceback.format_exc().splitlines()])
 
 
 class Job(NamedTuple):
@@ -113,7 +109,7 @@ def read(part, how, told):
         return Outcome(*json.loads(told))
     except ValueError:
         by = f"by signal {os.WTERMSIG(how)}" if os.WIFSIGNALED(how) else "before its end"
-        return Outcome(FAILED, [[f"part {part} was ended {by}", "--resume goes on with what is done"]])
+        return Outcome(FAILED, [(f"part {part} was ended {by}", "--resume goes on with what is done")])
 
 
 def run(tree, jobs, pgo, lasting=True):

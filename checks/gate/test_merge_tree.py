@@ -214,6 +214,11 @@ class Refusals(Tree):
         for content, helps in ((b"\x1f\x8b\x08\0", "it is packed"), (b"PERFILE2", "it is a recording"), (b"\x7fELF\2\1\1", "it is a program")):
             with self.subTest(helps):
                 self.tells(self.merge("p/0", self.file("bad", content).name), REFUSED, f"bad: refused at 1: BadLine.*what helps: {helps}")
+        # Of many files that are of one kind mostly, it is told once.
+        for name in ("bad", "other"):
+            self.file(name, b"\x1f\x8b\x08\0")
+        said = "bad: refused at 1: BadLine what helps: it is packed.* merge-tree: \\S+other: refused at 1: BadLine$"
+        self.tells(self.merge("bad", "other"), REFUSED, said)
 
     def test_a_launcher_that_says_something_first(self):
         self.file("bad", BAD)

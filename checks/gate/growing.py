@@ -299,6 +299,12 @@ def ladder_of_great_counts(size):
     return ladder(size, 1000000)
 
 
+def ladder_and_one_more(size):
+    """A ladder with a function behind it that has such a count."""
+    files = ladder(size)
+    return {**files, "cfg": files["cfg"] + b"func more\nblock 0 0x20000000 0x20000008 exit lo=%d\nend\n" % (1 << 37)}
+
+
 def drawn(size, edges_of):
     """The repair of a function with so many edges."""
     count = size // 73
@@ -459,6 +465,7 @@ FAMILIES = [
     Family("branches of one keyed hash", branches_of_one_keyed_hash, [PGO, "counts", "perf"], b"0x0 0x[0-9a-f]+ 1", 2 * MB),
     Family("ladder", ladder, BUILT, BUILT_LADDER, 64000, growth=LADDER_GROWTH),
     Family("ladder, scaled", ladder, SCALED, BUILT_LADDER, 64000, growth=LADDER_GROWTH),
+    Family("ladder and one more, scaled", ladder_and_one_more, SCALED, BUILT_LADDER, 64000, growth=LADDER_GROWTH),
     Family("ladder of great counts, scaled", ladder_of_great_counts, SCALED, BUILT_LADDER, 64000, growth=LADDER_GROWTH),
     Family("a chain, drawn", chain, DRAWN, b"<svg .*", 600000),
     Family("a star, drawn", star, DRAWN, b"<svg .*", 600000),

@@ -5,6 +5,7 @@ import os
 import signal
 import subprocess
 
+from pgo_tools.names import text_of
 from pgo_tools.programs import running
 
 PR_SET_PDEATHSIG = 1
@@ -31,9 +32,10 @@ def end_all(process):
 
 
 def call(words, **how):
-    """Runs a program that ends with this process: its status and its error output as bytes."""
+    """Runs a program that ends with this process: its status and its error output as text."""
     parent = os.getpid()
-    how.update(env=None, stdin=subprocess.DEVNULL, stderr=subprocess.PIPE, start_new_session=True)
-    with running(words, end_all, preexec_fn=lambda: end_with(parent), **how) as process:
+    with running(
+        words, end_all, env=None, stdin=subprocess.DEVNULL, stderr=subprocess.PIPE, preexec_fn=lambda: end_with(parent), start_new_session=True, **how
+    ) as process:
         _, said = process.communicate()
-    return process.returncode, said
+    return process.returncode, text_of(said).strip()

@@ -96,7 +96,7 @@ def bring(command, name, path):
     if os.path.islink(path):
         raise OSError(errno.EIO, f"{command[0]} brought a link", name)
     if status or not os.path.exists(path):
-        why = text_of(said).strip().replace("\n", "; ")
+        why = said.replace("\n", "; ")
         raise OSError(errno.EIO, f"{command[0]} ended with {status}" + (f": {why}" if why else ""), name)
 
 
@@ -157,16 +157,22 @@ def at_fault(sources, status, said):
     return int(match[2]) - 1, why
 
 
+def call_merge(pgo, sources, target):
+    """Has pgo merge sources, or sums, into a file: its status, and what it says."""
+    words = [word for each in sources for word in (str(each.weight), f"/dev/fd/{each.file.fileno()}")]
+    status, said = call([pgo, "merge", *words], stdout=target, pass_fds=[each.file.fileno() for each in sources])
+    return status, last_line(said)
+
+
 def merge(pgo, sources, target):
     """Merges at most eight sources into a file: those that went in, and those that were refused for themselves."""
     good, refused = list(sources), []
     while good:
-        words = [word for each in good for word in (str(each.weight), f"/dev/fd/{each.file.fileno()}")]
         target.seek(0)
         target.truncate()
-        status, said = call([pgo, "merge", *words], stdout=target, pass_fds=[each.file.fileno() for each in good])
+        status, said = call_merge(pgo, good, target)
         if status:
-            number, why = at_fault(good, status, last_line(text_of(said)))
+            number, why = at_fault(good, status, said)
             refused.append(good.pop(number).left_out(why, status))
             continue
         changed = [each for each in good if told.written_of(os.fstat(each.file.fileno())) != each.stamp[: told.WRITTEN]]
@@ -202,11 +208,10 @@ def add_up(pgo, sums, target, scratch):
 
 
 def merge_sums(pgo, sums, target):
-    words = [word for each in sums for word in ("1", f"/dev/fd/{each.file.fileno()}")]
-    status, said = call([pgo, "merge", *words], stdout=target, pass_fds=[each.file.fileno() for each in sums])
+    status, said = call_merge(pgo, sums, target)
     if status:
-        at_fault(sums, status, last_line(text_of(said)))
-        raise Trouble(last_line(text_of(said)), status)
+        at_fault(sums, status, said)
+        raise Trouble(said, status)
     for each in sums:
         each.file.close()
 

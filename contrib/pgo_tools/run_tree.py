@@ -10,7 +10,7 @@ from typing import List, NamedTuple, Tuple
 
 from pgo_tools import parts
 from pgo_tools.children import end_with
-from pgo_tools.cli import FAILED, HEARD, NO_FILE, READ_FAULT, REFUSED, Stopped, Trouble, fault, say
+from pgo_tools.cli import FAILED, HEARD, NO_FILE, NO_MEMORY, READ_FAULT, REFUSED, Stopped, Trouble, fault, say
 
 # Behind these faults, which are those of files, the other parts are made all the same, so that each file is named.
 OF_FILES = (NO_FILE, REFUSED, READ_FAULT)
@@ -34,7 +34,7 @@ def outcome(tree, part, pgo):
         status, said = fault(reason)
         return Outcome(status, [(said, "")])
     except MemoryError:
-        return Outcome(7, [("no memory", "fewer jobs at once (-j)")])
+        return Outcome(NO_MEMORY, [("no memory", "fewer jobs at once (-j)")])
     except Exception:  # A mistake of this script: told whole.
         return Outcome(FAILED, [(line, "") for line in traceback.format_exc().splitlines()])
 

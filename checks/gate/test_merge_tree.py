@@ -1040,6 +1040,12 @@ class Fetched(Tree):
         path.chmod(0o755)
         return f"--fetch={path}"
 
+    def test_what_the_command_has(self):
+        """It runs in the caller's environment, and reads nothing of the caller's input."""
+        fetch = self.script("get", '[ "$LC_ALL" = C.UTF-8 ] && [ -z "$(cat)" ] && cp "$1" "$2"')
+        ran = self.merge(fetch, *self.files, given=b"typed ahead", environment={"LC_ALL": "C.UTF-8"})
+        self.expect(ran, DONE, self.sum_of(self.files))
+
     def test_a_copy_that_is_a_link(self):
         (self.folder / "elsewhere").mkdir()
         (self.folder / "p/link").symlink_to(self.folder / "elsewhere")
@@ -1075,6 +1081,12 @@ class Fetched(Tree):
         script = self.file("when.py", WHILE_STARTED)
         ran = python(script, TREE, fetch, "-o", "out", "p/0", folder=self.folder, limit=20, environment={"PGO": PGO})
         self.tells(ran, FAILED, "part 1.0 was ended before its end")
+        self.assertTrue(self.ends(int((self.folder / "sleeps").read_text())), "it goes on")
+
+    def test_a_part_that_is_killed(self):
+        """Its command ends, though nobody is left to end it."""
+        fetch = self.script("get", f"echo $$ >'{self.folder}/sleeps'", "kill -9 $PPID", "exec sleep 40")
+        self.tells(self.merge(fetch, "-o", "out", "p/0", limit=20), FAILED, "part 1.0 was ended by signal 9")
         self.assertTrue(self.ends(int((self.folder / "sleeps").read_text())), "it goes on")
 
     def ends(self, pid):

@@ -1100,6 +1100,8 @@ class Fetched(Tree):
 
     def test_a_copy_that_fails(self):
         self.tells(self.merge("--fetch=cp", *self.files, "gone"), READ_FAULT, "gone: read fault: cp ended with 1: .*No such file")
+        says = self.script("get", "echo one >&2", "echo two >&2", "exit 3")
+        self.tells(self.merge(says, "p/0"), READ_FAULT, "p/0: read fault: .*/get ended with 3: one; two$")
         self.tells(self.merge("--fetch=true", *self.files[:2]), READ_FAULT, "p/0: read fault: true ended with 0")
         self.tells(self.merge("--fetch=cp", "p/0", "p/0"), BAD_WORDS, "listed twice")
         self.tells(self.merge("--fetch=no-such-command", "p/0"), 127, "there is no program no-such-command")

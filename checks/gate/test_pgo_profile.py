@@ -189,6 +189,11 @@ class Forms(Profiles):
         self.file("bin/perf", f"#!/bin/sh\n{script}\n").chmod(0o755)
         return {"PATH": f"{self.folder}/bin:{os.environ['PATH']}"}
 
+    def test_perf_in_another_language(self):
+        """A stand-in for perf prints the demo's text where it is asked to print what its manual says."""
+        perf = self.with_perf(f'[ "$LC_ALL" = C ] && case $1 in script) cat "{TEXT}" ;; esac')
+        self.judge(0, "", WORDS, self.file("perf.data", b"PERFILE2"), environment={**perf, "LC_ALL": "C.UTF-8"})
+
     def test_a_name_that_is_no_text(self):
         name = self.folder / os.fsdecode(b"\xff.txt")
         name.write_bytes(TEXT.read_bytes())

@@ -12,7 +12,7 @@ man = $(DESTDIR)$(PREFIX)/share/man/man1
 
 # The scripts for users, all but what fills release/. In bin each has `pgo-` in front, if it has not yet.
 scripts = $(filter-out contrib/release, $(shell find contrib -maxdepth 1 -type f -perm -100 | LC_ALL=C sort))
-packages = $(shell find contrib -mindepth 2 -maxdepth 2 -name '*.py' | LC_ALL=C sort)
+packages = $(shell find contrib -mindepth 2 -name '*.py' | LC_ALL=C sort)
 
 .PHONY: all help install uninstall check demo prove
 

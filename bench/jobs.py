@@ -8,7 +8,8 @@ from typing import NamedTuple, Optional
 
 import turns
 from made import HERE, TOP, Lacks, Made, key
-from pgo_tools import cli, programs
+from pgo_tools import cli
+from pgo_tools.cli import programs
 from turns import Call, Measured
 
 TOOLS = ("llvm-profgen", "llvm-profdata", "llvm-symbolizer")

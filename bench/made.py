@@ -7,7 +7,9 @@ import sys
 from typing import NamedTuple
 
 import turns
-from pgo_tools import branch_text, cli, elf, programs
+from pgo_tools import cli, elf
+from pgo_tools.cli import programs
+from pgo_tools.texts import branch_text
 
 HERE = os.path.dirname(os.path.realpath(__file__))
 TOP = os.path.dirname(HERE)

@@ -5,7 +5,7 @@ from typing import NamedTuple
 
 import turns
 from made import HERE, Lacks
-from pgo_tools import programs
+from pgo_tools.cli import programs
 from turns import Call
 
 LEMON = ("CapacityScaling", "CostScaling", "NetworkSimplex")

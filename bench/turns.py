@@ -8,8 +8,9 @@ import zlib
 from typing import NamedTuple, Optional
 
 sys.path.insert(0, os.path.join(os.path.dirname(os.path.realpath(__file__)), "../contrib"))
-from pgo_tools import cli, programs  # noqa: E402
-from pgo_tools.names import text_of  # noqa: E402
+from pgo_tools import cli  # noqa: E402
+from pgo_tools.cli import programs  # noqa: E402
+from pgo_tools.texts.names import text_of  # noqa: E402
 
 # What takes so many seconds is not called again.
 ONCE_ABOVE = 60

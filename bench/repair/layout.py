@@ -6,23 +6,14 @@ call that can throw ends a block, the return from it leads to the one behind.
 """
 import bisect
 import collections
-import importlib.machinery
-import importlib.util
 import os
 import sys
 
 sys.dont_write_bytecode = True
 from bolt_text import samples_of
 
-MAKER = os.path.join(os.path.dirname(os.path.realpath(__file__)), "..", "..", "contrib", "layout")
-
-
-def maker():
-    """contrib/layout as a module."""
-    loader = importlib.machinery.SourceFileLoader("layout_maker", MAKER)
-    made = importlib.util.module_from_spec(importlib.util.spec_from_loader(loader.name, loader))
-    loader.exec_module(made)
-    return made
+sys.path.insert(0, os.path.join(os.path.dirname(os.path.realpath(__file__)), "..", "..", "contrib"))
+from pgo_tools.commands import layout as made  # noqa: E402
 
 
 def counts_of(path, places):
@@ -50,7 +41,6 @@ def counts_of(path, places):
 
 def main():
     binary, text = sys.argv[1:]
-    made = maker()
     places = made.Places(binary)
     print("\n".join(made.listed(places, counts_of(text, places))))
 

@@ -14,11 +14,11 @@ from common import (BAD_WORDS, BLOCKS, CONTRIB, DONE, FAILED, MISSING, REFUSED, 
                     on_closed_output, run)
 
 sys.path.insert(0, str(CONTRIB))
-from block_text.block_map import BLOCK_MAP, BlockMap  # noqa: E402
-from block_text.code import Code  # noqa: E402
-from block_text.exceptions import landing_pads  # noqa: E402
-from block_text.flow import CALL  # noqa: E402
-from block_text.program import Refused  # noqa: E402
+from pgo_tools.blocks.block_map import BLOCK_MAP, BlockMap  # noqa: E402
+from pgo_tools.blocks.code import Code  # noqa: E402
+from pgo_tools.blocks.exceptions import landing_pads  # noqa: E402
+from pgo_tools.blocks.flow import CALL  # noqa: E402
+from pgo_tools.blocks.program import Refused  # noqa: E402
 from make import elf  # noqa: E402
 
 SCRIPT = CONTRIB / "blocks"

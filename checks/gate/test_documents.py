@@ -5,7 +5,7 @@ import unittest
 from common import TOP, Case, needs, needs_file, python, run
 
 # Where pages are named: themselves, scripts, checks and the code.
-NAMING = ("README.md", "CHANGELOG.md", "SECURITY.md", "docs/*.md", "pgo", "Makefile", "contrib/*", "contrib/*/*.py", "checks/*", "checks/gate/*.py", "checks/gate/program/*.py",
+NAMING = ("README.md", "CHANGELOG.md", "SECURITY.md", "docs/*.md", "pgo", "Makefile", "contrib/*", "contrib/*/*.py", "contrib/*/*/*.py", "checks/*", "checks/gate/*.py", "checks/gate/program/*.py",
           "bench/*", "bench/*/*", "crates/*/src/*.rt", "crates/*/specs/*.antt")
 PAGE = re.compile(r"\bdocs/(\w+\.(?:md|1|svg))\b")
 LINK = re.compile(r"\]\(([^)#:]+)\)")

@@ -9,8 +9,8 @@ from common import (BAD_WORDS, BLOCKS, CONTRIB, DONE, FAILED, MISSING, PGO, REFU
                     needs_file, on_closed_output, run)
 
 sys.path.insert(0, str(CONTRIB))
-from pgo_tools import block_text, repair_text  # noqa: E402
 from pgo_tools.cli import Trouble  # noqa: E402
+from pgo_tools.texts import block_text, repair_text  # noqa: E402
 
 SCRIPT = CONTRIB / "draw"
 NAMES = [line.split()[1] for line in BLOCKS.read_text().splitlines() if line.startswith("func ")]

@@ -2,8 +2,6 @@
 import argparse
 import bisect
 import collections
-import importlib.machinery
-import importlib.util
 import itertools
 import json
 import random
@@ -14,7 +12,8 @@ from common import BLOCKS, CONTRIB, MISSING, PGO, REFUSED, TEXT, WORDS, BAD_WORD
 from test_lined import drawn_run, functions_of
 
 sys.path.insert(0, str(CONTRIB))
-from pgo_tools import block_order  # noqa: E402
+from pgo_tools.blocks import block_order  # noqa: E402
+from pgo_tools.commands import layout as maker  # noqa: E402
 
 LAYOUT, MAKER, LINED = CONTRIB / "layout", CONTRIB / "blocks", CONTRIB / "lined"
 BUILD = ["clang-19", "-O2", "-w", "-no-pie", "-fuse-ld=lld", "-B/usr/lib/llvm-19/bin"]
@@ -169,9 +168,6 @@ class OfClang(Case):
 
     def test_each_count_of_an_edge_is_taken(self):
         self.repaired(self.file("program.c", PROGRAM))
-        loader = importlib.machinery.SourceFileLoader("layout_maker", str(LAYOUT))
-        maker = importlib.util.module_from_spec(importlib.util.spec_from_loader(loader.name, loader))
-        loader.exec_module(maker)
         words = argparse.Namespace(cfg=str(self.folder / "cfg"), out=str(self.folder / "out"))
         wanted = self.wanted(self.numbers("program"))
         self.assertEqual(maker.counts_of(words, maker.Places(str(self.folder / "program"))), wanted)

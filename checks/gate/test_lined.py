@@ -1,8 +1,6 @@
 """contrib/lined: counts of blocks by their own addresses, on the demo beside exact counts, and on programs of each compiler that is
 here, position-independent or not, stripped or not, walked through by drawn ways whose counts are known."""
 import collections
-import importlib.machinery
-import importlib.util
 import random
 import shutil
 import struct
@@ -13,12 +11,10 @@ from common import BLOCKS, CONTRIB, HERE, MISSING, PGO, REFUSED, TEXT, TOP, WORD
 
 sys.path.insert(0, str(CONTRIB))
 from make import elf  # noqa: E402
-from pgo_tools import dwarf_writer  # noqa: E402
+from pgo_tools.commands import lined  # noqa: E402
+from pgo_tools.dwarf import writer as dwarf_writer  # noqa: E402
 
 LINED, MAKER = CONTRIB / "lined", CONTRIB / "blocks"
-LOADER = importlib.machinery.SourceFileLoader("lined", str(LINED))
-lined = importlib.util.module_from_spec(importlib.util.spec_from_loader("lined", LOADER))
-LOADER.exec_module(lined)
 NOTE = "lined: for pgo build, people and contrib/draw; a profile made with it is not for clang\n"
 COMPILERS = ["gcc", "clang-14", "clang-19"]
 OUTSIDE = 0x10

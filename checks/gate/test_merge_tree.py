@@ -13,6 +13,11 @@ from common import CONTRIB, DONE, FAILED, BAD_WORDS, MISSING, NO_MEMORY, PGO, HE
 from common import on_closed_output, python, run, terminated
 
 TREE = CONTRIB / "merge-tree"
+# By this a process takes what the script calls, to change something of it first.
+FROM_CONTRIB = """sys.dont_write_bytecode = True
+sys.path.insert(0, os.path.dirname(sys.argv[0]))
+from pgo_tools import cli
+from pgo_tools.commands.merge_tree import work as main"""
 FLEET = TOP / "bench" / "fleet.py"
 HALF = "a:0:9223372036854775808\n"
 BAD = "a:0:1\n 1: 1\r\n"
@@ -703,7 +708,7 @@ class Resumed(Tree):
 
     def when(self, *lines_of_it):
         """A call in a process where something is done between two of its steps, as another call would."""
-        started = "import fcntl, os, runpy, shutil, sys\nsys.argv[0] = sys.argv[1]\nmain = runpy.run_path(sys.argv[1])['main']\nfrom pgo_tools import cli\n"
+        started = "import fcntl, os, shutil, sys\nsys.argv[0] = sys.argv[1]\n" + FROM_CONTRIB + "\n"
         script = self.file("when.py", "\n".join([started, *lines_of_it, "os._exit(cli.ended(main, sys.argv[2:]))", ""]))
         return python(script, TREE, "-j1", "-o", "out", *self.files[:3], folder=self.folder, environment={"PGO": PGO})
 
@@ -882,11 +887,10 @@ class Ended(Tree):
 # Runs merge-tree again and again, and kills the process that makes the N-th change to a file, of all of them together; behind each
 # a call with --resume. Prints how often. All sums have to be the first one's.
 DRIVER = """
-import os, runpy, signal, sys
+import os, signal, sys
 tree, files = sys.argv[1], sys.argv[2:]
 sys.argv[0] = tree
-main = runpy.run_path(tree)["main"]
-from pgo_tools import cli
+""" + FROM_CONTRIB + """
 OPEN, step = os.open, 0
 
 def counted(real):
@@ -1008,10 +1012,9 @@ class Changing(Tree):
 
 # Runs merge-tree, whose part is told to end once the command that it started has started another one, before it knows its number.
 WHILE_STARTED = """
-import os, runpy, signal, subprocess, sys, time
+import os, signal, subprocess, sys, time
 sys.argv[0] = sys.argv[1]
-main = runpy.run_path(sys.argv[1])["main"]
-from pgo_tools import cli
+""" + FROM_CONTRIB + """
 real = subprocess.Popen
 
 def begun(*words, **how):

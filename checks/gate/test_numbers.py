@@ -6,7 +6,7 @@ import unittest
 from common import CONTRIB
 
 sys.path.insert(0, str(CONTRIB))
-from pgo_tools.numbers import decimal, number_of  # noqa: E402
+from pgo_tools.texts.numbers import decimal, number_of  # noqa: E402
 
 MANY = 5000
 

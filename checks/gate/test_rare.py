@@ -7,8 +7,8 @@ import unittest
 from common import CONTRIB, MISSING, PGO, REFUSED, BAD_WORDS, Case, run
 
 sys.path.insert(0, str(CONTRIB))
-from block_text import rare  # noqa: E402
-from block_text.touched import Spans  # noqa: E402
+from pgo_tools.blocks import rare  # noqa: E402
+from pgo_tools.blocks.touched import Spans  # noqa: E402
 
 MAKER = CONTRIB / "blocks"
 PROGRAM = """

@@ -7,7 +7,8 @@ from common import CONTRIB, Case, python
 SCRIPT = """
 import os, shutil, signal, sys, tempfile
 sys.path.insert(0, sys.argv[1])
-from pgo_tools import cli, files
+from pgo_tools import cli
+from pgo_tools.cli import files
 
 def disturbed(call):
     def made(*words, **how):

@@ -18,8 +18,8 @@ import sys
 
 sys.dont_write_bytecode = True
 sys.path.insert(0, f"{os.path.dirname(os.path.abspath(__file__))}/../../../contrib")
-from block_text.exceptions import landing_pads  # noqa: E402
-from block_text.program import Functions, Program  # noqa: E402
+from pgo_tools.blocks.exceptions import landing_pads  # noqa: E402
+from pgo_tools.blocks.program import Functions, Program  # noqa: E402
 
 Function = collections.namedtuple("Function", "name blocks edges")
 BOUND = re.compile(r"(?:never|ran|lo=\d+|hi=\d+|lo=\d+ hi=\d+)?")

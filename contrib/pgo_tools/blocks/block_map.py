@@ -1,8 +1,8 @@
 """The functions of a program by the map of basic blocks that clang writes."""
 import struct
 
-from block_text.exceptions import Bytes
-from block_text.program import Refused
+from pgo_tools.blocks.exceptions import Bytes
+from pgo_tools.blocks.program import Refused
 from pgo_tools.elf import FAULTS
 
 BLOCK_MAP = 0x6FFF4C0A

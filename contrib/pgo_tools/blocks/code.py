@@ -5,9 +5,10 @@ import marshal
 import os
 import tempfile
 
-from block_text.exceptions import OVERLAP, damaged, landing_pads
-from block_text.flow import BRANCH, CALL, JUMP, POINTER, RETURN, TO_NOWHERE, Reader, never_returns, printed
-from block_text.tables import Tables
+from pgo_tools.blocks.exceptions import OVERLAP, damaged, landing_pads
+from pgo_tools.blocks.flow import BRANCH, CALL, JUMP, POINTER, RETURN, TO_NOWHERE, Reader, never_returns, printed
+from pgo_tools.blocks.tables import Tables
+
 
 class Unit:
     """One function: its parts, the rows of its flow by address, its landing pads by call, where its tables lead."""

@@ -1,7 +1,7 @@
 """The landing pads of a program, by its tables of exceptions."""
 import struct
 
-from block_text.program import Refused
+from pgo_tools.blocks.program import Refused
 from pgo_tools.elf import FAULTS, NOBITS
 
 

@@ -3,10 +3,10 @@ import re
 import subprocess
 import tempfile
 
-from block_text.program import Refused
+from pgo_tools.blocks.program import Refused
 from pgo_tools.cli import NO_PROGRAM, Trouble
-from pgo_tools.names import text_of
-from pgo_tools.programs import as_file, running
+from pgo_tools.cli.programs import as_file, running
+from pgo_tools.texts.names import text_of
 
 # What is called and never comes back. Functions of the program itself are found out, these are those of libraries.
 NO_RETURN = frozenset("""

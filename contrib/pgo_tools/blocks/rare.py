@@ -6,7 +6,7 @@ that none of them touched are told `never`.
 import bisect
 from typing import NamedTuple
 
-from block_text.flow import BRANCH, CALL, JUMP, STOP
+from pgo_tools.blocks.flow import BRANCH, CALL, JUMP, STOP
 
 IS_PAD, IS_INDIRECT = 4, 16
 

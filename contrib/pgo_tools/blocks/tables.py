@@ -3,7 +3,7 @@ import bisect
 import re
 import struct
 
-from block_text.flow import BRANCH, CALL, JUMP, POINTER, PREFIX
+from pgo_tools.blocks.flow import BRANCH, CALL, JUMP, POINTER, PREFIX
 
 
 def register_names():

@@ -1,9 +1,9 @@
 """Which addresses of a program the samples of a branch text touch."""
 import bisect
 
-from pgo_tools import branch_text
+from pgo_tools.cli.files import open_packed
 from pgo_tools.elf import Elf
-from pgo_tools.files import open_packed
+from pgo_tools.texts import branch_text
 
 NOWHERE = -1
 

@@ -9,7 +9,7 @@ import signal
 import sys
 import threading
 
-from pgo_tools.names import printable
+from pgo_tools.texts.names import printable
 
 # The statuses, as pgo's own (docs/FORMATS.md, "Statuses").
 DONE, FAILED, USAGE, NO_FILE, REFUSED, READ_FAULT, WRITE_FAULT, NO_MEMORY = range(8)

@@ -15,7 +15,7 @@ import threading
 import zlib
 
 from pgo_tools.cli import READ_FAULT, REFUSED, USAGE, WRITE_FAULT, Trouble, given, undisturbed
-from pgo_tools.names import text_of
+from pgo_tools.texts.names import text_of
 
 # What a file is by its first bytes.
 MAGICS = [

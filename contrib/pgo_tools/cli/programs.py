@@ -6,7 +6,7 @@ import subprocess
 import sys
 
 from pgo_tools.cli import NO_PROGRAM, Trouble, undisturbed
-from pgo_tools.names import text_of
+from pgo_tools.texts.names import text_of
 
 
 def here():

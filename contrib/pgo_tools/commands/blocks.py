@@ -1,4 +1,3 @@
-#!/usr/bin/env python3
 """Prints a block text for an x86-64 program: its functions with their basic blocks and the edges between these.
 
 Where clang 19 left a map of basic blocks with their successors in the program, the text is made from that. Else it is
@@ -9,22 +8,19 @@ import argparse
 import collections
 import os
 import re
-import sys
 import tempfile
 
-sys.dont_write_bytecode = True
-HERE = os.path.dirname(os.path.realpath(__file__))
-sys.path[:0] = [HERE, os.path.join(HERE, "..", "share", "pgo")]
-from block_text import rare  # noqa: E402
-from block_text.block_map import BlockMap  # noqa: E402
-from block_text.code import Code  # noqa: E402
-from block_text.program import Functions, Program  # noqa: E402
-from block_text.touched import Touch  # noqa: E402
-from pgo_tools import cli, words as words_of  # noqa: E402
-from pgo_tools.block_text import MOST_BLOCKS, MOST_EDGES  # noqa: E402
-from pgo_tools.elf import Elf  # noqa: E402
-from pgo_tools.files import MOST_TEXT  # noqa: E402
-from pgo_tools.names import raw_of, text_of  # noqa: E402
+from pgo_tools import cli
+from pgo_tools.blocks import rare
+from pgo_tools.blocks.block_map import BlockMap
+from pgo_tools.blocks.code import Code
+from pgo_tools.blocks.program import Functions, Program
+from pgo_tools.blocks.touched import Touch
+from pgo_tools.cli import words as words_of
+from pgo_tools.cli.files import MOST_TEXT
+from pgo_tools.elf import Elf
+from pgo_tools.texts.block_text import MOST_BLOCKS, MOST_EDGES
+from pgo_tools.texts.names import raw_of, text_of
 
 CLONE_NAME = re.compile(r"\.(?:constprop|isra|part|llvm|lto_priv|cold|localalias|specialized|__uniq)\b.*$")
 
@@ -180,7 +176,7 @@ def parsed(argv):
     return words
 
 
-def main(argv):
+def work(argv):
     words = parsed(argv)
     cli.out()
     source = Source(words.bin, words)
@@ -219,5 +215,6 @@ def put_text(text, source, wanted, words, touch):
         text.write(f"# {left} functions are left out, for the size of the text\n".encode())
 
 
-if __name__ == "__main__":
-    cli.run(main)
+def main(argv=None):
+    """The command, from its words to its status. It never returns."""
+    cli.run(work, argv)

@@ -1,4 +1,3 @@
-#!/usr/bin/env python3
 """compare A B: how much alike two profiles are, by function and in all, and what became hot or cold from A to B.
 
 With --least the script ends with 1 where they are less alike than that, so that a farm keeps last night's profile where this
@@ -6,14 +5,12 @@ one is thin or of something else. docs/USING.md ("A fleet") shows it in use.
 """
 import argparse
 import gc
-import os
-import sys
 from fractions import Fraction
 from typing import NamedTuple
 
-sys.dont_write_bytecode = True
-sys.path.insert(0, os.path.dirname(os.path.realpath(__file__)))
-from pgo_tools import cli, files, names, profile_text, words as words_of  # noqa: E402
+from pgo_tools import cli
+from pgo_tools.cli import files, words as words_of
+from pgo_tools.texts import names, profile_text
 
 # The functions that make up nearly all of the counts are hot, as for LLVM (ProfileSummary's cutoff 990000).
 HOT = 99
@@ -158,7 +155,7 @@ def judged(old, new, found, words):
     return cli.FAILED if missed else cli.DONE
 
 
-def main(argv):
+def work(argv):
     words = parser().parse_args(argv)
     # Nothing that is read is in a cycle, and of millions of lines the search for cycles takes long.
     gc.disable()
@@ -173,5 +170,6 @@ def main(argv):
     return judged(old, new, found, words)
 
 
-if __name__ == "__main__":
-    cli.run(main)
+def main(argv=None):
+    """The command, from its words to its status. It never returns."""
+    cli.run(work, argv)

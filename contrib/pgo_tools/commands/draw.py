@@ -1,4 +1,3 @@
-#!/usr/bin/env python3
 """Draws the repair of a function, as `pgo build` wrote it: a graph for Graphviz, or with --svg a picture.
 
 Each block has its weight and its count, and is the darker the more often it ran. Edges are as wide as their share of the calls
@@ -11,17 +10,15 @@ import html
 import io
 import os
 import re
-import sys
 from typing import NamedTuple, Optional
 
-sys.dont_write_bytecode = True
-HERE = os.path.dirname(os.path.realpath(__file__))
-sys.path[:0] = [HERE, os.path.join(HERE, "..", "share", "pgo")]
-from pgo_tools import block_text, cli, repair_text, words as words_of  # noqa: E402
-from pgo_tools.files import open_packed, read_packed  # noqa: E402
-from pgo_tools.names import cut, cut_middle, demangled, printable  # noqa: E402
-from pgo_tools.picture import LINE, Box, Layout, Line, text_width  # noqa: E402
-from pgo_tools.source import Sources, places  # noqa: E402
+from pgo_tools import cli
+from pgo_tools.cli import words as words_of
+from pgo_tools.cli.files import open_packed, read_packed
+from pgo_tools.draw.picture import LINE, Box, Layout, Line, text_width
+from pgo_tools.draw.source import Sources, places
+from pgo_tools.texts import block_text, repair_text
+from pgo_tools.texts.names import cut, cut_middle, demangled, printable
 
 CHANGED, PLAIN, NEVER, CUT = "#c0392b", "#555555", "#b0b0b0", "#7d3c98"
 NAME_WIDTH, SOURCE_WIDTH, MOST_SHOWN = 60, 44, 8
@@ -362,7 +359,7 @@ def parsed(argv):
     return words
 
 
-def main(argv):
+def work(argv):
     words = parsed(argv)
     cli.out()
     function = chosen(words)
@@ -378,5 +375,6 @@ def main(argv):
     return cli.DONE
 
 
-if __name__ == "__main__":
-    cli.run(main)
+def main(argv=None):
+    """The command, from its words to its status. It never returns."""
+    cli.run(work, argv)

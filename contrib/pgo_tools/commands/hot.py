@@ -1,4 +1,3 @@
-#!/usr/bin/env python3
 """Prints the hottest functions and lines of a profile with their shares and, where program and source are at hand, the source.
 
 A function's share is that of its total, with what was inlined into it; a line's is that of its counts wherever it stands. With
@@ -13,17 +12,14 @@ import io
 import json
 import os
 import re
-import sys
 from typing import NamedTuple
 
-sys.dont_write_bytecode = True
-HERE = os.path.dirname(os.path.realpath(__file__))
-sys.path[:0] = [HERE, os.path.join(HERE, "..", "share", "pgo")]
-from pgo_tools import block_text, cli, profile_text, repair_text  # noqa: E402
-from pgo_tools.files import open_packed, read_packed  # noqa: E402
-from pgo_tools.names import cut, cut_middle, demangled, printable  # noqa: E402
-from pgo_tools.programs import tool  # noqa: E402
-from pgo_tools.source import Sources, places, starts  # noqa: E402
+from pgo_tools import cli
+from pgo_tools.cli.files import open_packed, read_packed
+from pgo_tools.cli.programs import tool
+from pgo_tools.draw.source import Sources, places, starts
+from pgo_tools.texts import block_text, profile_text, repair_text
+from pgo_tools.texts.names import cut, cut_middle, demangled, printable
 
 USAGE = "%(prog)s [--bin BIN] [--source FOLDER] [--top N] [--blocks CFG] [--json] PROFILE"
 NAME_WIDTH, SOURCE_WIDTH, MOST_CALLERS, LEAST_SHARE = 60, 90, 2, 0.1
@@ -293,7 +289,7 @@ def parsed(argv):
     return words
 
 
-def main(argv):
+def work(argv):
     words = parsed(argv)
     cli.out()
     report = of_repair(words) if words.blocks else of_profile(words)
@@ -303,5 +299,6 @@ def main(argv):
     return cli.DONE
 
 
-if __name__ == "__main__":
-    cli.run(main)
+def main(argv=None):
+    """The command, from its words to its status. It never returns."""
+    cli.run(work, argv)

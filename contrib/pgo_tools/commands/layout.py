@@ -1,4 +1,3 @@
-#!/usr/bin/env python3
 """Lays out the blocks of a program by repaired counts, as a list for clang's -fbasic-block-sections=list=LIST.
 
 BIN was built by clang 19 with -fbasic-block-address-map, CFG is its block text, and OUT what `pgo build --edges` made of that, best of
@@ -8,16 +7,14 @@ in use.
 import argparse
 import bisect
 import collections
-import os
-import sys
 from typing import NamedTuple
 
-sys.dont_write_bytecode = True
-HERE = os.path.dirname(os.path.realpath(__file__))
-sys.path[:0] = [HERE, os.path.join(HERE, "..", "share", "pgo")]
-from block_text.block_map import BlockMap  # noqa: E402
-from block_text.program import Program  # noqa: E402
-from pgo_tools import block_order, block_text, cli, files, repair_text  # noqa: E402
+from pgo_tools import cli
+from pgo_tools.blocks import block_order
+from pgo_tools.blocks.block_map import BlockMap
+from pgo_tools.blocks.program import Program
+from pgo_tools.cli import files
+from pgo_tools.texts import block_text, repair_text
 
 
 class Place(NamedTuple):
@@ -98,7 +95,7 @@ def parser():
     return words
 
 
-def main(argv):
+def work(argv):
     words = parser().parse_args(argv)
     places = Places(words.bin)
     counts = counts_of(words, places)
@@ -114,5 +111,6 @@ def main(argv):
     return cli.DONE
 
 
-if __name__ == "__main__":
-    cli.run(main)
+def main(argv=None):
+    """The command, from its words to its status. It never returns."""
+    cli.run(work, argv)

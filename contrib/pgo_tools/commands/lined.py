@@ -1,4 +1,3 @@
-#!/usr/bin/env python3
 """Makes of a program and its block text an ELF file whose debugging information gives each block a line of its own.
 
 `pgo build --edges LINED PERF CFG` then weighs each block by the samples of its own addresses, where with BIN it has the largest
@@ -8,13 +7,13 @@ function is line N of it, counted from 0. So the profile in what is built is not
 import argparse
 import bisect
 import itertools
-import os
 import sys
 
-sys.dont_write_bytecode = True
-HERE = os.path.dirname(os.path.realpath(__file__))
-sys.path[:0] = [HERE, os.path.join(HERE, "..", "share", "pgo")]
-from pgo_tools import block_text, cli, dwarf_writer, elf, elf_writer, files  # noqa: E402
+from pgo_tools import cli, elf
+from pgo_tools.cli import files
+from pgo_tools.dwarf import writer as dwarf_writer
+from pgo_tools.elf import writer as elf_writer
+from pgo_tools.texts import block_text
 
 
 class Code:
@@ -76,7 +75,7 @@ def parser():
     return words
 
 
-def main(argv):
+def work(argv):
     words = parser().parse_args(argv)
     if not words.output and sys.stdout is not None and sys.stdout.isatty():
         raise cli.Trouble("the output is a terminal", cli.USAGE, "lined BIN CFG >LINED")
@@ -90,5 +89,6 @@ def main(argv):
     return cli.DONE
 
 
-if __name__ == "__main__":
-    cli.run(main)
+def main(argv=None):
+    """The command, from its words to its status. It never returns."""
+    cli.run(work, argv)

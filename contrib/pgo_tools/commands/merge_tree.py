@@ -1,4 +1,3 @@
-#!/usr/bin/env python3
 """merge-tree -o OUT FILE..: the sum of any number of profiles, put in place whole, with a manifest of what went in.
 
 Eight files make one, eight of these the next, and so on. Sums are sums: in whatever order the files come, and whichever tree is
@@ -14,10 +13,10 @@ import shlex
 import shutil
 import sys
 
-sys.dont_write_bytecode = True
-sys.path.insert(0, os.path.dirname(os.path.realpath(__file__)))
-from pgo_tools import cli, engines, files, listing, parts, programs, run_tree, tree  # noqa: E402
-from pgo_tools.words import at_least_one, named, percent  # noqa: E402
+from pgo_tools import cli
+from pgo_tools.cli import files, programs
+from pgo_tools.cli.words import at_least_one, named, percent
+from pgo_tools.fleet import engines, listing, parts, run_tree, tree
 
 LOCAL_WIDTH, ENGINE_WIDTH = 8, 64
 # What a tree's folder holds, with what a call that was killed leaves there, and what is there before the tree is described. A folder
@@ -260,7 +259,7 @@ def of_tree(words):
         return run_tree.run(known, words.jobs, pgo)
 
 
-def main(argv):
+def work(argv):
     words = parser().parse_args(with_percent(argv))
     if words.engine or words.part or words.run:
         return of_tree(words)
@@ -272,5 +271,6 @@ def main(argv):
     return put(words, pgo) if words.out else show(words, pgo)
 
 
-if __name__ == "__main__":
-    cli.run(main)
+def main(argv=None):
+    """The command, from its words to its status. It never returns."""
+    cli.run(work, argv)

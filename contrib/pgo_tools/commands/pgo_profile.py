@@ -1,4 +1,3 @@
-#!/usr/bin/env python3
 """Makes a profile by `pgo-cold profile`, with a line of count 0 for what never ran, and puts it in place only where it says something:
 of several programs by `pgo profile`, a merge, and `pgo-cold` behind it. Where it says nothing, or looks as if another binary had
 run, the sums of the report tell why, and so what helps.
@@ -15,16 +14,12 @@ import re
 import signal
 import sys
 
-sys.dont_write_bytecode = True
-HERE = os.path.dirname(os.path.realpath(__file__))
-sys.path[:0] = [HERE, os.path.join(HERE, "..", "share", "pgo")]
-try:
-    from pgo_tools import branch_text, cli, files, found, inputs, profile_text, programs, report, signs
-    from pgo_tools.cli import FAILED, NO_MEMORY, USAGE, WRITE_FAULT, Trouble
-    from pgo_tools.names import shell_word
-except ImportError:
-    print("pgo-profile: there is no pgo_tools beside this script, or in ../share/pgo", file=sys.stderr)
-    sys.exit(127)
+from pgo_tools import cli
+from pgo_tools.cli import files, programs
+from pgo_tools.cli import FAILED, NO_MEMORY, USAGE, WRITE_FAULT, Trouble
+from pgo_tools.recording import found, inputs, signs
+from pgo_tools.texts import branch_text, profile_text, report
+from pgo_tools.texts.names import shell_word
 
 USAGE_LINE = "pgo-profile [--base] [--map=NAME] [--also=BIN] [--pid=N] [--comm=NAME] [--other-build] BIN PERF PROFILE"
 FLAGS = ("--base", "--no-base", "--other-build", "--help", "-h")
@@ -391,7 +386,7 @@ def made_or_not(words):
                           "room there, or TMPDIR in front, which names another folder") from None
 
 
-def main(argv):
+def work(argv):
     words = words_of(argv)
     seen, lines = made_or_not(words)
     for sign in seen:
@@ -401,5 +396,6 @@ def main(argv):
     return cli.DONE
 
 
-if __name__ == "__main__":
-    cli.run(main)
+def main(argv=None):
+    """The command, from its words to its status. It never returns."""
+    cli.run(work, argv)

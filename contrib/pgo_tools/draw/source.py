@@ -8,9 +8,9 @@ import stat
 from typing import NamedTuple
 
 from pgo_tools.cli import REFUSED, Trouble
-from pgo_tools.names import printable, text_of
-from pgo_tools.numbers import decimal
-from pgo_tools.programs import as_file, call, tool
+from pgo_tools.cli.programs import as_file, call, tool
+from pgo_tools.texts.names import printable, text_of
+from pgo_tools.texts.numbers import decimal
 
 VERSIONS = range(30, 13, -1)
 ENTRY = re.compile(r"0x[0-9a-f]+: +DW_TAG_(\w+)")

@@ -5,7 +5,7 @@ Only what stands in front of all else is read: no unit is walked through.
 import collections
 import struct
 
-from pgo_tools.names import text_of
+from pgo_tools.texts.names import text_of
 
 PRODUCER, OFFSETS_BASE = 0x25, 0x72
 # Forms of a fixed size (DWARF 5, section 7.5.6); the offsets' size stands in for "word".

@@ -7,7 +7,7 @@ import re
 import struct
 from typing import NamedTuple
 
-from pgo_tools.names import raw_of
+from pgo_tools.texts.names import raw_of
 
 PRODUCER = b"contrib/lined: a line for each block; the profile is not for clang"
 FILE = b"blocks"

@@ -7,7 +7,7 @@ import struct
 from typing import NamedTuple
 
 from pgo_tools.cli import REFUSED, Trouble
-from pgo_tools.names import text_of
+from pgo_tools.texts.names import text_of
 
 EXECUTABLE, SHARED = 2, 3
 NOBITS, NOTE, COMPRESSED = 8, 7, 0x800

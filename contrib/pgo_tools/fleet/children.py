@@ -5,8 +5,8 @@ import os
 import signal
 import subprocess
 
-from pgo_tools.names import text_of
-from pgo_tools.programs import running
+from pgo_tools.cli.programs import running
+from pgo_tools.texts.names import text_of
 
 PR_SET_PDEATHSIG = 1
 

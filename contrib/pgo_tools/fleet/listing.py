@@ -3,12 +3,12 @@ import collections
 import os
 import re
 
-from pgo_tools import manifest
 from pgo_tools.cli import FAILED, USAGE, WRITE_FAULT, Trouble, given
-from pgo_tools.files import target_of
-from pgo_tools.names import text_of
-from pgo_tools.numbers import decimal
-from pgo_tools.tree import File
+from pgo_tools.cli.files import target_of
+from pgo_tools.fleet import manifest
+from pgo_tools.fleet.tree import File
+from pgo_tools.texts.names import text_of
+from pgo_tools.texts.numbers import decimal
 
 MOST_WEIGHT = 65535
 # The line that tells a profile's build stands at its end.

@@ -9,11 +9,11 @@ import os
 import re
 from typing import List, NamedTuple, Optional
 
-from pgo_tools import profile_text
 from pgo_tools.cli import FAILED, USAGE, Trouble
-from pgo_tools.files import MOST_TEXT, opened, put_in_place
-from pgo_tools.names import raw_of
-from pgo_tools.numbers import decimal
+from pgo_tools.cli.files import MOST_TEXT, opened, put_in_place
+from pgo_tools.texts import profile_text
+from pgo_tools.texts.names import raw_of
+from pgo_tools.texts.numbers import decimal
 
 FORM = "merge-tree 1"
 BLOCK = 1 << 20

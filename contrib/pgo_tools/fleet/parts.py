@@ -11,13 +11,13 @@ import signal
 import tempfile
 from typing import List, NamedTuple
 
-from pgo_tools import manifest as told
-from pgo_tools import profile_text
-from pgo_tools.children import call
 from pgo_tools.cli import DONE, FAILED, NO_FILE, NO_MEMORY, NO_PROGRAM, READ_FAULT, REFUSED, WRITE_FAULT, Trouble, say
-from pgo_tools.files import MOST_TEXT, opened, put_in_place, scratch_folder, target_of
-from pgo_tools.names import raw_of, text_of
-from pgo_tools.programs import last_line
+from pgo_tools.cli.files import MOST_TEXT, opened, put_in_place, scratch_folder, target_of
+from pgo_tools.cli.programs import last_line
+from pgo_tools.fleet import manifest as told
+from pgo_tools.fleet.children import call
+from pgo_tools.texts import profile_text
+from pgo_tools.texts.names import raw_of, text_of
 
 MERGED_AT_ONCE = 8
 ANY = "any"

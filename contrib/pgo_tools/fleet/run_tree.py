@@ -8,9 +8,9 @@ import signal
 import traceback
 from typing import List, NamedTuple, Tuple
 
-from pgo_tools import parts
-from pgo_tools.children import end_with
 from pgo_tools.cli import FAILED, HEARD, NO_FILE, NO_MEMORY, READ_FAULT, REFUSED, Stopped, Trouble, fault, say
+from pgo_tools.fleet import parts
+from pgo_tools.fleet.children import end_with
 
 # Behind these faults, which are those of files, the other parts are made all the same, so that each file is named.
 OF_FILES = (NO_FILE, REFUSED, READ_FAULT)

@@ -12,8 +12,8 @@ import secrets
 from typing import List, NamedTuple, Optional
 
 from pgo_tools.cli import FAILED, USAGE, Trouble
-from pgo_tools.files import opened, put_in_place
-from pgo_tools.numbers import decimal
+from pgo_tools.cli.files import opened, put_in_place
+from pgo_tools.texts.numbers import decimal
 
 FORM = "merge-tree's tree 1"
 # How every description begins, of whatever version.

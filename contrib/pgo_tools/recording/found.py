@@ -2,7 +2,7 @@
 import os
 
 from pgo_tools.cli import Trouble
-from pgo_tools.names import shell_word
+from pgo_tools.texts.names import shell_word
 
 DELETED = " (deleted)"
 # Of what fits so much is told.

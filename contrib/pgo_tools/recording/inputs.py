@@ -11,12 +11,13 @@ import subprocess
 import zlib
 from typing import NamedTuple
 
-from pgo_tools import branch_text, programs
-from pgo_tools.branch_text import LONGEST, PIECE
+from pgo_tools.cli import programs
 from pgo_tools.cli import USAGE, WRITE_FAULT, Trouble
+from pgo_tools.cli.files import PACKED, kind_by, kind_of, open_packed
 from pgo_tools.elf import LARGEST, Elf
-from pgo_tools.files import PACKED, kind_by, kind_of, open_packed
-from pgo_tools.names import text_of
+from pgo_tools.texts import branch_text
+from pgo_tools.texts.branch_text import LONGEST, PIECE
+from pgo_tools.texts.names import text_of
 
 DEBUG_FOLDER = "/usr/lib/debug"
 # A branch text has at most so many bytes (docs/LIMITS.md).

@@ -4,10 +4,12 @@ import os
 import re
 from typing import NamedTuple
 
-from pgo_tools import branch_text, found, inputs, programs
+from pgo_tools.cli import programs
+from pgo_tools.cli.files import FOREIGN, PACKED, kind_of
 from pgo_tools.elf import X86_64
-from pgo_tools.files import FOREIGN, PACKED, kind_of
-from pgo_tools.names import shell_word, text_of
+from pgo_tools.recording import found, inputs
+from pgo_tools.texts import branch_text
+from pgo_tools.texts.names import shell_word, text_of
 
 # A function's hot lines are those that make up this share of all counts; below this count the least of them is chance.
 HOT_SHARE, FEW_SAMPLES = 0.9, 10

@@ -4,8 +4,8 @@ import re
 from typing import NamedTuple, Optional
 
 from pgo_tools.cli import REFUSED, Trouble
-from pgo_tools.files import lines_of
-from pgo_tools.numbers import number_of
+from pgo_tools.cli.files import lines_of
+from pgo_tools.texts.numbers import number_of
 
 BLOCK = re.compile(r"block ([0-9]+) 0x([0-9a-fA-F]+) 0x([0-9a-fA-F]+)( exit)?((?: [^ ]+)*)")
 EDGE = re.compile(r"edge ([0-9]+) ([0-9]+)((?: [^ ]+)*)")

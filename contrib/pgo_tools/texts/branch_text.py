@@ -3,7 +3,7 @@ import re
 from typing import NamedTuple
 
 from pgo_tools.cli import REFUSED, Trouble
-from pgo_tools.names import text_of
+from pgo_tools.texts.names import text_of
 
 LONGEST, MOST_ENTRIES = 65536, 1024
 # Texts are looked through by pieces of so many bytes.

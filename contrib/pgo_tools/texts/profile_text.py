@@ -7,8 +7,8 @@ import re
 from typing import NamedTuple, Optional, Union
 
 from pgo_tools.cli import REFUSED, Trouble
-from pgo_tools.files import lines_of
-from pgo_tools.numbers import number_of
+from pgo_tools.cli.files import lines_of
+from pgo_tools.texts.numbers import number_of
 
 MOST_SPACES = 256
 NAME = r"[^\x00-\x20\x7f:#!0-9][^\x00-\x20\x7f:]*"

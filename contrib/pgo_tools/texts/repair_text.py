@@ -2,10 +2,10 @@
 import re
 from typing import NamedTuple, Optional
 
-from pgo_tools.block_text import MOST_BLOCKS, MOST_EDGES
 from pgo_tools.cli import REFUSED, Trouble
-from pgo_tools.files import lines_of
-from pgo_tools.numbers import number_of
+from pgo_tools.cli.files import lines_of
+from pgo_tools.texts.block_text import MOST_BLOCKS, MOST_EDGES
+from pgo_tools.texts.numbers import number_of
 
 NUMBER = "[0-9]+"
 WEIGHT = rf"(\?|{NUMBER})"

@@ -2,8 +2,8 @@
 import re
 from typing import NamedTuple
 
-from pgo_tools.files import lines_of
-from pgo_tools.numbers import decimal
+from pgo_tools.cli.files import lines_of
+from pgo_tools.texts.numbers import decimal
 
 COUNT = decimal(20)
 UNMAPPED = re.compile(rf"# unmapped ([A-Za-z]+) 0x([0-9a-f]{{1,16}}) 0x([0-9a-f]{{1,16}}) {COUNT}")

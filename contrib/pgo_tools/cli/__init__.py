@@ -8,6 +8,8 @@ import os
 import signal
 import sys
 import threading
+from types import FrameType
+from typing import BinaryIO, Callable, Iterator, List, NoReturn, Optional, Tuple
 
 from pgo_tools.texts.names import printable
 
@@ -21,11 +23,11 @@ HEARD = (signal.SIGINT, signal.SIGTERM, signal.SIGHUP, signal.SIGQUIT)
 class Trouble(Exception):
     """Why a script ends: what, and where; perhaps what helps; and the status."""
 
-    def __init__(self, what, status=FAILED, helps=""):
+    def __init__(self, what: str, status: int = FAILED, helps: str = "") -> None:
         super().__init__(what)
         self.what, self.status, self.helps = what, status, helps
 
-    def said(self):
+    def said(self) -> List[Tuple[str, str]]:
         """The lines that are told of it, each with what helps."""
         return [(self.what, self.helps)]
 
@@ -33,17 +35,17 @@ class Trouble(Exception):
 class Stopped(BaseException):
     """A signal asked the script to end. What it was at is undone on the way out."""
 
-    def __init__(self, number):
+    def __init__(self, number: int) -> None:
         super().__init__(number)
         self.number = number
 
 
-def name():
+def name() -> str:
     """The script's name, as its messages begin."""
     return os.path.basename(sys.argv[0]) or "pgo"
 
 
-def say(what, helps=""):
+def say(what: str, helps: str = "") -> None:
     """Tells a line on the error output, whatever names it has, and below it what helps. No byte of a file reaches a terminal raw."""
     lines = [f"{name()}: {what}"] + (f"  what helps: {helps}".split("\n") if helps else [])
     with contextlib.suppress(OSError, ValueError, AttributeError):
@@ -52,26 +54,26 @@ def say(what, helps=""):
         sys.stderr.flush()
 
 
-def put(line=""):
+def put(line: str = "") -> None:
     """Prints a line. Names go out as the bytes that they are."""
     out().write((line + "\n").encode("utf-8", "surrogateescape"))
 
 
-def out():
+def out() -> BinaryIO:
     """The output as bytes; a Trouble where it is closed."""
     if sys.stdout is None:
         raise Trouble("output: it is closed", WRITE_FAULT)
     return sys.stdout.buffer
 
 
-def given():
+def given() -> BinaryIO:
     """The input as bytes; a Trouble where it is closed."""
     if sys.stdin is None:
         raise Trouble("the input is closed, and no file is named", USAGE)
     return sys.stdin.buffer
 
 
-def stop(number, _frame):
+def stop(number: int, _frame: Optional[FrameType]) -> NoReturn:
     """The handler of signals. Only the first one counts, so that nothing cuts the way out short."""
     for each in HEARD:
         signal.signal(each, signal.SIG_IGN)
@@ -79,9 +81,10 @@ def stop(number, _frame):
 
 
 @contextlib.contextmanager
-def undisturbed():
+def undisturbed() -> Iterator[None]:
     """A signal that comes within the block is heard behind it: what is begun there is then known, and what is ended there is gone."""
-    late, is_main = [], threading.current_thread() is threading.main_thread()
+    late: List[int] = []
+    is_main = threading.current_thread() is threading.main_thread()
     heard = [each for each in HEARD if is_main and signal.getsignal(each) == stop]
     for each in heard:
         signal.signal(each, lambda number, _: late.append(number))
@@ -94,14 +97,14 @@ def undisturbed():
         stop(late[0], None)
 
 
-def hear():
+def hear() -> None:
     """Has signals end the script as Ctrl-C does, but for what the caller has it pass over (nohup)."""
     for each in HEARD:
         if signal.getsignal(each) != signal.SIG_IGN:
             signal.signal(each, stop)
 
 
-def fault(reason):
+def fault(reason: OSError) -> Tuple[int, str]:
     """The status of a call of the system that failed, and what is said of it."""
     said = f"{reason.filename if reason.filename is not None else 'output'}: {reason.strerror or reason}"
     if reason.errno in (errno.ENOENT, errno.ENOTDIR):
@@ -111,7 +114,7 @@ def fault(reason):
     return READ_FAULT, said
 
 
-def hold_streams():
+def hold_streams() -> None:
     """Has the numbers of streams that the caller closed taken, so that no file that is opened gets one; where there is /dev/null."""
     with contextlib.suppress(OSError):
         while (handle := os.open(os.devnull, os.O_RDWR)) <= 2:
@@ -119,7 +122,7 @@ def hold_streams():
         os.close(handle)
 
 
-def told(main, argv):
+def told(main: Callable[[List[str]], Optional[int]], argv: List[str]) -> int:
     """The status of a script's main, and what is said where it fails."""
     try:
         status = main(argv) or DONE
@@ -142,7 +145,7 @@ def told(main, argv):
         return status
 
 
-def ended(main, argv):
+def ended(main: Callable[[List[str]], Optional[int]], argv: List[str]) -> int:
     """The status of a script's main, whatever stops it: a signal, too, that comes while a message waits for who reads it."""
     try:
         hear()
@@ -154,7 +157,7 @@ def ended(main, argv):
         return 128 + signal.SIGINT
 
 
-def run(main, argv=None):
+def run(main: Callable[[List[str]], Optional[int]], argv: Optional[List[str]] = None) -> NoReturn:
     """Runs a script's main, and ends the process with its status. It never returns."""
     status = ended(main, sys.argv[1:] if argv is None else argv)
     # What could not be written is not tried again when Python ends.

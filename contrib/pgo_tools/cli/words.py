@@ -1,8 +1,9 @@
 """Words of a call: options stand anywhere, what stands behind `--` is no option, and some are numbers."""
 import argparse
+from typing import List
 
 
-def taken(parser, argv):
+def taken(parser: argparse.ArgumentParser, argv: List[str]) -> argparse.Namespace:
     """The options, with all other words in order as `rest`. Of a word that is no option the remedy is told."""
     cut = argv.index("--") if "--" in argv else len(argv)
     parser.add_argument("rest", nargs="*", help=argparse.SUPPRESS)
@@ -13,14 +14,14 @@ def taken(parser, argv):
     return found
 
 
-def named(word):
+def named(word: str) -> str:
     """For argparse: a name, which an unset variable is not."""
     if not word:
         raise argparse.ArgumentTypeError("a name, and not nothing")
     return word
 
 
-def percent(word):
+def percent(word: str) -> float:
     """For argparse: a number of percent."""
     try:
         value = float(word)
@@ -31,7 +32,7 @@ def percent(word):
     return value
 
 
-def at_least_one(word):
+def at_least_one(word: str) -> int:
     """For argparse: a whole number."""
     if not (word.isascii() and word.isdigit() and int(word) > 0):
         raise argparse.ArgumentTypeError(f"a number from 1 up, and not {word}")

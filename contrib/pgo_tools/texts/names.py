@@ -5,6 +5,7 @@ import shlex
 import shutil
 import subprocess
 import tempfile
+from typing import Dict, Iterable, Match
 
 # Control bytes of either set, what has no place in UTF-8, and what turns the direction of writing.
 UNPRINTED = re.compile("[\x00-\x1f\x7f-\x9f\ud800-\udfff\u200e\u200f\u2028-\u202e\u2066-\u2069]")
@@ -14,39 +15,39 @@ DEMANGLERS = ["llvm-cxxfilt", "c++filt"] + [f"llvm-cxxfilt-{number}" for number 
 DEMANGLER_LIMITS = ((resource.RLIMIT_AS, 1 << 30), (resource.RLIMIT_CPU, 20), (resource.RLIMIT_FSIZE, 1 << 28))
 
 
-def text_of(raw):
+def text_of(raw: bytes) -> str:
     """The bytes of a name as a text, from which `raw_of` makes the same bytes again."""
     return raw.decode("utf-8", "surrogateescape")
 
 
-def raw_of(text):
+def raw_of(text: str) -> bytes:
     """The bytes of a text, of those too that are not UTF-8."""
     return text.encode("utf-8", "surrogateescape")
 
 
-def escape(match):
+def escape(match: Match[str]) -> str:
     """A character that is not printed, as \\xNN for each of its bytes."""
     return "".join(f"\\x{byte:02x}" for byte in match[0].encode("utf-8", "surrogateescape"))
 
 
-def printable(text):
+def printable(text: str) -> str:
     """The text with what a terminal or a reader cannot take as \\xNN."""
     return UNPRINTED.sub(escape, text)
 
 
-def shell_word(text):
+def shell_word(text: str) -> str:
     """The text as one word of a POSIX shell; with bytes that are not printed as one of bash."""
     if not UNPRINTED.search(text):
         return shlex.quote(text)
     return "$'" + UNPRINTED.sub(escape, text.replace("\\", "\\\\").replace("'", "\\'")) + "'"
 
 
-def cut(text, width):
+def cut(text: str, width: int) -> str:
     """The text's first characters, with two points where some are left out."""
     return text if len(text) <= width else text[: width - 2] + ".."
 
 
-def cut_middle(text, width):
+def cut_middle(text: str, width: int) -> str:
     """The text's two ends, with two points between them where some is left out: names often differ at the end alone."""
     if len(text) <= width:
         return text
@@ -54,14 +55,14 @@ def cut_middle(text, width):
     return text[:first] + ".." + text[len(text) - (width - 2 - first) :]
 
 
-def within_limits():
+def within_limits() -> None:
     """Sets the limits of a demangler, in its process."""
     for kind, most in DEMANGLER_LIMITS:
         hard = resource.getrlimit(kind)[1]
         resource.setrlimit(kind, (most if hard == resource.RLIM_INFINITY else min(most, hard), hard))
 
 
-def answer(tool, text):
+def answer(tool: str, text: str) -> str:
     """What a demangler prints of these lines; "" where it fails, or would need too much."""
     try:
         with tempfile.TemporaryFile() as given, tempfile.TemporaryFile() as told:
@@ -75,7 +76,7 @@ def answer(tool, text):
         return ""
 
 
-def demangled(names):
+def demangled(names: Iterable[str]) -> Dict[str, str]:
     """Each name as its program's source has it, where a demangler is there and can tell of all, and else as it stands."""
     names = list(names)
     tool = next(filter(shutil.which, DEMANGLERS), None)

@@ -1,6 +1,6 @@
 """Reports, as they follow a profile's lines (docs/FORMATS.md, "Report"): what became of each sampled branch and range."""
 import re
-from typing import NamedTuple
+from typing import BinaryIO, Dict, List, NamedTuple
 
 from pgo_tools.cli.files import lines_of
 from pgo_tools.texts.numbers import decimal
@@ -22,19 +22,20 @@ class Unmapped(NamedTuple):
 class Report:
     """The sums of a report by their words ("branches", "ranges ran", "units read"), 0 where one is missing."""
 
-    def __init__(self):
-        self.sums = {}
-        self.unmapped, self.builds = [], []
+    def __init__(self) -> None:
+        self.sums: Dict[str, int] = {}
+        self.unmapped: List[Unmapped] = []
+        self.builds: List[str] = []
 
-    def __getitem__(self, word):
+    def __getitem__(self, word: str) -> int:
         return self.sums.get(word, 0)
 
-    def by_reason(self, reason):
+    def by_reason(self, reason: str) -> int:
         """How many branches are unmapped for this reason."""
         return sum(each.times for each in self.unmapped if each.reason == reason)
 
 
-def read(file):
+def read(file: BinaryIO) -> Report:
     """The report in a stream of bytes; other lines are passed over."""
     report = Report()
     for _, line in lines_of(file, "the report"):
@@ -43,7 +44,7 @@ def read(file):
     return report
 
 
-def add(report, line):
+def add(report: Report, line: str) -> None:
     """Adds a line to a report, where it is one."""
     if match := UNMAPPED.fullmatch(line):
         report.unmapped.append(Unmapped(match[1], int(match[2], 16), int(match[3], 16), int(match[4])))

@@ -6,21 +6,29 @@
  * out=FILE takes the samples as perf script -F ip,brstack --show-mmap-events prints them: the last DEPTH taken branches
  * (depth=, 32), every N of them (branches=N, as processors sample by events) or every N instructions (instructions=N).
  * N varies by up to an eighth each way, by a fixed sequence. exact=FILE takes how often each instruction of the program
- * ran, as lines of an address of its file and a count. Sums are told on the error output.
+ * ran, as lines of an address of its file and a count. Sums go to the error output as a process ends by itself.
+ *
+ * Each thread has a ring of branches and a period of its own. A process that forks writes to the same files, each process
+ * its own sums and counts; where an address then has several lines in exact=FILE, their counts add up. A sample is
+ * written as a whole, by one call, so a process that a signal ends has lost no line that was finished.
  *
  * A translated block that begins elsewhere than behind the one before it was reached by a taken branch, unless it begins
  * at the last instruction of that one: a repeated string instruction goes on, or the emulator took back an instruction
  * that passes the end of a page. That instruction has then run once, and not twice.
  *
- * Debian has no header of the plugins' interface (QEMU, "QEMU TCG Plugins", version 1), so what is used stands here.
+ * Debian has no header of the plugins' interface (QEMU, "QEMU TCG Plugins", version 1), so what is used is declared here.
  */
 #define _GNU_SOURCE
 #include <elf.h>
+#include <fcntl.h>
 #include <inttypes.h>
+#include <pthread.h>
 #include <stdbool.h>
 #include <stdio.h>
 #include <stdlib.h>
 #include <string.h>
+#include <sys/stat.h>
+#include <unistd.h>
 
 typedef uint64_t qemu_plugin_id_t;
 struct qemu_plugin_tb;
@@ -46,23 +54,148 @@ struct block {
     uint64_t at[];
 };
 
-enum { RING = 1024 };
-static struct { uint64_t from, to; } ring[RING];
-static struct block *blocks;
-static const struct block *before;
-static FILE *text, *exact;
-static uint64_t depth = 32, by_branches, by_instructions, left, instructions, branches, inside, samples;
-static uint64_t low, high, bias;
-static bool placed;
+enum { RING = 1024, ENTRY = 56 };
 
-static uint64_t next_period(void)
+/* What is known of one thread. One that ended leaves it, with its sums and the rest of its period, to one that begins. */
+struct thread {
+    struct thread *next;
+    bool busy;
+    const struct block *before;
+    uint64_t state, left, held, instructions, branches, inside, samples;
+    struct { uint64_t from, to; } ring[RING];
+    char line[];
+};
+
+/* A file that each process and thread appends to. */
+struct file {
+    char *path;
+    int at;
+    dev_t device;
+    ino_t number;
+};
+
+static struct block *blocks;
+static struct thread *threads;
+static __thread struct thread *mine;
+static pthread_mutex_t lock = PTHREAD_MUTEX_INITIALIZER;
+static pthread_key_t ending;
+static struct file text, exact;
+static uint64_t depth = 32, by_branches, by_instructions, forks, low, high, bias;
+static bool placed, several;
+
+static uint64_t drawn(struct thread *me)
 {
-    static uint64_t state = 88172645463325252ull;
-    uint64_t period = by_branches ? by_branches : by_instructions, quarter = period / 4;
-    state ^= state << 13;
-    state ^= state >> 7;
-    state ^= state << 17;
-    return period - quarter / 2 + (quarter ? state % quarter : 0);
+    me->state ^= me->state << 13;
+    me->state ^= me->state >> 7;
+    me->state ^= me->state << 17;
+    return me->state;
+}
+
+static uint64_t next_period(struct thread *me)
+{
+    uint64_t period = by_branches ? by_branches : by_instructions, quarter = period / 4, some = drawn(me);
+    return period - quarter / 2 + (quarter ? some % quarter : 0);
+}
+
+/* The rest of a period at a point that is drawn, with a sequence of its own for each number: else threads or processes that
+   end before a period does would give no sample. */
+static void somewhere(struct thread *me, uint64_t number)
+{
+    uint64_t period = by_branches ? by_branches : by_instructions;
+    me->state ^= (number + 1) * 0x9e3779b97f4a7c15ull;
+    me->state += !me->state;
+    for (int k = 0; k < 8; k++)
+        drawn(me);
+    me->left = 1 + (period ? drawn(me) % period : 0);
+}
+
+static struct thread *new_thread(void)
+{
+    struct thread *me = calloc(1, sizeof *me + (depth + 1) * ENTRY);
+    if (!me)
+        abort();
+    me->state = 88172645463325252ull;
+    if (threads)
+        somewhere(me, (uint64_t)gettid());
+    else
+        me->left = next_period(me);
+    several = threads;
+    me->next = threads;
+    threads = me;
+    return me;
+}
+
+/* A number of the emulator's for a processor is used again, and a thread of the program is one of the emulator: so what a
+   thread has hangs on that one. */
+static struct thread *begin(void)
+{
+    struct thread *me;
+    pthread_mutex_lock(&lock);
+    for (me = threads; me && me->busy; me = me->next)
+        ;
+    if (!me)
+        me = new_thread();
+    me->busy = true;
+    me->before = NULL;
+    me->held = 0;
+    pthread_mutex_unlock(&lock);
+    pthread_setspecific(ending, me);
+    return mine = me;
+}
+
+static void end(void *data)
+{
+    struct thread *me = data;
+    pthread_mutex_lock(&lock);
+    me->busy = false;
+    pthread_mutex_unlock(&lock);
+    mine = NULL;
+}
+
+static bool open_file(struct file *it, int how)
+{
+    struct stat found;
+    int at = open(it->path, O_WRONLY | O_APPEND | O_CLOEXEC | how, 0666), away;
+    if (at < 0)
+        return false;
+    /* out of the way of the program's own files, whose numbers are the emulator's */
+    away = fcntl(at, F_DUPFD_CLOEXEC, 900);
+    if (away >= 0) {
+        close(at);
+        at = away;
+    }
+    fstat(at, &found);
+    it->device = found.st_dev;
+    it->number = found.st_ino;
+    it->at = at;
+    return true;
+}
+
+/* Whole lines, by one call. Programs that go to the background close all files, this one too, or use its number again. */
+static void put(struct file *it, const char *lines, size_t n)
+{
+    struct stat found;
+    if (fstat(it->at, &found) || found.st_dev != it->device || found.st_ino != it->number)
+        if (!open_file(it, 0))
+            return;
+    while (n) {
+        ssize_t done = write(it->at, lines, n);
+        if (done <= 0)
+            return;
+        lines += done;
+        n -= (size_t)done;
+    }
+}
+
+static void load_line(const char *name, uint64_t from, uint64_t length, uint64_t offset)
+{
+    char *line;
+    int n = asprintf(&line, "PERF_RECORD_MMAP2 1/1: [%#" PRIx64 "(%#" PRIx64 ") @ %#" PRIx64 " fe:00 1 0]: r-xp %s\n", from,
+                     length, offset, name);
+    if (n < 0)
+        return;
+    put(&text, line, (size_t)n);
+    free(line);
 }
 
 /* Where the program's code lies, and how far from where its file says; a load line for each of its segments of code. */
@@ -85,60 +218,74 @@ static void place(void)
         }
         high = part.p_vaddr + part.p_memsz + bias;
         uint64_t from = (part.p_vaddr & ~4095ull) + bias, length = ((high + 4095) & ~4095ull) - from;
-        if (text)
-            fprintf(text, "PERF_RECORD_MMAP2 1/1: [%#" PRIx64 "(%#" PRIx64 ") @ %#" PRIx64 " fe:00 1 0]: r-xp %s\n", from, length,
-                    (uint64_t)part.p_offset & ~4095ull, path);
+        if (text.path)
+            load_line(path, from, length, (uint64_t)part.p_offset & ~4095ull);
     }
     fclose(file);
     free(path);
 }
 
-static void sample(uint64_t at)
+static void sample(struct thread *me, uint64_t at)
 {
-    fprintf(text, "%17" PRIx64, at);
-    for (uint64_t k = 1; k <= depth && k <= branches; k++)
-        fprintf(text, " 0x%" PRIx64 "/0x%" PRIx64 "/P/-/-/0//- ", ring[(branches - k) % RING].from, ring[(branches - k) % RING].to);
-    fputc('\n', text);
-    samples++;
+    int n = sprintf(me->line, "%17" PRIx64, at);
+    for (uint64_t k = 1; k <= depth && k <= me->held; k++)
+        n += sprintf(me->line + n, " 0x%" PRIx64 "/0x%" PRIx64 "/P/-/-/0//- ", me->ring[(me->held - k) % RING].from,
+                     me->ring[(me->held - k) % RING].to);
+    me->line[n++] = '\n';
+    put(&text, me->line, (size_t)n);
+    me->samples++;
 }
 
-static void took(uint64_t from, uint64_t to)
+static void took(struct thread *me, uint64_t from, uint64_t to)
 {
-    ring[branches % RING].from = from;
-    ring[branches % RING].to = to;
-    branches++;
-    inside += from >= low && from < high;
-    if (text && by_branches && --left == 0) {
-        sample(to);
-        left = next_period();
+    me->ring[me->held % RING].from = from;
+    me->ring[me->held % RING].to = to;
+    me->held++;
+    me->branches++;
+    me->inside += from >= low && from < high;
+    if (text.path && by_branches && --me->left == 0) {
+        sample(me, to);
+        me->left = next_period(me);
     }
+}
+
+static void count(uint64_t *runs)
+{
+    if (several)
+        __atomic_fetch_add(runs, 1, __ATOMIC_RELAXED);
+    else
+        ++*runs;
 }
 
 static void on_run(unsigned cpu, void *data)
 {
+    struct thread *me = mine ? mine : begin();
     struct block *it = data;
+    const struct block *before = me->before;
     uint64_t new = it->n;
     (void)cpu;
     if (!placed)
         place();
-    it->runs++;
+    if (exact.path)
+        count(&it->runs);
     if (before && it->at[0] == before->last) {
-        it->again++;
+        if (exact.path)
+            count(&it->again);
         new--;
     } else if (before && it->at[0] != before->end) {
-        took(before->last, it->at[0]);
+        took(me, before->last, it->at[0]);
     }
-    before = it;
-    instructions += new;
-    if (!text || !by_instructions)
+    me->before = it;
+    me->instructions += new;
+    if (!text.path || !by_instructions)
         return;
-    while (left <= new) {
-        if (branches)
-            sample(it->at[it->n - new + left - (left == new)]);
-        new -= left;
-        left = next_period();
+    while (me->left <= new) {
+        if (me->held)
+            sample(me, it->at[it->n - new + me->left - (me->left == new)]);
+        new -= me->left;
+        me->left = next_period(me);
     }
-    left -= new;
+    me->left -= new;
 }
 
 static void on_translate(qemu_plugin_id_t id, struct qemu_plugin_tb *part)
@@ -151,8 +298,10 @@ static void on_translate(qemu_plugin_id_t id, struct qemu_plugin_tb *part)
     it->n = n;
     it->last = it->at[n - 1];
     it->end = it->last + qemu_plugin_insn_size(qemu_plugin_tb_get_insn(part, n - 1));
+    pthread_mutex_lock(&lock);
     it->next = blocks;
     blocks = it;
+    pthread_mutex_unlock(&lock);
     qemu_plugin_register_vcpu_tb_exec_cb(part, on_run, CB_NO_REGS, it);
 }
 
@@ -166,7 +315,9 @@ static int by_address(const void *a, const void *b)
 
 static void tell_counts(void)
 {
-    size_t n = 0, k = 0;
+    size_t n = 0, k = 0, size;
+    char *lines = NULL;
+    FILE *out = open_memstream(&lines, &size);
     for (struct block *it = blocks; it; it = it->next)
         n += it->n;
     struct ran *all = calloc(n + 1, sizeof *all);
@@ -178,21 +329,83 @@ static void tell_counts(void)
         if (all[k].at == all[k + 1].at && k + 1 < n)
             all[k + 1].times += all[k].times;
         else if (all[k].at >= low && all[k].at < high)
-            fprintf(exact, "0x%" PRIx64 " %" PRIu64 "\n", all[k].at - bias, all[k].times);
+            fprintf(out, "0x%" PRIx64 " %" PRIu64 "\n", all[k].at - bias, all[k].times);
     }
-    fclose(exact);
+    fclose(out);
+    put(&exact, lines, size);
+    free(lines);
     free(all);
+}
+
+static void before_fork(void)
+{
+    pthread_mutex_lock(&lock);
+    forks++;
+}
+
+static void in_parent(void)
+{
+    pthread_mutex_unlock(&lock);
+}
+
+/* The new process has one thread, and counts from 0. */
+static void in_child(void)
+{
+    for (struct thread *it = threads; it; it = it->next) {
+        it->busy = it == mine;
+        it->instructions = it->branches = it->inside = it->samples = 0;
+        somewhere(it, forks);
+    }
+    for (struct block *it = blocks; it; it = it->next)
+        it->runs = it->again = 0;
+    pthread_mutex_unlock(&lock);
 }
 
 static void on_exit_of(qemu_plugin_id_t id, void *data)
 {
+    uint64_t instructions = 0, branches = 0, inside = 0, samples = 0;
     (void)id, (void)data;
-    if (text)
-        fclose(text);
-    if (exact)
+    pthread_mutex_lock(&lock);
+    for (const struct thread *it = threads; it; it = it->next) {
+        instructions += it->instructions;
+        branches += it->branches;
+        inside += it->inside;
+        samples += it->samples;
+    }
+    if (exact.path)
         tell_counts();
+    pthread_mutex_unlock(&lock);
     fprintf(stderr, "recorder: instructions %" PRIu64 " branches %" PRIu64 " inside %" PRIu64 " samples %" PRIu64 "\n", instructions,
             branches, inside, samples);
+}
+
+/* Makes the file, and keeps its whole name, since the program may go to another folder. */
+static bool make_file(struct file *it, const char *name)
+{
+    it->path = strdup(name);
+    if (!open_file(it, O_CREAT | O_TRUNC)) {
+        fprintf(stderr, "recorder: cannot write %s\n", name);
+        return false;
+    }
+    it->path = realpath(name, NULL);
+    return it->path;
+}
+
+static bool take_word(const char *name, const char *value)
+{
+    if (!strcmp(name, "out"))
+        return make_file(&text, value);
+    if (!strcmp(name, "exact"))
+        return make_file(&exact, value);
+    if (!strcmp(name, "depth"))
+        depth = strtoull(value, NULL, 10);
+    else if (!strcmp(name, "branches"))
+        by_branches = strtoull(value, NULL, 10);
+    else if (!strcmp(name, "instructions"))
+        by_instructions = strtoull(value, NULL, 10);
+    else
+        return false;
+    return true;
 }
 
 __attribute__((visibility("default"))) int qemu_plugin_install(qemu_plugin_id_t id, const void *info, int n, char **words)
@@ -203,22 +416,13 @@ __attribute__((visibility("default"))) int qemu_plugin_install(qemu_plugin_id_t 
         if (!value)
             return -1;
         *value++ = 0;
-        if (!strcmp(words[k], "out"))
-            text = fopen(value, "w");
-        else if (!strcmp(words[k], "exact"))
-            exact = fopen(value, "w");
-        else if (!strcmp(words[k], "depth"))
-            depth = strtoull(value, NULL, 10);
-        else if (!strcmp(words[k], "branches"))
-            by_branches = strtoull(value, NULL, 10);
-        else if (!strcmp(words[k], "instructions"))
-            by_instructions = strtoull(value, NULL, 10);
-        else
+        if (!take_word(words[k], value))
             return -1;
     }
-    if (!depth || depth >= RING || (text && !by_branches == !by_instructions))
+    if (!depth || depth >= RING || (text.path && !by_branches == !by_instructions))
         return -1;
-    left = next_period();
+    if (pthread_key_create(&ending, end) || pthread_atfork(before_fork, in_parent, in_child))
+        return -1;
     qemu_plugin_register_vcpu_tb_trans_cb(id, on_translate);
     qemu_plugin_register_atexit_cb(id, on_exit_of, NULL);
     return 0;

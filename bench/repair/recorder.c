@@ -80,7 +80,7 @@ static __thread struct thread *mine;
 static pthread_mutex_t lock = PTHREAD_MUTEX_INITIALIZER;
 static pthread_key_t ending;
 static struct file text, exact;
-static uint64_t depth = 32, by_branches, by_instructions, forks, low, high, bias;
+static uint64_t depth = 32, by_branches, by_instructions, beside, forks, low, high, bias;
 static bool placed, several;
 
 static uint64_t drawn(struct thread *me)
@@ -116,7 +116,7 @@ static struct thread *new_thread(void)
         abort();
     me->state = 88172645463325252ull;
     if (threads)
-        somewhere(me, (uint64_t)gettid());
+        somewhere(me, ++beside);
     else
         me->left = next_period(me);
     several = threads;

@@ -1,0 +1,118 @@
+"""bench/repair/recorder.c: threads that run at once count as those that run one after another, and each line of its
+text is whole, with many threads, with forked processes, and where a signal ends the program."""
+import re
+import shutil
+import signal
+import subprocess
+import time
+
+from common import DONE, PGO, TOP, Case, needs, run
+
+PERIOD = 499
+LINE = re.compile(rb" *[0-9a-f]+( 0x[0-9a-f]+/0x[0-9a-f]+/P/-/-/0//- )*|PERF_RECORD_MMAP2 .*")
+SUMS = re.compile(rb"^recorder: instructions (\d+) branches (\d+) inside (\d+) samples (\d+)$", re.M)
+SOURCE = r"""
+#include <pthread.h>
+#include <stdlib.h>
+#include <string.h>
+#include <sys/wait.h>
+#include <unistd.h>
+static unsigned long n;
+__attribute__((noinline)) static unsigned long step(unsigned long x) { return x & 1 ? x * 3 + 1 : x / 2; }
+static void *work(void *none)
+{
+    unsigned long x = 12345;
+    for (unsigned long k = 0; k < n; k++)
+        x = step(x) + k;
+    return (void *)x;
+}
+/* Of four forked processes one closes all files first, as those do that go to the background. */
+static void fork_four(void)
+{
+    for (int k = 0; k < 4; k++)
+        if (!fork()) {
+            for (int at = 3; k == 1 && at < 1024; at++)
+                close(at);
+            exit(work(NULL) == &n);
+        }
+}
+int main(int argc, char **argv)
+{
+    int threads = atoi(argv[2]), joined = !strcmp(argv[1], "joined");
+    pthread_t all[64];
+    n = strtoul(argv[3], NULL, 10);
+    if (!strcmp(argv[1], "fork"))
+        fork_four();
+    for (int k = 0; k < threads; k++) {
+        pthread_create(&all[k], NULL, work, NULL);
+        if (joined)
+            pthread_join(all[k], NULL);
+    }
+    for (int k = 0; k < threads && !joined; k++)
+        pthread_join(all[k], NULL);
+    while (wait(NULL) > 0)
+        ;
+    return argc != 4;
+}
+"""
+
+
+@needs("qemu-x86_64", "gcc")
+class Recorder(Case):
+    def setUp(self):
+        super().setUp()
+        self.file("threads.c", SOURCE)
+        source = TOP / "bench" / "repair" / "recorder.c"
+        for words in (["-O2", "-shared", "-fPIC", "-o", self.folder / "recorder.so", source],
+                      ["-O1", "-g", "-pthread", "-o", self.folder / "threads", self.folder / "threads.c"]):
+            made = run("gcc", *words)
+            self.assertEqual(made.status, DONE, made.said)
+
+    def words(self, *words):
+        return ["qemu-x86_64", "-plugin", f"./recorder.so,out=text,branches={PERIOD}", "./threads", *words]
+
+    def text_is_whole(self):
+        text = (self.folder / "text").read_bytes()
+        self.assertTrue(text.endswith(b"\n"), text[-200:])
+        lines = text.splitlines()
+        self.assertEqual([line for line in lines if not LINE.fullmatch(line)], [])
+        counted = self.run_here(PGO, "counts", "text")
+        self.assertEqual(counted.status, DONE, counted.said)
+        return sum(not line.startswith(b"PERF") for line in lines)
+
+    def sums(self, *words):
+        """Instructions, branches, those inside and samples, of all processes."""
+        ran = self.run_here(*self.words(*words))
+        self.assertEqual(ran.status, DONE, ran.said)
+        each = [[int(number) for number in found] for found in SUMS.findall(ran.err)]
+        for _, branches, inside, _ in each:
+            self.assertLessEqual(inside, branches)
+        total = [sum(column) for column in zip(*each)]
+        self.assertEqual(self.text_is_whole(), total[3])
+        self.assertLess(abs(total[3] * PERIOD / total[1] - 1), 0.05, each)
+        return total, len(each)
+
+    def test_threads_at_once_count_as_one_after_another(self):
+        for threads, n in (("4", "300000"), ("64", "10000")):
+            with self.subTest(threads=threads):
+                (one, _), (other, _) = self.sums("joined", threads, n), self.sums("concurrent", threads, n)
+                for a, b in zip(one, other):
+                    self.assertLess(abs(a / b - 1), 0.02, (one, other))
+
+    def test_each_forked_process_counts_and_samples_for_itself(self):
+        (_, branches, inside, _), processes = self.sums("fork", "4", "100000")
+        self.assertEqual(processes, 5)
+        (_, single, single_inside, _), _ = self.sums("joined", "8", "100000")
+        self.assertLess(abs(inside / single_inside - 1), 0.02)
+        self.assertLess(abs(branches / single - 1), 0.05)
+
+    def test_a_signal_loses_no_line_that_was_finished(self):
+        for number in (signal.SIGTERM, signal.SIGKILL):
+            with self.subTest(signal=number.name):
+                words = self.words("concurrent", "1", "1000000000000")
+                words[0] = shutil.which(words[0])
+                with subprocess.Popen(words, cwd=self.folder, stderr=subprocess.DEVNULL) as ran:
+                    time.sleep(1)
+                    ran.send_signal(number)
+                    self.assertEqual(ran.wait(20), -number)
+                self.assertGreater(self.text_is_whole(), 100)

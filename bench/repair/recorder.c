@@ -10,7 +10,8 @@
  *
  * Each thread has a ring of branches and a period of its own. A process that forks writes to the same files, each process
  * its own sums and counts; where an address then has several lines in exact=FILE, their counts add up. A sample is
- * written as a whole, by one call, so a process that a signal ends has lost no line that was finished.
+ * written as a whole, by one call, so a process that a signal ends has lost no line that was finished. Linux may cut the
+ * one that it is writing then, where that passes the end of a page: seldom, but with many threads and a short period.
  *
  * A translated block that begins elsewhere than behind the one before it was reached by a taken branch, unless it begins
  * at the last instruction of that one: a repeated string instruction goes on, or the emulator took back an instruction

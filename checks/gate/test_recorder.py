@@ -68,8 +68,8 @@ class Recorder(Case):
             made = run("gcc", *words)
             self.assertEqual(made.status, DONE, made.said)
 
-    def words(self, *words):
-        return ["qemu-x86_64", "-plugin", f"./recorder.so,out=text,branches={PERIOD}", "./threads", *words]
+    def words(self, *words, period=PERIOD):
+        return ["qemu-x86_64", "-plugin", f"./recorder.so,out=text,branches={period}", "./threads", *words]
 
     def text_is_whole(self):
         text = (self.folder / "text").read_bytes()
@@ -109,7 +109,7 @@ class Recorder(Case):
     def test_a_signal_loses_no_line_that_was_finished(self):
         for number in (signal.SIGTERM, signal.SIGKILL):
             with self.subTest(signal=number.name):
-                words = self.words("concurrent", "1", "1000000000000")
+                words = self.words("concurrent", "1", "1000000000000", period=9999)
                 words[0] = shutil.which(words[0])
                 with subprocess.Popen(words, cwd=self.folder, stderr=subprocess.DEVNULL) as ran:
                     time.sleep(1)

@@ -31,10 +31,11 @@ class Call(NamedTuple):
 
 
 class Cost(NamedTuple):
-    """Seconds of a processor, and bytes of memory; None where these are too few to be told."""
+    """Seconds of a processor, and bytes of memory; None where these are too few to be told. `user` is the part in user mode."""
 
     seconds: float
     memory: Optional[int]
+    user: float = 0.0
 
     def beyond(self, other):
         memory = None if None in (self.memory, other.memory) else self.memory - other.memory
@@ -68,7 +69,7 @@ def run(words, out, err):
             _, ended, used = os.wait4(process.pid, 0)
             process.returncode = os.waitstatus_to_exitcode(ended)
     memory = used.ru_maxrss * 1024
-    return process.returncode, Cost(used.ru_utime + used.ru_stime, memory if memory > own_memory() else None)
+    return process.returncode, Cost(used.ru_utime + used.ru_stime, memory if memory > own_memory() else None, used.ru_utime)
 
 
 def reason(status, err):

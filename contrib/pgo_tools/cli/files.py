@@ -221,12 +221,21 @@ def scratch_folder(prefix, above=None):
                 shutil.rmtree(path, ignore_errors=True)
 
 
+def keep_mode(file, place):
+    """Gives a new file the permissions of the caller's own file at this place. Another user's file does not choose ours."""
+    with contextlib.suppress(OSError):
+        old = os.lstat(place)
+        if stat.S_ISREG(old.st_mode) and old.st_uid == os.geteuid():
+            os.fchmod(file.fileno(), old.st_mode & 0o777)
+
+
 @contextlib.contextmanager
 def put_in_place(path, inputs=(), lasting=True):
     """A file to write bytes to, which stands at the path once the block has ended well, and else leaves nothing behind.
 
-    A link is followed, and a file that was there keeps its mode. Devices, pipes, folders and the inputs are refused. What need
-    not outlive a loss of power is not waited for on its way to the disk.
+    A link is followed, and a file of the caller's that was there keeps its permissions, but no setuid, setgid or sticky bit.
+    Devices, pipes, folders and the inputs are refused. What need not outlive a loss of power is not waited for on its way to
+    the disk.
     """
     place = target_of(path, inputs)
     new = None
@@ -236,8 +245,7 @@ def put_in_place(path, inputs=(), lasting=True):
         with os.fdopen(handle, "wb") as file:
             yield file
             file.flush()
-            with contextlib.suppress(OSError):
-                os.fchmod(file.fileno(), stat.S_IMODE(os.stat(place).st_mode))
+            keep_mode(file, place)
             if lasting:
                 os.fsync(file.fileno())
         os.replace(new, place)

@@ -9,9 +9,10 @@
  * ran, as lines of an address of its file and a count. Sums go to the error output as a process ends by itself.
  *
  * Each thread has a ring of branches and a period of its own. A process that forks writes to the same files, each process
- * its own sums and counts; where an address then has several lines in exact=FILE, their counts add up. A sample is
- * written as a whole, by one call, so a process that a signal ends has lost no line that was finished. Linux may cut the
- * one that it is writing then, where that passes the end of a page: seldom, but with many threads and a short period.
+ * its own sums and counts; where an address then has several lines in exact=FILE, their counts add up.
+ *
+ * A line of out=FILE is written as a comment, whose first byte is written over once the line is there as a whole. So a signal
+ * that ends the process, SIGKILL too, leaves each finished line, and of unfinished ones blank lines and comments.
  *
  * A translated block that begins elsewhere than behind the one before it was reached by a taken branch, unless it begins
  * at the last instruction of that one: a repeated string instruction goes on, or the emulator took back an instruction
@@ -21,6 +22,7 @@
  */
 #define _GNU_SOURCE
 #include <elf.h>
+#include <errno.h>
 #include <fcntl.h>
 #include <inttypes.h>
 #include <pthread.h>
@@ -55,7 +57,8 @@ struct block {
     uint64_t at[];
 };
 
-enum { RING = 1024, ENTRY = 56 };
+/* The longest entry of a sample, and a line's room for the other fields. */
+enum { RING = 1024, ENTRY = 56, ROOM = 64 };
 
 /* What is known of one thread. One that ended leaves it, with its sums and the rest of its period, to one that begins. */
 struct thread {
@@ -67,10 +70,12 @@ struct thread {
     char line[];
 };
 
-/* A file that each process and thread appends to. */
+/* A file that each process and thread appends to. `at` appends, and `over` writes over what is there. Each process opens `at`
+   for itself, so its position is the end of what this process appended last. */
 struct file {
     char *path;
-    int at;
+    int at, over;
+    bool regular, failed;
     dev_t device;
     ino_t number;
 };
@@ -78,7 +83,7 @@ struct file {
 static struct block *blocks;
 static struct thread *threads;
 static __thread struct thread *mine;
-static pthread_mutex_t lock = PTHREAD_MUTEX_INITIALIZER;
+static pthread_mutex_t lock = PTHREAD_MUTEX_INITIALIZER, writing = PTHREAD_MUTEX_INITIALIZER;
 static pthread_key_t ending;
 static struct file text, exact;
 static uint64_t depth = 32, by_branches, by_instructions, beside, forks, low, high, bias;
@@ -112,7 +117,7 @@ static void somewhere(struct thread *me, uint64_t number)
 
 static struct thread *new_thread(void)
 {
-    struct thread *me = calloc(1, sizeof *me + (depth + 1) * ENTRY);
+    struct thread *me = calloc(1, sizeof *me + ROOM + depth * ENTRY);
     if (!me)
         abort();
     me->state = 88172645463325252ull;
@@ -153,39 +158,88 @@ static void end(void *data)
     mine = NULL;
 }
 
+/* Opens a file out of the way of the program's own files, whose numbers are the emulator's. */
+static int open_away(const char *path, int how)
+{
+    int at = open(path, O_WRONLY | O_CLOEXEC | how, 0666), away;
+    if (at < 0)
+        return at;
+    away = fcntl(at, F_DUPFD_CLOEXEC, 900);
+    if (away < 0)
+        return at;
+    close(at);
+    return away;
+}
+
 static bool open_file(struct file *it, int how)
 {
     struct stat found;
-    int at = open(it->path, O_WRONLY | O_APPEND | O_CLOEXEC | how, 0666), away;
-    if (at < 0)
+    it->at = open_away(it->path, O_APPEND | how);
+    it->over = open_away(it->path, 0);
+    if (it->at < 0 || it->over < 0 || fstat(it->at, &found))
         return false;
-    /* out of the way of the program's own files, whose numbers are the emulator's */
-    away = fcntl(at, F_DUPFD_CLOEXEC, 900);
-    if (away >= 0) {
-        close(at);
-        at = away;
-    }
-    fstat(at, &found);
+    it->regular = S_ISREG(found.st_mode);
     it->device = found.st_dev;
     it->number = found.st_ino;
-    it->at = at;
     return true;
 }
 
-/* Whole lines, by one call. Programs that go to the background close all files, this one too, or use its number again. */
-static void put(struct file *it, const char *lines, size_t n)
+static bool is_of(const struct file *it, int at)
 {
     struct stat found;
-    if (fstat(it->at, &found) || found.st_dev != it->device || found.st_ino != it->number)
-        if (!open_file(it, 0))
-            return;
-    while (n) {
-        ssize_t done = write(it->at, lines, n);
-        if (done <= 0)
-            return;
-        lines += done;
-        n -= (size_t)done;
+    return !fstat(at, &found) && found.st_dev == it->device && found.st_ino == it->number;
+}
+
+/* Programs that go to the background close all files, these too, or use their numbers again. */
+static bool is_open(struct file *it)
+{
+    return (is_of(it, it->at) && is_of(it, it->over)) || open_file(it, 0);
+}
+
+static void open_again(struct file *it)
+{
+    if (is_of(it, it->at))
+        close(it->at);
+    if (is_of(it, it->over))
+        close(it->over);
+    open_file(it, 0);
+}
+
+/* Writes all bytes, appending them (`to` < 0) or over what is there. Where the disk is full, say so once. */
+static bool put(struct file *it, const char *bytes, size_t n, off_t to)
+{
+    for (size_t done = 0; done < n;) {
+        ssize_t some = to < 0 ? write(it->at, bytes + done, n - done) : pwrite(it->over, bytes + done, n - done, to + (off_t)done);
+        if (some <= 0 && (some == 0 || errno != EINTR)) {
+            if (!it->failed)
+                fprintf(stderr, "recorder: %s: %s; lines are missing\n", it->path, strerror(errno));
+            it->failed = true;
+            return false;
+        }
+        done += some > 0 ? (size_t)some : 0;
     }
+    return true;
+}
+
+/* Appends a line to a branch text: room for it as blank lines, then the line as a comment, and last its first byte. Wherever a
+   signal ends the process, what is left of the line is blank or a comment, and ends as lines do. */
+static void put_line(struct file *it, char *line, size_t n)
+{
+    static char blank[ROOM + (RING + 1) * ENTRY];
+    char first = line[0];
+    pthread_mutex_lock(&writing);
+    if (is_open(it)) {
+        memset(blank, '\n', n);
+        if (!it->regular) {
+            put(it, line, n, -1);
+        } else if (put(it, blank, n, -1)) {
+            off_t to = lseek(it->at, 0, SEEK_CUR) - (off_t)n;
+            line[0] = '#';
+            if (put(it, line, n, to))
+                put(it, &first, 1, to);
+        }
+    }
+    pthread_mutex_unlock(&writing);
 }
 
 static void load_line(const char *name, uint64_t from, uint64_t length, uint64_t offset)
@@ -195,7 +249,7 @@ static void load_line(const char *name, uint64_t from, uint64_t length, uint64_t
                      length, offset, name);
     if (n < 0)
         return;
-    put(&text, line, (size_t)n);
+    put_line(&text, line, (size_t)n);
     free(line);
 }
 
@@ -233,7 +287,7 @@ static void sample(struct thread *me, uint64_t at)
         n += sprintf(me->line + n, " 0x%" PRIx64 "/0x%" PRIx64 "/P/-/-/0//- ", me->ring[(me->held - k) % RING].from,
                      me->ring[(me->held - k) % RING].to);
     me->line[n++] = '\n';
-    put(&text, me->line, (size_t)n);
+    put_line(&text, me->line, (size_t)n);
     me->samples++;
 }
 
@@ -333,7 +387,8 @@ static void tell_counts(void)
             fprintf(out, "0x%" PRIx64 " %" PRIu64 "\n", all[k].at - bias, all[k].times);
     }
     fclose(out);
-    put(&exact, lines, size);
+    if (is_open(&exact))
+        put(&exact, lines, size, -1);
     free(lines);
     free(all);
 }
@@ -341,15 +396,17 @@ static void tell_counts(void)
 static void before_fork(void)
 {
     pthread_mutex_lock(&lock);
+    pthread_mutex_lock(&writing);
     forks++;
 }
 
 static void in_parent(void)
 {
+    pthread_mutex_unlock(&writing);
     pthread_mutex_unlock(&lock);
 }
 
-/* The new process has one thread, and counts from 0. */
+/* The new process has one thread, counts from 0, and opens its files for itself. */
 static void in_child(void)
 {
     for (struct thread *it = threads; it; it = it->next) {
@@ -359,6 +416,9 @@ static void in_child(void)
     }
     for (struct block *it = blocks; it; it = it->next)
         it->runs = it->again = 0;
+    if (text.path)
+        open_again(&text);
+    pthread_mutex_unlock(&writing);
     pthread_mutex_unlock(&lock);
 }
 
@@ -376,8 +436,8 @@ static void on_exit_of(qemu_plugin_id_t id, void *data)
     if (exact.path)
         tell_counts();
     pthread_mutex_unlock(&lock);
-    fprintf(stderr, "recorder: instructions %" PRIu64 " branches %" PRIu64 " inside %" PRIu64 " samples %" PRIu64 "\n", instructions,
-            branches, inside, samples);
+    fprintf(stderr, "recorder: instructions %" PRIu64 " branches %" PRIu64 " inside %" PRIu64 " samples %" PRIu64 "\n",
+            instructions, branches, inside, samples);
 }
 
 /* Makes the file, and keeps its whole name, since the program may go to another folder. */

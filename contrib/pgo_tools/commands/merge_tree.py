@@ -11,12 +11,13 @@ import os
 import re
 import shlex
 import shutil
+import stat
 import sys
 
 from pgo_tools import cli
 from pgo_tools.cli import files, programs
 from pgo_tools.cli.words import at_least_one, named, percent
-from pgo_tools.fleet import engines, listing, parts, run_tree, tree
+from pgo_tools.fleet import engines, listing, owner, parts, run_tree, tree
 
 LOCAL_WIDTH, ENGINE_WIDTH = 8, 64
 # What a tree's folder holds, with what a call that was killed leaves there, and what is there before the tree is described. A folder
@@ -125,7 +126,7 @@ def is_tree(folder):
 def owned(folder):
     """Makes a folder for a tree, or takes one that held a tree."""
     try:
-        os.mkdir(folder)
+        os.mkdir(folder, stat.S_IRWXU)
     except FileExistsError:
         # One that another call has taken away meanwhile cannot be locked.
         if not is_tree(folder) and os.path.lexists(folder):
@@ -147,11 +148,13 @@ def locked(folder):
     path = os.path.join(folder, "lock")
     busy = cli.Trouble(f"another merge-tree is at work in {folder}", cli.FAILED)
     try:
-        handle = os.open(path, os.O_WRONLY | os.O_CREAT | os.O_NOFOLLOW | os.O_NONBLOCK | os.O_CLOEXEC, 0o666)
+        owner.close(folder)
+        handle = os.open(path, os.O_WRONLY | os.O_CREAT | os.O_NOFOLLOW | os.O_NONBLOCK | os.O_CLOEXEC, stat.S_IRUSR | stat.S_IWUSR)
     except FileNotFoundError:
         # The other one has just taken the tree away.
         raise busy from None
     with os.fdopen(handle, "wb") as lock:
+        owner.check(path, os.fstat(handle), folder)
         try:
             fcntl.flock(lock, fcntl.LOCK_EX | fcntl.LOCK_NB)
         except BlockingIOError:
@@ -161,6 +164,7 @@ def locked(folder):
         # A lock that was taken away since it was opened keeps nobody from a tree that a third one began.
         if not is_at(path, handle):
             raise busy
+        owner.check_content(folder)
         yield
     # Behind the lock: NFS keeps a file that is taken away by another name for as long as it is open.
     with contextlib.suppress(OSError):

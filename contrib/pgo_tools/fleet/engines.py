@@ -90,6 +90,8 @@ def kubernetes(tree, script):
                     "  completionMode: Indexed", f"  completions: {count}", f"  parallelism: {min(count, 64)}", "  backoffLimit: 6",
                     "  template:", "    spec:", "      restartPolicy: Never", "      containers:", "      - name: part", "        image: IMAGE"]
         shell = f'exec {call(script, tree.folder, f"{level}.$JOB_COMPLETION_INDEX")}'
+        # A tree belongs to the user who made it.
+        yield from ["        securityContext:", f"          runAsUser: {os.geteuid()}", f"          runAsGroup: {os.getegid()}"]
         yield f"        command: [/bin/sh, -c, {as_text(shell.replace('$', '$$'))}]"
         yield from ["        volumeMounts:", "        - name: profiles", f"          mountPath: {as_text(mount(tree))}",
                     "      volumes:", "      - name: profiles", "        persistentVolumeClaim:", "          claimName: profiles"]

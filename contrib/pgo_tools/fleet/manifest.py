@@ -11,6 +11,7 @@ from typing import List, NamedTuple, Optional
 
 from pgo_tools.cli import FAILED, USAGE, Trouble
 from pgo_tools.cli.files import MOST_TEXT, opened, put_in_place
+from pgo_tools.fleet.owner import keep_own, opened_own
 from pgo_tools.texts import profile_text
 from pgo_tools.texts.names import raw_of
 from pgo_tools.texts.numbers import decimal
@@ -87,6 +88,13 @@ def facts_of(file, copy=None, most=None):
         reader.add(block)
         if copy is not None:
             copy.write(block)
+
+
+def facts_written(file):
+    """The facts of a new file that is open for writing. It is read by its number: another file may take its name."""
+    file.flush()
+    with open(f"/dev/fd/{file.fileno()}", "rb") as text:
+        return facts_of(text)
 
 
 def facts_within(file, size):
@@ -178,6 +186,7 @@ def write(path, manifest, more=(), lasting=True):
     said += [rows(key, getattr(manifest, key)) for key in lists if getattr(manifest, key) or key == "left_out"]
     with put_in_place(path, lasting=lasting) as file:
         file.write(("{\n" + ",\n".join(said) + "\n}\n").encode("ascii"))
+        keep_own(file)
 
 
 def checked(told):
@@ -190,10 +199,15 @@ def checked(told):
     return told
 
 
-def read(path) -> Optional[Manifest]:
+def own(path) -> Optional[Manifest]:
+    """The manifest at a path, as `read` does; a Trouble if another user owns it or may write it."""
+    return read(path, opened_own)
+
+
+def read(path, opening=opened) -> Optional[Manifest]:
     """The manifest at a path; None where there is none, or what stands there is none that was written to its end."""
     try:
-        with opened(path)[0] as file:
+        with opening(path)[0] as file:
             told = json.load(file)
         if told.get("form") != FORM:
             return None

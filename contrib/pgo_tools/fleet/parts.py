@@ -15,7 +15,9 @@ from pgo_tools.cli import DONE, FAILED, NO_FILE, NO_MEMORY, NO_PROGRAM, READ_FAU
 from pgo_tools.cli.files import MOST_TEXT, opened, put_in_place, scratch_folder, target_of
 from pgo_tools.cli.programs import last_line
 from pgo_tools.fleet import manifest as told
+from pgo_tools.fleet import owner
 from pgo_tools.fleet.children import call
+from pgo_tools.fleet.owner import keep_own, opened_own
 from pgo_tools.texts import profile_text
 from pgo_tools.texts.names import raw_of, text_of
 
@@ -82,15 +84,21 @@ def fetched(tree, name, scratch):
         yield name
         return
     with scratch_folder("fetched.", scratch) as folder:
-        path = os.path.join(folder, "fetched")
-        bring(tree.choices.fetch, name, path)
-        yield path
+        # The file is read from this very folder, whichever takes its name meanwhile.
+        held = os.open(folder, os.O_RDONLY | os.O_DIRECTORY | os.O_NOFOLLOW | os.O_CLOEXEC)
+        try:
+            owner.check(folder, os.fstat(held), folder)
+            path = f"/dev/fd/{held}/fetched"
+            bring(tree.choices.fetch, name, os.path.join(folder, "fetched"), path)
+            yield path
+        finally:
+            os.close(held)
 
 
-def bring(command, name, path):
-    """Has a command copy a file to a path. A link that it puts there would lead out of the folder."""
+def bring(command, name, to, path):
+    """Has a command copy a file to a path, which is read by another one. A link that it puts there would lead out of the folder."""
     try:
-        status, said = call([*command, name, path], stdout=2)
+        status, said = call([*command, name, to], stdout=2)
     except (FileNotFoundError, PermissionError):
         raise Trouble(f"--fetch: there is no program {command[0]}", NO_PROGRAM) from None
     if os.path.islink(path):
@@ -284,13 +292,13 @@ def again(tree, part):
 
 def believed(tree, part):
     """A part's text, open, and its manifest. What is no part of this tree, or is not as it was made, is a Trouble."""
-    seen = told.read(tree.manifest(part))
+    seen = told.own(tree.manifest(part))
     if seen is None:
         raise Trouble(f"{tree.text(part)} has no manifest: it was not made to its end", FAILED, again(tree, part))
     if (seen.tree, seen.want) != (tree.id, tree.want(part)):
         raise Trouble(f"{tree.text(part)} is of another night or another list", FAILED, again(tree, part))
     try:
-        file, _ = opened(tree.text(part))
+        file, _ = opened_own(tree.text(part))
     except OSError as reason:
         raise Trouble(f"{tree.text(part)}: {reason.strerror}", FAILED, again(tree, part)) from None
     why = told.differs(told.facts_of(file), seen)
@@ -326,7 +334,9 @@ def make(tree, part, pgo):
         os.unlink(tree.manifest(part))
     with scratch_of(tree, part) as scratch, put_in_place(tree.text(part), lasting=False) as target:
         noted = make_first(tree, part, pgo, target, scratch) if part.level == 1 else make_above(tree, part, pgo, target, scratch)
-    seal(tree, part, *noted)
+        keep_own(target)
+        facts = told.facts_written(target)
+    seal(tree, part, facts, *noted)
     for each in tree.below(part) if part.level > 1 else ():
         with contextlib.suppress(FileNotFoundError):
             os.unlink(tree.text(each))
@@ -351,11 +361,8 @@ def make_above(tree, part, pgo, target, scratch):
     }
 
 
-def seal(tree, part, inputs, noted):
+def seal(tree, part, facts, inputs, noted):
     """Writes the manifest of a part whose text is in place, where nothing of what went in is lost in it."""
-    file, _ = opened(tree.text(part))
-    with file:
-        facts = told.facts_of(file)
     told.check_sums(f"part {part}", facts, inputs)
     kept = {key: getattr(facts, key) for key in ("size", "sha256", "total", "heads", "says")}
     told.write(tree.manifest(part), told.Manifest(tree=tree.id, want=tree.want(part), **kept, **noted), lasting=False)
@@ -371,13 +378,13 @@ def is_unchanged(entry):
 
 def is_sound(tree, part):
     """A part was made, by its manifest, of what it would be made of now."""
-    seen = told.read(tree.manifest(part))
+    seen = told.own(tree.manifest(part))
     if seen is None or (seen.tree, seen.want) != (tree.id, tree.want(part)):
         return False
     if part.level == 1:
         may = tree.choices.skip_bad is not None or not seen.bad
         return may and bool(tree.choices.fetch or all(map(is_unchanged, seen.files + seen.left_out)))
-    below = {name: told.read(tree.manifest(name)) for name in tree.below(part)}
+    below = {name: told.own(tree.manifest(name)) for name in tree.below(part)}
     known = [told.Below(str(name), each.sha256) for name, each in below.items() if each is not None]
     return known == seen.parts and all(is_sound(tree, name) for name in below)
 
@@ -418,7 +425,7 @@ def missing(tree):
 
 def gathered(tree):
     """The manifests of all parts of level 1. Each part above has to have been made of what stands below it."""
-    manifests = {part: told.read(tree.manifest(part)) for part in tree.parts()}
+    manifests = {part: told.own(tree.manifest(part)) for part in tree.parts()}
     for part, seen in manifests.items():
         below = tree.below(part) if part.level > 1 else []
         known = [told.Below(str(each), manifests[each].sha256) for each in below if manifests[each]]
@@ -466,14 +473,12 @@ def put_out(tree, lasting=True):
                 os.fsync(target.fileno())
             with contextlib.suppress(FileNotFoundError):
                 os.unlink(told.beside(tree.out))
-    write_out(tree, whole, entries, left_out, lasting)
+            facts = told.facts_written(target)
+    write_out(tree, whole, facts, entries, left_out, lasting)
 
 
-def write_out(tree, whole, entries, left_out, lasting):
+def write_out(tree, whole, facts, entries, left_out, lasting):
     """The manifest of the sum of all: its own bytes, with those of the line that tells the build."""
-    file, _ = opened(tree.out)
-    with file:
-        facts = told.facts_of(file)
     told.check_sums(tree.out, facts, [(1, whole)])
     sums = {of: sum(each.weight * getattr(each, of) for each in entries) for of in ("total", "heads")}
     more = [("out", tree.out), ("files_listed", len(tree.files)), ("total_in", sums["total"]), ("heads_in", sums["heads"])]
@@ -482,16 +487,16 @@ def write_out(tree, whole, entries, left_out, lasting):
 
 
 def is_out(tree):
-    """The sum of all is in place already, made of the files as they are now."""
-    seen = told.read(told.beside(tree.out))
-    if seen is None or seen.want != tree.want(tree.last()) or not all(map(is_unchanged, seen.files + seen.left_out)):
-        return False
+    """The sum of all is in place already, by this user, made of the files as they are now."""
     try:
-        file, _ = opened(tree.out)
-    except OSError:
+        seen = told.own(told.beside(tree.out))
+        if seen is None or seen.want != tree.want(tree.last()) or not all(map(is_unchanged, seen.files + seen.left_out)):
+            return False
+        file, now = opened(tree.out)
+    except (OSError, Trouble):
         return False
     with file:
-        if told.differs(told.facts_of(file), seen):
+        if not owner.is_callers(now, os.path.dirname(tree.out)) or told.differs(told.facts_of(file), seen):
             return False
     judged(tree, seen.left_out)
     return True

@@ -13,6 +13,7 @@ from typing import List, NamedTuple, Optional
 
 from pgo_tools.cli import FAILED, USAGE, Trouble
 from pgo_tools.cli.files import opened, put_in_place
+from pgo_tools.fleet.owner import check_folder, keep_own, opened_own
 from pgo_tools.texts.numbers import decimal
 
 FORM = "merge-tree's tree 1"
@@ -124,6 +125,7 @@ def write(tree):
     told = tree._replace(choices=tree.choices._asdict())._asdict()
     with put_in_place(description(tree.folder), lasting=False) as file:
         file.write((json.dumps({"form": FORM, **told}) + "\n").encode("ascii"))
+        keep_own(file)
 
 
 def is_of_its_kind(tree):
@@ -138,10 +140,11 @@ def is_of_its_kind(tree):
 
 
 def read(folder):
-    """The tree in a folder."""
+    """The tree in a folder of the caller's: the description of another user's names commands that would be run."""
     helps = "the folder that merge-tree --plan=FOLDER made"
     try:
-        with opened(description(folder))[0] as file:
+        check_folder(folder)
+        with opened_own(description(folder))[0] as file:
             told = json.load(file)
         if told.pop("form") != FORM:
             raise ValueError

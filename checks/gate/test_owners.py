@@ -1,4 +1,4 @@
-"""contrib/merge-tree believes no tree that another user owns or may write, and runs no command that such a tree names."""
+"""contrib/merge-tree believes no tree that another user owns or may write, and runs no command that it names."""
 import contextlib
 import os
 import shutil
@@ -175,9 +175,11 @@ class Owners(test_merge_tree.Tree):
         os.chmod(self.folder, 0o777)
         give = f"os.chown(each, {NOBODY}, {NOBODY})" if os.geteuid() == 0 else "os.chmod(each, 0o777)"
         script = self.file("exchange.py", "\n".join([
-            "import os, shutil", "if not os.path.exists('away'):", "    try:", "        shutil.copytree('forged', 'new')",
+            "import os, shutil", "if not os.path.exists('away'):", "    try:",
+            "        shutil.copytree('forged', 'new')",
             f"        for each in ['new', *('new/' + name for name in os.listdir('new'))]: {give}",
-            "        os.rename('out.tree', 'away')", "        os.rename('new', 'out.tree')", "    except OSError: pass", ""]))
+            "        os.rename('out.tree', 'away')", "        os.rename('new', 'out.tree')",
+            "    except OSError: pass", ""]))
         fake = self.pgo_that(f"cd '{self.folder}' && '{sys.executable}' '{script}'")
         for words in (["--resume"], []):
             ran = self.merge("-o", "out", "-j1", "--part-size=3", *words, *self.files, environment=fake)
@@ -219,7 +221,7 @@ class Shares(test_merge_tree.Tree):
     @root_only
     def test_all_users_are_one(self):
         script = self.file("share.py", "\n".join([
-            "import os, sys", "sys.argv[0] = sys.argv[1]", test_merge_tree.FROM_CONTRIB, "from pgo_tools.fleet import owner",
+            "import os, sys", "sys.argv[0] = sys.argv[1]", test_merge_tree.FROM_CONTRIB,
             "class Seen:", "    def __init__(self, seen): self.seen = seen",
             f"    def __getattr__(self, name): return {NOBODY} if name == 'st_uid' else getattr(self.seen, name)",
             "real, os.lstat = os.lstat, lambda *words, **how: Seen(real(*words, **how))",

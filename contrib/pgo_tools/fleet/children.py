@@ -4,12 +4,14 @@ import ctypes
 import os
 import signal
 import subprocess
+from typing import Callable, IO, Optional, Sequence, Tuple, Union
 
 from pgo_tools.cli.programs import running
 from pgo_tools.texts.names import text_of
 
 PR_SET_PDEATHSIG = 1
 
+PRCTL: Optional[Callable[..., object]]
 try:
     PRCTL = ctypes.CDLL(None).prctl
 except (OSError, AttributeError):
@@ -17,7 +19,7 @@ except (OSError, AttributeError):
     PRCTL = None
 
 
-def end_with(parent, number=signal.SIGKILL):
+def end_with(parent: int, number: int = signal.SIGKILL) -> None:
     """Has the system send this signal to this process once its parent is gone, however that came."""
     if PRCTL is not None:
         PRCTL(PR_SET_PDEATHSIG, int(number), 0, 0, 0)
@@ -25,17 +27,18 @@ def end_with(parent, number=signal.SIGKILL):
         os.kill(os.getpid(), number)
 
 
-def end_all(process):
+def end_all(process: "subprocess.Popen[bytes]") -> None:
     """Ends a program that has a session of its own, and what it started itself."""
     with contextlib.suppress(ProcessLookupError):
         os.killpg(process.pid, signal.SIGKILL)
 
 
-def call(words, **how):
+def call(words: Sequence[str], stdout: Union[int, IO[bytes]], pass_fds: Sequence[int] = ()) -> Tuple[int, str]:
     """Runs a program that ends with this process: its status and its error output as text."""
     parent = os.getpid()
     with running(
-        words, end_all, env=None, stdin=subprocess.DEVNULL, stderr=subprocess.PIPE, preexec_fn=lambda: end_with(parent), start_new_session=True, **how
+        words, end_all, env=None, stdin=subprocess.DEVNULL, stdout=stdout, stderr=subprocess.PIPE, pass_fds=pass_fds,
+        preexec_fn=lambda: end_with(parent), start_new_session=True,
     ) as process:
         _, said = process.communicate()
     return process.returncode, text_of(said).strip()

@@ -2,6 +2,7 @@
 import collections
 import os
 import re
+from typing import Callable, Counter, Dict, Hashable, List
 
 from pgo_tools.cli import FAILED, USAGE, WRITE_FAULT, Trouble, given
 from pgo_tools.cli.files import target_of
@@ -17,7 +18,7 @@ TAIL = 4096
 LONGEST_NAME, LONGEST_END = 255, len(".4194304.999.new")
 
 
-def weighed(line):
+def weighed(line: str) -> File:
     """A line of a list: a name, or a weight, a tab and a name."""
     weight, tab, name = line.partition("\t")
     if not (tab and weight.isascii() and weight.isdigit()):
@@ -28,7 +29,7 @@ def weighed(line):
     return File(name, int(match[1]))
 
 
-def from_input(zeros):
+def from_input(zeros: bool) -> List[File]:
     """The files that the input lists, one a line, or each up to a NUL."""
     text = os.fsdecode(given().read())
     if not zeros and "\0" in text:
@@ -37,20 +38,21 @@ def from_input(zeros):
     return [weighed(line) for line in text.split("\0" if zeros else "\n") if (line if zeros else line.strip())]
 
 
-def fetchable(files):
+def fetchable(files: List[File]) -> List[File]:
     """The files, none of whose names would be an option of the command that fetches them."""
     for name, _ in files:
         if name.startswith("-"):
-            raise Trouble(f"{name}: the name begins with -, which --fetch would hand over as an option", USAGE, "names that begin otherwise")
+            raise Trouble(f"{name}: the name begins with -, which --fetch would hand over as an option", USAGE,
+                          "names that begin otherwise")
     return files
 
 
-def absolute(files):
+def absolute(files: List[File]) -> List[File]:
     """The files by names that hold wherever a part is made."""
     return [File(os.path.abspath(name), weight) for name, weight in files]
 
 
-def identity(name):
+def identity(name: str) -> Hashable:
     """What two names of one file share."""
     try:
         seen = os.stat(name)
@@ -59,14 +61,16 @@ def identity(name):
         return name
 
 
-def once(files, add_weights, identity_of):
+def once(files: List[File], add_weights: bool, identity_of: Callable[[str], Hashable]) -> List[File]:
     """Each file once. One that is listed twice is refused, unless its weights are to be added up."""
-    held, first = {}, {}
+    held: Dict[Hashable, int] = {}
+    first: Dict[Hashable, str] = {}
     for name, weight in files:
         key = identity_of(name)
         if key in held and not add_weights:
             also = "" if first[key] == name else f", as {first[key]} too"
-            raise Trouble(f"{name} is listed twice{also}", USAGE, "each file once; --add-weights takes it as often as its lines say together")
+            raise Trouble(f"{name} is listed twice{also}", USAGE,
+                          "each file once; --add-weights takes it as often as its lines say together")
         held[key] = held.get(key, 0) + weight
         first.setdefault(key, name)
         if held[key] > MOST_WEIGHT:
@@ -74,7 +78,7 @@ def once(files, add_weights, identity_of):
     return [File(first[key], weight) for key, weight in held.items()]
 
 
-def build_at_end(name):
+def build_at_end(name: str) -> str:
     """The build that the last lines of a file tell, or nothing."""
     try:
         if not os.path.isfile(name):
@@ -88,19 +92,22 @@ def build_at_end(name):
     return text_of(told[-1]) if told else ""
 
 
-def check_builds(files, choice):
+def check_builds(files: List[File], choice: str) -> None:
     """Refuses files of several builds before any of them is merged, and says how many there are of each."""
     if choice:
         return
-    counts = collections.Counter(filter(None, (build_at_end(name) for name, _ in files)))
+    counts: Counter[str] = collections.Counter(filter(None, (build_at_end(name) for name, _ in files)))
     if len(counts) > 1:
         said = ", ".join(f"{build} ({count} file{'s' * (count > 1)})" for build, count in counts.most_common(5))
         raise Trouble(f"the profiles are of {len(counts)} builds: {said}", FAILED,
                       "--build=ID takes those of one and leaves the others out, --build=any adds up all")
 
 
-def check_out(files, out):
-    """Refuses an output that is listed, since the sum of last night would go into that of this one, or in whose place another file would be lost."""
+def check_out(files: List[File], out: str) -> None:
+    """Refuses an output that is listed, or in whose place another file would be lost.
+
+    The sum of last night would go into that of this one.
+    """
     beside = manifest.beside(out)
     if len(os.fsencode(os.path.basename(beside))) + LONGEST_END > LONGEST_NAME:
         raise Trouble(f"{out}: the name is too long to have a manifest beside it", WRITE_FAULT, "a shorter name")
@@ -108,14 +115,16 @@ def check_out(files, out):
     listed = {identity(name): name for name, _ in files}
     for place in (out, beside):
         if os.path.exists(place) and identity(place) in listed:
-            raise Trouble(f"{place} is listed to be merged, too: {listed[identity(place)]}", USAGE, "a folder of its own for it, or a list without it")
+            raise Trouble(f"{place} is listed to be merged, too: {listed[identity(place)]}", USAGE,
+                          "a folder of its own for it, or a list without it")
     manifest.check_place(out)
 
 
-def check_folder(files, out, folder):
-    """Refuses a tree whose own folder is to be the sum, or has it, or a file that is listed: what is there comes and goes with the tree."""
+def check_folder(files: List[File], out: str, folder: str) -> None:
+    """Refuses a tree whose folder is, or contains, the sum or a listed file: all there comes and goes with the tree."""
     inside = os.path.join(os.path.realpath(folder), "")
     above = {os.path.dirname(name) for name in [os.path.abspath(out), *(name for name, _ in files)]}
     for place in [out, manifest.beside(out), *above]:
         if os.path.join(os.path.realpath(place), "").startswith(inside):
-            raise Trouble(f"{folder} is the folder of the tree, and has files that go in or come out", USAGE, "a folder of its own for the tree")
+            raise Trouble(f"{folder} is the folder of the tree, and has files that go in or come out", USAGE,
+                          "a folder of its own for the tree")

@@ -7,7 +7,7 @@ import hashlib
 import json
 import os
 import re
-from typing import List, NamedTuple, Optional
+from typing import Callable, IO, Iterable, List, NamedTuple, Optional, Sequence, Set, Tuple, TypeVar, Union
 
 from pgo_tools.cli import FAILED, USAGE, Trouble
 from pgo_tools.cli.files import MOST_TEXT, opened, put_in_place
@@ -21,7 +21,7 @@ BLOCK = 1 << 20
 # How many numbers of a stamp tell whether a file was written to.
 WRITTEN = 3
 
-# A body line's count, a function's head, a line of another kind than blank ones and comments, and the build that was sampled.
+# A body line's count, a function's head, a line that is neither blank nor a comment, and the build that was sampled.
 # Behind any zeros a number has 20 digits at most: pgo refuses what has more.
 COUNT = re.compile(rb"\n +[0-9.]+: %s(?![^ \n])" % decimal(20).encode())
 HEAD = re.compile(rb"\n[^ \n#][^\n]*:%s(?![^\n])" % decimal(20).encode())
@@ -45,12 +45,15 @@ class Facts(NamedTuple):
 class Reader:
     """Takes in a text piece by piece, so that a large one is not held."""
 
-    def __init__(self):
+    def __init__(self) -> None:
         self.digest = hashlib.sha256()
         self.size = self.total = self.heads = 0
-        self.says, self.builds, self.open = False, set(), []
+        self.says = False
+        self.builds: Set[bytes] = set()
+        self.open: List[bytes] = []
 
-    def add(self, block):
+    def add(self, block: bytes) -> None:
+        """Takes in the next piece."""
         self.digest.update(block)
         self.size += len(block)
         end = block.rfind(b"\n")
@@ -60,7 +63,7 @@ class Reader:
         self.lines(b"".join([b"\n", *self.open, block[:end]]))
         self.open = [block[end + 1 :]]
 
-    def lines(self, lines):
+    def lines(self, lines: bytes) -> None:
         """Whole lines, each behind a line feed."""
         self.total += sum(map(int, COUNT.findall(lines)))
         self.heads += sum(map(int, HEAD.findall(lines)))
@@ -69,16 +72,17 @@ class Reader:
             if len(self.builds) < MOST_BUILDS:
                 self.builds.add(build[:LONGEST_BUILD])
 
-    def facts(self):
+    def facts(self) -> Facts:
+        """The facts of all that was taken in, which was the whole text."""
         self.lines(b"".join([b"\n", *self.open]))
         builds = sorted(build.decode("utf-8", "backslashreplace") for build in self.builds)
         return Facts(self.size, self.digest.hexdigest(), self.total, self.heads, self.says, builds)
 
 
-def facts_of(file, copy=None, most=None):
-    """The facts of a stream of bytes from where it stands, which is copied to another one on the way where that is given.
+def facts_of(file: IO[bytes], copy: Optional[IO[bytes]] = None, most: Optional[int] = None) -> Facts:
+    """The facts of a stream of bytes from where it stands, which is copied on the way to another one if that is given.
 
-    Of one that has more than `most` bytes, where that is given, they are those of its first part, which is larger than that.
+    If it has more than `most` bytes, and that is given, they are those of its first part, which is larger than that.
     """
     reader = Reader()
     while True:
@@ -90,16 +94,27 @@ def facts_of(file, copy=None, most=None):
             copy.write(block)
 
 
-def facts_written(file):
+def facts_written(file: IO[bytes]) -> Facts:
     """The facts of a new file that is open for writing. It is read by its number: another file may take its name."""
     file.flush()
     with open(f"/dev/fd/{file.fileno()}", "rb") as text:
         return facts_of(text)
 
 
-def facts_within(file, size):
-    """The facts of a file of this size, of which no more is read than a profile may have: it may grow, and hold nothing but a line."""
+def facts_within(file: IO[bytes], size: int) -> Facts:
+    """The facts of a file of this size, of which no more is read than a profile may have.
+
+    The file may grow, and hold nothing but a line.
+    """
     return Facts(size, "", 0, 0, True, []) if size > MOST_TEXT else facts_of(file, most=MOST_TEXT)
+
+
+class Input(NamedTuple):
+    """The counts and heads that went into a sum with one input."""
+
+    weight: int
+    total: int
+    heads: int
 
 
 class Entry(NamedTuple):
@@ -113,6 +128,10 @@ class Entry(NamedTuple):
     heads: int
     stamp: List[int]
 
+    def input(self) -> Input:
+        """Its counts and heads, by its weight."""
+        return Input(self.weight, self.total, self.heads)
+
 
 class LeftOut(NamedTuple):
     """A file that did not go in: its first bad place, or another build (which is no fault of the file)."""
@@ -124,7 +143,7 @@ class LeftOut(NamedTuple):
     bad: bool
     stamp: List[int]
 
-    def line(self):
+    def line(self) -> str:
         """The file and the reason."""
         return f"{self.name}: {self.why}"
 
@@ -153,18 +172,22 @@ class Manifest(NamedTuple):
     parts: List[Below] = []
     left_out: List[LeftOut] = []
 
+    def input(self) -> Input:
+        """The counts and heads of the sum, once."""
+        return Input(1, self.total, self.heads)
 
-def stamp_of(seen):
-    """What the system tells of a file that changes when its bytes do. The last number changes with its names and its mode, too."""
+
+def stamp_of(seen: os.stat_result) -> List[int]:
+    """The numbers of a file that change when its bytes do. The last one changes with its names and its mode, too."""
     return [seen.st_ino, seen.st_size, seen.st_mtime_ns, seen.st_ctime_ns]
 
 
-def written_of(seen):
+def written_of(seen: os.stat_result) -> List[int]:
     """The same without what a further name changes: a snapshot by links may come while a file is read."""
     return stamp_of(seen)[:WRITTEN]
 
 
-def stamp_at(path):
+def stamp_at(path: str) -> List[int]:
     """The same of the file at a path; nothing where there is none, nor can be."""
     try:
         return stamp_of(os.stat(path))
@@ -172,73 +195,86 @@ def stamp_at(path):
         return []
 
 
-def rows(key, entries):
+def rows(key: str, entries: Sequence[Union[Entry, Below, LeftOut]]) -> str:
     """A list of entries as JSON, one a line."""
     lines = ",\n  ".join(json.dumps(entry._asdict()) for entry in entries)
     return f' "{key}": [\n  {lines}\n ]' if entries else f' "{key}": []'
 
 
-def write(path, manifest, more=(), lasting=True):
+def write(path: str, manifest: Manifest, more: Iterable[Tuple[str, object]] = (), lasting: bool = True) -> None:
     """Puts a manifest in place. `more` are further pairs at its front."""
     lists = ("files", "parts", "left_out")
-    plain = [("form", FORM), *more, *((key, value) for key, value in manifest._asdict().items() if key not in lists)]
-    said = [f" {json.dumps(key)}: {json.dumps(value)}" for key, value in plain]
+    own_fields = ((key, value) for key, value in manifest._asdict().items() if key not in lists)
+    said = [f" {json.dumps(key)}: {json.dumps(value)}" for key, value in [("form", FORM), *more, *own_fields]]
     said += [rows(key, getattr(manifest, key)) for key in lists if getattr(manifest, key) or key == "left_out"]
     with put_in_place(path, lasting=lasting) as file:
         file.write(("{\n" + ",\n".join(said) + "\n}\n").encode("ascii"))
         keep_own(file)
 
 
-def checked(told):
-    """A manifest or an entry as it is; a TypeError or a ValueError where a field holds what merge-tree writes nowhere."""
+# A manifest or an entry of one.
+Told = TypeVar("Told", bound=Tuple[object, ...])
+
+
+def checked(told: Told) -> Told:
+    """A manifest or an entry as it is; a TypeError or ValueError if a field has a value that is never written."""
     for value, kind in zip(told, type(told).__annotations__.values()):
         if isinstance(kind, type) and type(value) is not kind:
             raise TypeError
-        if kind is str:
+        if isinstance(value, str):
             raw_of(value)
     return told
 
 
-def own(path) -> Optional[Manifest]:
+def own(path: str) -> Optional[Manifest]:
     """The manifest at a path, as `read` does; a Trouble if another user owns it or may write it."""
     return read(path, opened_own)
 
 
-def read(path, opening=opened) -> Optional[Manifest]:
-    """The manifest at a path; None where there is none, or what stands there is none that was written to its end."""
+def read(path: str, opening: Callable[[str], Tuple[IO[bytes], os.stat_result]] = opened) -> Optional[Manifest]:
+    """The manifest at a path; None if there is none that was written to its end."""
     try:
         with opening(path)[0] as file:
             told = json.load(file)
         if told.get("form") != FORM:
             return None
-        kinds = {"files": Entry, "parts": Below, "left_out": LeftOut}
-        lists = {key: [checked(kind(**entry)) for entry in told.get(key, [])] for key, kind in kinds.items()}
-        return checked(Manifest(**{key: told[key] for key in Manifest._fields if key not in kinds}, **lists))
+        files = [checked(Entry(**each)) for each in told.get("files", [])]
+        parts = [checked(Below(**each)) for each in told.get("parts", [])]
+        left_out = [checked(LeftOut(**each)) for each in told.get("left_out", [])]
+        plain = {key: told[key] for key in Manifest._fields if key not in ("files", "parts", "left_out")}
+        return checked(Manifest(**plain, files=files, parts=parts, left_out=left_out))
     except (FileNotFoundError, ValueError, TypeError, KeyError, AttributeError, RecursionError):
         return None
 
 
-def differs(facts, manifest):
+def differs(facts: Facts, manifest: Manifest) -> str:
     """What a text is told to be and is not, or nothing."""
     if facts.size != manifest.size:
         return f"it has {facts.size} bytes, and its manifest says {manifest.size}"
     return "" if facts.sha256 == manifest.sha256 else "its bytes are others than its manifest says"
 
 
-def check_sums(what, facts, inputs):
-    """Refuses a sum whose counts or heads do not add up to those that went in: pairs of a weight and facts or a manifest."""
-    for of in ("total", "heads"):
-        went_in, came_out = sum(weight * getattr(each, of) for weight, each in inputs), getattr(facts, of)
+def sum_of(inputs: Iterable[Input]) -> Input:
+    """The counts and heads of all inputs together."""
+    listed = list(inputs)
+    return Input(1, sum(each.weight * each.total for each in listed), sum(each.weight * each.heads for each in listed))
+
+
+def check_sums(what: str, facts: Facts, inputs: Iterable[Input]) -> None:
+    """Refuses a sum whose counts or heads do not add up to those that went in."""
+    whole = sum_of(inputs)
+    for of, went_in, came_out in (("total", whole.total, facts.total), ("heads", whole.heads, facts.heads)):
         if went_in != came_out:
-            raise Trouble(f"{what}: {of} of {went_in} went in, and {came_out} came out", FAILED, "a look at the disk and the memory")
+            raise Trouble(f"{what}: {of} of {went_in} went in, and {came_out} came out", FAILED,
+                          "a look at the disk and the memory")
 
 
-def beside(out):
+def beside(out: str) -> str:
     """Where the manifest of an output stands."""
-    return os.fspath(out) + ".manifest"
+    return out + ".manifest"
 
 
-def check_place(out):
+def check_place(out: str) -> None:
     """Refuses a place for a sum and its manifest where something else stands, which would be lost."""
     if profile_text.would_go(out):
         raise Trouble(f"{out} is no profile in text, and would be lost", USAGE, "another name")

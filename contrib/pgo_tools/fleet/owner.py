@@ -1,13 +1,14 @@
 """Files of a tree belong to the caller alone: a folder or file that another user owns, or may write, is not believed.
 
-Whoever can write in a tree's folder chooses the sum. Each file is checked once it is open, so exchanging the folder gains nothing.
+Whoever can write in a tree's folder chooses the sum. Each file is checked once it is open, so exchanging
+the folder gains nothing.
 """
 import contextlib
 import functools
 import os
 import re
 import stat
-from typing import BinaryIO, Tuple
+from typing import IO, Tuple
 
 from pgo_tools.cli import FAILED, Trouble
 from pgo_tools.cli.files import created, opened
@@ -68,7 +69,7 @@ def check_content(folder: str) -> None:
             check(entry.path, entry.stat(follow_symlinks=False), folder, mode=bool(READ.fullmatch(entry.name)))
 
 
-def opened_own(path: str) -> Tuple[BinaryIO, os.stat_result]:
+def opened_own(path: str) -> Tuple[IO[bytes], os.stat_result]:
     """Opens a file as `files.opened` does; refuses one that another user owns or may write."""
     file, seen = opened(path)
     try:
@@ -79,6 +80,6 @@ def opened_own(path: str) -> Tuple[BinaryIO, os.stat_result]:
     return file, seen
 
 
-def keep_own(file: BinaryIO) -> None:
+def keep_own(file: IO[bytes]) -> None:
     """Takes from a new file the permission of other users to write it, whatever the umask."""
     os.fchmod(file.fileno(), stat.S_IMODE(os.fstat(file.fileno()).st_mode) & ~OTHERS)

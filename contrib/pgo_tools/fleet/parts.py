@@ -1,7 +1,7 @@
 """Makes the parts of a tree, one after the other or by whatever engine, and at last the sum of all.
 
-A part's text stands in the tree's folder beside its manifest, and a part above takes it in only where both are there and agree.
-A file that is no profile is left out or ends the part, as the tree's choices say; nothing else that fails is passed over.
+A part's text stands in the tree's folder with its manifest. A part above takes it in only if both are there and agree.
+A file that is no profile is left out or ends the part, as the tree's choices say; no other failure is passed over.
 """
 import contextlib
 import errno
@@ -9,7 +9,7 @@ import os
 import re
 import signal
 import tempfile
-from typing import List, NamedTuple
+from typing import ContextManager, IO, Iterator, List, NamedTuple, Optional, Sequence, Tuple, TypeVar, Union
 
 from pgo_tools.cli import DONE, FAILED, NO_FILE, NO_MEMORY, NO_PROGRAM, READ_FAULT, REFUSED, WRITE_FAULT, Trouble, say
 from pgo_tools.cli.files import MOST_TEXT, opened, put_in_place, scratch_folder, target_of
@@ -18,11 +18,13 @@ from pgo_tools.fleet import manifest as told
 from pgo_tools.fleet import owner
 from pgo_tools.fleet.children import call
 from pgo_tools.fleet.owner import keep_own, opened_own
+from pgo_tools.fleet.tree import File, Part, Tree
 from pgo_tools.texts import profile_text
 from pgo_tools.texts.names import raw_of, text_of
 
 MERGED_AT_ONCE = 8
 ANY = "any"
+SEVERAL_BUILDS = "--build=ID takes those of one and leaves the others out, --build=any adds up all"
 
 # What pgo says of a file: what, which one, and where.
 SAID = re.compile("(no such file|read fault|refused): (?:file )?([1-8])((?: at .*)?)")
@@ -31,24 +33,34 @@ OF_SUMS = "CountTooLarge"
 # Why a good file may not be opened: the system has no room for it.
 OF_SYSTEM = (errno.EMFILE, errno.ENFILE, errno.ENOMEM, errno.ENOBUFS)
 
+Item = TypeVar("Item")
+
 
 class Faults(Trouble):
-    """Files that are no profiles, each with its place. What helps is told of the first one: of ten thousand it is mostly the same."""
+    """Files that are no profiles, each with its place. Only the first has a remedy: it is mostly the same for all."""
 
-    def __init__(self, files, helps):
+    def __init__(self, files: Sequence[told.LeftOut], helps: str) -> None:
         super().__init__(files[0].line(), files[0].status, helps)
         self.files = files
 
-    def said(self):
+    def said(self) -> List[Tuple[str, str]]:
         return [(each.line(), "" if number else self.helps) for number, each in enumerate(self.files)]
 
 
-def remedy(tree, file):
+def remedy(tree: Tree, file: told.LeftOut) -> str:
     """What helps with a file that is no profile from its first line on, by how that looks."""
     if not tree.choices.fetch and file.why == "refused at 1: BadLine":
         with contextlib.suppress(OSError), opened(file.name)[0] as text:
-            return profile_text.remedy(text_of(text.readline(4096).rstrip(b"\n")))
+            return str(profile_text.remedy(text_of(text.readline(4096).rstrip(b"\n"))))
     return ""
+
+
+class Against(NamedTuple):
+    """Why a text does not go in, with the status, and whether that is a fault of the text."""
+
+    why: str
+    status: int = REFUSED
+    bad: bool = True
 
 
 class Source(NamedTuple):
@@ -56,18 +68,24 @@ class Source(NamedTuple):
 
     name: str
     weight: int
-    file: object
+    file: IO[bytes]
     facts: told.Facts
     stamp: List[int]
 
-    def left_out(self, why, status=REFUSED, bad=True):
-        return told.LeftOut(self.name, self.weight, why, status, bad, self.stamp)
+    def left_out(self, against: Against) -> told.LeftOut:
+        """The file as one that does not go in."""
+        return told.LeftOut(self.name, self.weight, against.why, against.status, against.bad, self.stamp)
+
+    def entry(self) -> told.Entry:
+        """The file as one that went in."""
+        facts = self.facts
+        return told.Entry(self.name, self.weight, facts.size, facts.sha256, facts.total, facts.heads, self.stamp)
 
 
 # Files, as they are read.
 
 
-def source_of(name, weight, path):
+def source_of(name: str, weight: int, path: str) -> Source:
     """A file as a source."""
     file, seen = opened(path)
     try:
@@ -78,8 +96,8 @@ def source_of(name, weight, path):
 
 
 @contextlib.contextmanager
-def fetched(tree, name, scratch):
-    """Where a file stands within the block: by its name, or where the farm's own command put it, in a folder that has nothing else."""
+def fetched(tree: Tree, name: str, scratch: str) -> Iterator[str]:
+    """Where a file stands within the block: at its name, or where the farm's own command put it, in an empty folder."""
     if not tree.choices.fetch:
         yield name
         return
@@ -95,8 +113,8 @@ def fetched(tree, name, scratch):
             os.close(held)
 
 
-def bring(command, name, to, path):
-    """Has a command copy a file to a path, which is read by another one. A link that it puts there would lead out of the folder."""
+def bring(command: List[str], name: str, to: str, path: str) -> None:
+    """Has a command copy a file to a path, which is read by another one. A link there would lead out of the folder."""
     try:
         status, said = call([*command, name, to], stdout=2)
     except (FileNotFoundError, PermissionError):
@@ -108,87 +126,42 @@ def bring(command, name, to, path):
         raise OSError(errno.EIO, f"{command[0]} ended with {status}" + (f": {why}" if why else ""), name)
 
 
-def asked(tree, entry, scratch):
+def asked(tree: Tree, entry: File, scratch: str) -> Union[Source, told.LeftOut]:
     """A file of the list as a source, or why it is left out."""
     try:
         with fetched(tree, entry.name, scratch) as path:
             source = source_of(entry.name, entry.weight, path)
     except OSError as reason:
         if reason.errno in OF_SYSTEM:
-            raise Trouble(f"{entry.name}: {reason.strerror}", NO_MEMORY, "fewer jobs at once (-j), smaller parts, ulimit -n") from None
+            raise Trouble(f"{entry.name}: {reason.strerror}", NO_MEMORY,
+                          "fewer jobs at once (-j), smaller parts, ulimit -n") from None
         missing = isinstance(reason, (FileNotFoundError, NotADirectoryError, PermissionError))
         why = (reason.strerror or str(reason)).lower() if missing else f"read fault: {reason.strerror}"
         return told.LeftOut(entry.name, entry.weight, why.replace("no such file or directory", "no such file"),
                             NO_FILE if missing else READ_FAULT, True, told.stamp_at(entry.name))
-    why = reason_against(tree, source.facts)
-    if not why:
+    against = reason_against(tree, source.facts)
+    if against is None:
         return source
     source.file.close()
-    return source.left_out(*why)
+    return source.left_out(against)
 
 
-def reason_against(tree, facts):
-    """Why a text does not go in: the reason, the status, and whether that is a fault of the text."""
+def reason_against(tree: Tree, facts: told.Facts) -> Optional[Against]:
+    """Why a text does not go in; None if it does."""
     if facts.size > MOST_TEXT:
-        return f"refused at {MOST_TEXT}: FileTooLarge", REFUSED, True
+        return Against(f"refused at {MOST_TEXT}: FileTooLarge")
     if not facts.says:
-        return () if tree.choices.empty_ok else ("empty: no line of it says anything (--empty-ok takes such)", REFUSED, True)
+        empty = Against("empty: no line of it says anything (--empty-ok takes such)")
+        return None if tree.choices.empty_ok else empty
     if len(facts.builds) > 1:
-        return f"it is of several builds: {', '.join(facts.builds)}", REFUSED, True
+        return Against(f"it is of several builds: {', '.join(facts.builds)}")
     build = facts.builds[0] if facts.builds else ""
     if tree.choices.build not in ("", ANY, build):
-        return f"it is of the build {build}" if build else "it tells no build", FAILED, False
-    return ()
+        return Against(f"it is of the build {build}" if build else "it tells no build", FAILED, False)
+    return None
 
 
 # Merges.
-
-
-def at_fault(sources, status, said):
-    """The number of the source that pgo refused for itself, and why. Anything else ends the sum."""
-    match = SAID.fullmatch(said)
-    if said == "write fault":
-        raise Trouble("write fault: there is no room for a sum", WRITE_FAULT, "room on the disk, or TMPDIR=/another/folder in front")
-    if status == NO_MEMORY:
-        raise Trouble("no memory for a merge", NO_MEMORY, "fewer jobs at once (-j)")
-    if status == -signal.SIGXFSZ:
-        raise Trouble("write fault: a sum is larger than files may be (ulimit -f)", WRITE_FAULT)
-    if status < 0:
-        raise Trouble(f"pgo was ended by signal {-status}", FAILED, "the same call again, with --resume behind -o")
-    if not match:
-        raise Trouble(said or f"pgo ended without a word, with status {status}", status)
-    source, why = sources[int(match[2]) - 1], match[1] + match[3]
-    # What was read here a moment ago is there: that pgo cannot open or read it is no fault of the file.
-    if OF_SUMS in why or match[1] != "refused" or not isinstance(source, Source):
-        name = f"{source.name} and those before it" if isinstance(source, Source) else f"the sum of {source.name}"
-        raise Trouble(f"{name}: {why}", status, "smaller weights" if OF_SUMS in why else "")
-    return int(match[2]) - 1, why
-
-
-def call_merge(pgo, sources, target):
-    """Has pgo merge sources, or sums, into a file: its status, and what it says."""
-    words = [word for each in sources for word in (str(each.weight), f"/dev/fd/{each.file.fileno()}")]
-    status, said = call([pgo, "merge", *words], stdout=target, pass_fds=[each.file.fileno() for each in sources])
-    return status, last_line(said)
-
-
-def merge(pgo, sources, target):
-    """Merges at most eight sources into a file: those that went in, and those that were refused for themselves."""
-    good, refused = list(sources), []
-    while good:
-        target.seek(0)
-        target.truncate()
-        status, said = call_merge(pgo, good, target)
-        if status:
-            number, why = at_fault(good, status, said)
-            refused.append(good.pop(number).left_out(why, status))
-            continue
-        changed = [each for each in good if told.written_of(os.fstat(each.file.fileno())) != each.stamp[: told.WRITTEN]]
-        if not changed:
-            break
-        refused += [each.left_out("it changed while it was read", READ_FAULT) for each in changed]
-        good = [each for each in good if each not in changed]
-    return good, refused
 
 
 class Sum(NamedTuple):
@@ -196,49 +169,130 @@ class Sum(NamedTuple):
 
     name: str
     weight: int
-    file: object
+    file: IO[bytes]
 
 
-def groups(items):
+class Refusal(NamedTuple):
+    """The input, counted from 0, that pgo refuses, and why; whether another input could be the reason."""
+
+    number: int
+    why: str
+    is_its_own: bool
+
+    def remedy(self) -> str:
+        """What helps with a sum."""
+        return "smaller weights" if OF_SUMS in self.why else ""
+
+
+def refusal_of(status: int, said: str) -> Refusal:
+    """What pgo said of one of its inputs. Anything else that ended it is a Trouble."""
+    if said == "write fault":
+        raise Trouble("write fault: there is no room for a sum", WRITE_FAULT,
+                      "room on the disk, or TMPDIR=/another/folder in front")
+    if status == NO_MEMORY:
+        raise Trouble("no memory for a merge", NO_MEMORY, "fewer jobs at once (-j)")
+    if status == -signal.SIGXFSZ:
+        raise Trouble("write fault: a sum is larger than files may be (ulimit -f)", WRITE_FAULT)
+    if status < 0:
+        raise Trouble(f"pgo was ended by signal {-status}", FAILED, "the same call again, with --resume behind -o")
+    match = SAID.fullmatch(said)
+    if not match:
+        raise Trouble(said or f"pgo ended without a word, with status {status}", status)
+    why = match[1] + match[3]
+    # What was read here a moment ago is there: that pgo cannot open or read it is no fault of the file.
+    return Refusal(int(match[2]) - 1, why, match[1] == "refused" and OF_SUMS not in why)
+
+
+def call_merge(pgo: str, sources: Sequence[Union[Source, Sum]], target: IO[bytes]) -> Tuple[int, str]:
+    """Has pgo merge sources, or sums, into a file: its status, and what it says."""
+    words = [word for each in sources for word in (str(each.weight), f"/dev/fd/{each.file.fileno()}")]
+    status, said = call([pgo, "merge", *words], stdout=target, pass_fds=[each.file.fileno() for each in sources])
+    return status, last_line(said)
+
+
+class Merged(NamedTuple):
+    """The sources that went into a merge, and those that were refused for themselves."""
+
+    good: List[Source]
+    refused: List[told.LeftOut]
+
+
+def has_changed(source: Source) -> bool:
+    """A source was written to since it was read."""
+    return told.written_of(os.fstat(source.file.fileno())) != source.stamp[: told.WRITTEN]
+
+
+def merge(pgo: str, sources: Sequence[Source], target: IO[bytes]) -> Merged:
+    """Merges at most eight sources into a file."""
+    merged = Merged(list(sources), [])
+    while merged.good:
+        target.seek(0)
+        target.truncate()
+        status, said = call_merge(pgo, merged.good, target)
+        if status:
+            refusal = refusal_of(status, said)
+            source = merged.good[refusal.number]
+            if not refusal.is_its_own:
+                raise Trouble(f"{source.name} and those before it: {refusal.why}", status, refusal.remedy())
+            merged.refused.append(merged.good.pop(refusal.number).left_out(Against(refusal.why, status)))
+            continue
+        changed = [each for each in merged.good if has_changed(each)]
+        if not changed:
+            break
+        late = Against("it changed while it was read", READ_FAULT)
+        merged.refused.extend(each.left_out(late) for each in changed)
+        merged.good[:] = [each for each in merged.good if each not in changed]
+    return merged
+
+
+def groups(items: Sequence[Item]) -> List[Sequence[Item]]:
+    """The items, as many at once as one merge takes."""
     return [items[start : start + MERGED_AT_ONCE] for start in range(0, len(items), MERGED_AT_ONCE)]
 
 
-def add_up(pgo, sums, target, scratch):
+def scratch_file(scratch: str) -> IO[bytes]:
+    """A new file without a name."""
+    return tempfile.TemporaryFile(dir=scratch)
+
+
+def add_up(pgo: str, sums: Sequence[Sum], target: IO[bytes], scratch: str) -> None:
     """Merges any number of sums into a file, eight at a time."""
     while len(sums) > MERGED_AT_ONCE:
         above = []
         for group in groups(sums):
-            file = tempfile.TemporaryFile(dir=scratch)
+            file = scratch_file(scratch)
             merge_sums(pgo, group, file)
             above.append(Sum(f"{group[0].name.split(' to ')[0]} to {group[-1].name.split(' to ')[-1]}", 1, file))
         sums = above
     merge_sums(pgo, sums, target)
 
 
-def merge_sums(pgo, sums, target):
+def merge_sums(pgo: str, sums: Sequence[Sum], target: IO[bytes]) -> None:
+    """Merges at most eight sums into a file."""
     status, said = call_merge(pgo, sums, target)
     if status:
-        at_fault(sums, status, said)
-        raise Trouble(said, status)
+        refusal = refusal_of(status, said)
+        raise Trouble(f"the sum of {sums[refusal.number].name}: {refusal.why}", status, refusal.remedy())
     for each in sums:
         each.file.close()
 
 
 class Made(NamedTuple):
-    """What became of the inputs of a part."""
+    """What became of the files of a part."""
 
     entries: List[told.Entry]
     left_out: List[told.LeftOut]
     builds: List[str]
 
 
-def add_files(tree, part, pgo, target, scratch):
+def add_files(tree: Tree, part: Part, pgo: str, target: IO[bytes], scratch: str) -> Made:
     """Merges the files of a part of level 1, those that are good."""
-    made, sums = Made([], [], []), []
+    made = Made([], [], [])
+    sums: List[Sum] = []
     entries = tree.files_of(part)
+    only = len(entries) <= MERGED_AT_ONCE
     for group in groups(entries):
-        only = len(entries) <= MERGED_AT_ONCE
-        file = target if only else tempfile.TemporaryFile(dir=scratch)
+        file = target if only else scratch_file(scratch)
         good = add_group(tree, group, pgo, file, scratch, made)
         if good and not only:
             sums.append(Sum(f"{good[0]} to {good[-1]}", 1, file))
@@ -252,7 +306,7 @@ def add_files(tree, part, pgo, target, scratch):
     return made
 
 
-def add_group(tree, group, pgo, file, scratch, made):
+def add_group(tree: Tree, group: Sequence[File], pgo: str, file: IO[bytes], scratch: str, made: Made) -> List[str]:
     """Merges some files of a part into a file, and notes what became of them: the names of those that went in."""
     with contextlib.ExitStack() as stack:
         sources = []
@@ -263,39 +317,44 @@ def add_group(tree, group, pgo, file, scratch, made):
                 sources.append(source)
             else:
                 made.left_out.append(source)
-        good, refused = merge(pgo, sources, file)
-        made.left_out.extend(refused)
-        for each in good:
-            facts = each.facts
-            made.entries.append(told.Entry(each.name, each.weight, facts.size, facts.sha256, facts.total, facts.heads, each.stamp))
-            made.builds.extend(facts.builds if facts.says and facts.builds else [""] * facts.says)
-        return [each.name for each in good]
+        merged = merge(pgo, sources, file)
+        made.left_out.extend(merged.refused)
+    for each in merged.good:
+        made.entries.append(each.entry())
+        if each.facts.says:
+            made.builds.extend(each.facts.builds or [""])
+    return [each.name for each in merged.good]
 
 
-def one_build(tree, builds, what):
+def one_build(tree: Tree, builds: Sequence[str], what: str) -> str:
     """The build that all of these agree on, "" for none."""
     if tree.choices.build == ANY:
         return ""
     if len(set(builds)) > 1:
         said = ", ".join([*sorted(filter(None, set(builds))), *(["none"] if "" in builds else [])])
-        raise Trouble(f"{what}: the profiles are of several builds: {said}", FAILED,
-                      "--build=ID takes those of one and leaves the others out, --build=any adds up all")
+        raise Trouble(f"{what}: the profiles are of several builds: {said}", FAILED, SEVERAL_BUILDS)
     return builds[0] if builds else ""
 
 
 # Parts.
 
 
-def again(tree, part):
+def again(tree: Tree, part: Part) -> str:
+    """What helps with a part that is not as it was made."""
     return f"merge-tree --part={part} {tree.folder} makes it anew"
 
 
-def believed(tree, part):
+def is_of(tree: Tree, part: Part, seen: told.Manifest) -> bool:
+    """A manifest is that of a part of this tree."""
+    return (seen.tree, seen.want) == (tree.id, tree.want(part))
+
+
+def believed(tree: Tree, part: Part) -> Tuple[IO[bytes], told.Manifest]:
     """A part's text, open, and its manifest. What is no part of this tree, or is not as it was made, is a Trouble."""
     seen = told.own(tree.manifest(part))
     if seen is None:
         raise Trouble(f"{tree.text(part)} has no manifest: it was not made to its end", FAILED, again(tree, part))
-    if (seen.tree, seen.want) != (tree.id, tree.want(part)):
+    if not is_of(tree, part, seen):
         raise Trouble(f"{tree.text(part)} is of another night or another list", FAILED, again(tree, part))
     try:
         file, _ = opened_own(tree.text(part))
@@ -309,87 +368,109 @@ def believed(tree, part):
     return file, seen
 
 
-def add_parts(tree, part, pgo, target, scratch):
-    """Merges the parts below a part: their names, and their manifests."""
-    parts, sums, manifests = tree.below(part), [], []
+class Noted(NamedTuple):
+    """What went into a part, and what its manifest says of that."""
+
+    inputs: List[told.Input]
+    build: str
+    merged: int
+    bad: int
+    files: List[told.Entry] = []
+    parts: List[told.Below] = []
+    left_out: List[told.LeftOut] = []
+
+
+def add_parts(tree: Tree, part: Part, pgo: str, target: IO[bytes], scratch: str) -> List[told.Manifest]:
+    """Merges the parts below a part: their manifests."""
+    sums, manifests = [], []
     with contextlib.ExitStack() as stack:
-        for each in parts:
+        for each in tree.below(part):
             file, seen = believed(tree, each)
             stack.enter_context(file)
             manifests.append(seen)
             files = tree.files_of(each)
             sums.append(Sum(f"{files[0].name} to {files[-1].name}" if len(files) > 1 else files[0].name, 1, file))
         add_up(pgo, sums, target, scratch)
-    return parts, manifests
+    return manifests
 
 
-def scratch_of(tree, part):
+def scratch_of(tree: Tree, part: Part) -> ContextManager[str]:
     """A folder for what a part needs on the way: where TMPDIR says, else in the tree's own."""
     return scratch_folder(f"merge-tree.{part}.", os.environ.get("TMPDIR") or tree.folder)
 
 
-def make(tree, part, pgo):
+def make(tree: Tree, part: Part, pgo: str) -> None:
     """Makes a part: puts its text in place whole, then its manifest, and takes away what it summed up."""
     with contextlib.suppress(FileNotFoundError):
         os.unlink(tree.manifest(part))
+    first = part.level == 1
     with scratch_of(tree, part) as scratch, put_in_place(tree.text(part), lasting=False) as target:
-        noted = make_first(tree, part, pgo, target, scratch) if part.level == 1 else make_above(tree, part, pgo, target, scratch)
+        noted = (make_first if first else make_above)(tree, part, pgo, target, scratch)
         keep_own(target)
         facts = told.facts_written(target)
-    seal(tree, part, facts, *noted)
-    for each in tree.below(part) if part.level > 1 else ():
+    seal(tree, part, facts, noted)
+    for each in [] if first else tree.below(part):
         with contextlib.suppress(FileNotFoundError):
             os.unlink(tree.text(each))
 
 
-def make_first(tree, part, pgo, target, scratch):
-    """A part of files: what went in, and what its manifest says of that."""
+def make_first(tree: Tree, part: Part, pgo: str, target: IO[bytes], scratch: str) -> Noted:
+    """Merges a part of files."""
     made = add_files(tree, part, pgo, target, scratch)
-    return [(each.weight, each) for each in made.entries], {
-        "merged": len(made.entries), "bad": sum(each.bad for each in made.left_out), "files": made.entries,
-        "left_out": made.left_out, "build": one_build(tree, made.builds, f"part {part}"),
-    }
+    return Noted(
+        [each.input() for each in made.entries], one_build(tree, made.builds, f"part {part}"), len(made.entries),
+        sum(each.bad for each in made.left_out), files=made.entries, left_out=made.left_out,
+    )
 
 
-def make_above(tree, part, pgo, target, scratch):
-    """A part of parts, likewise."""
-    parts, below = add_parts(tree, part, pgo, target, scratch)
-    return [(1, each) for each in below], {
-        "merged": sum(each.merged for each in below), "bad": sum(each.bad for each in below),
-        "parts": [told.Below(str(name), each.sha256) for name, each in zip(parts, below)],
-        "build": one_build(tree, [each.build for each in below if each.says], f"part {part}"),
-    }
+def make_above(tree: Tree, part: Part, pgo: str, target: IO[bytes], scratch: str) -> Noted:
+    """Merges a part of parts, likewise."""
+    below = add_parts(tree, part, pgo, target, scratch)
+    return Noted(
+        [each.input() for each in below], one_build(tree, [each.build for each in below if each.says], f"part {part}"),
+        sum(each.merged for each in below), sum(each.bad for each in below),
+        parts=[told.Below(str(name), each.sha256) for name, each in zip(tree.below(part), below)],
+    )
 
 
-def seal(tree, part, facts, inputs, noted):
-    """Writes the manifest of a part whose text is in place, where nothing of what went in is lost in it."""
-    told.check_sums(f"part {part}", facts, inputs)
-    kept = {key: getattr(facts, key) for key in ("size", "sha256", "total", "heads", "says")}
-    told.write(tree.manifest(part), told.Manifest(tree=tree.id, want=tree.want(part), **kept, **noted), lasting=False)
+def seal(tree: Tree, part: Part, facts: told.Facts, noted: Noted) -> None:
+    """Writes the manifest of a part whose text is in place, if nothing of what went in is lost in it."""
+    told.check_sums(f"part {part}", facts, noted.inputs)
+    sealed = told.Manifest(
+        tree.id, tree.want(part), facts.size, facts.sha256, facts.total, facts.heads, facts.says,
+        noted.build, noted.merged, noted.bad, noted.files, noted.parts, noted.left_out,
+    )
+    told.write(tree.manifest(part), sealed, lasting=False)
 
 
 # What is made already.
 
 
-def is_unchanged(entry):
-    """A file was not written to since it went in or was left out. One that is gone since stays in."""
-    return told.stamp_at(entry.name) in (entry.stamp, [])
+def are_unchanged(seen: told.Manifest) -> bool:
+    """No file was written to since it went in or was left out. One that is gone since stays in."""
+    stamps = [(each.name, each.stamp) for each in seen.files] + [(each.name, each.stamp) for each in seen.left_out]
+    return all(told.stamp_at(name) in (stamp, []) for name, stamp in stamps)
 
 
-def is_sound(tree, part):
+def below_of(tree: Tree, part: Part) -> Optional[List[told.Below]]:
+    """The parts below a part as their manifests tell; None if one of these is missing."""
+    manifests = [(each, told.own(tree.manifest(each))) for each in tree.below(part)]
+    known = [told.Below(str(each), seen.sha256) for each, seen in manifests if seen is not None]
+    return known if len(known) == len(manifests) else None
+
+
+def is_sound(tree: Tree, part: Part) -> bool:
     """A part was made, by its manifest, of what it would be made of now."""
     seen = told.own(tree.manifest(part))
-    if seen is None or (seen.tree, seen.want) != (tree.id, tree.want(part)):
+    if seen is None or not is_of(tree, part, seen):
         return False
     if part.level == 1:
         may = tree.choices.skip_bad is not None or not seen.bad
-        return may and bool(tree.choices.fetch or all(map(is_unchanged, seen.files + seen.left_out)))
-    below = {name: told.own(tree.manifest(name)) for name in tree.below(part)}
-    known = [told.Below(str(name), each.sha256) for name, each in below.items() if each is not None]
-    return known == seen.parts and all(is_sound(tree, name) for name in below)
+        return may and bool(tree.choices.fetch or are_unchanged(seen))
+    return below_of(tree, part) == seen.parts and all(is_sound(tree, each) for each in tree.below(part))
 
 
-def is_ready(tree, part):
+def is_ready(tree: Tree, part: Part) -> bool:
     """A part is sound, and its text is there with the bytes that it had."""
     if not is_sound(tree, part):
         return False
@@ -400,16 +481,17 @@ def is_ready(tree, part):
     return True
 
 
-def is_settled(tree, part):
+def is_settled(tree: Tree, part: Part) -> bool:
     """Nobody needs a part to be made: it is ready, or has gone into one that is."""
-    while part is not None:
-        if is_ready(tree, part):
+    above: Optional[Part] = part
+    while above is not None:
+        if is_ready(tree, above):
             return True
-        part = tree.above(part)
+        above = tree.above(above)
     return False
 
 
-def missing(tree):
+def missing(tree: Tree) -> List[Part]:
     """The parts that have to be made for the sum of all, each behind those that it sums up."""
     wanted, open_parts = [], [tree.last()]
     while open_parts:
@@ -423,18 +505,21 @@ def missing(tree):
 # The sum of all.
 
 
-def gathered(tree):
+def gathered(tree: Tree) -> List[told.Manifest]:
     """The manifests of all parts of level 1. Each part above has to have been made of what stands below it."""
-    manifests = {part: told.own(tree.manifest(part)) for part in tree.parts()}
-    for part, seen in manifests.items():
-        below = tree.below(part) if part.level > 1 else []
-        known = [told.Below(str(each), manifests[each].sha256) for each in below if manifests[each]]
-        if seen is None or (seen.tree, seen.want) != (tree.id, tree.want(part)) or known != seen.parts:
-            raise Trouble(f"the manifest of part {part} is missing, or of other parts", FAILED, f"merge-tree --run {tree.folder}")
-    return [seen for part, seen in manifests.items() if part.level == 1]
+    manifests = []
+    for part in tree.parts():
+        seen = told.own(tree.manifest(part))
+        below = below_of(tree, part) if part.level > 1 else []
+        if seen is None or not is_of(tree, part, seen) or below != seen.parts:
+            raise Trouble(f"the manifest of part {part} is missing, or of other parts", FAILED,
+                          f"merge-tree --run {tree.folder}")
+        if part.level == 1:
+            manifests.append(seen)
+    return manifests
 
 
-def judged(tree, left_out):
+def judged(tree: Tree, left_out: Sequence[told.LeftOut]) -> None:
     """Names what was left out, and refuses the sum where that is too much."""
     bad, others = [each for each in left_out if each.bad], [each for each in left_out if not each.bad]
     for each in bad:
@@ -449,7 +534,7 @@ def judged(tree, left_out):
         raise Trouble("nothing was merged: all files were left out", FAILED)
 
 
-def put_out(tree, lasting=True):
+def put_out(tree: Tree, lasting: bool = True) -> None:
     """Puts the sum of all in place, and its manifest beside it."""
     first = gathered(tree)
     entries = [each for seen in first for each in seen.files]
@@ -457,9 +542,10 @@ def put_out(tree, lasting=True):
     judged(tree, left_out)
     text, whole = believed(tree, tree.last())
     with text:
-        if not whole.says:
+        facts = told.Facts(whole.size, whole.sha256, whole.total, whole.heads, whole.says, [])
+        if not facts.says:
             raise Trouble("the sum is empty: no file says anything", FAILED)
-        told.check_sums(tree.out, whole, [(each.weight, each) for each in entries])
+        told.check_sums(tree.out, facts, [each.input() for each in entries])
         if len(entries) + len(left_out) != len(tree.files):
             raise Trouble(f"{len(tree.files)} files were to be merged, and {len(entries)} were", FAILED)
         told.check_place(tree.out)
@@ -474,23 +560,26 @@ def put_out(tree, lasting=True):
             with contextlib.suppress(FileNotFoundError):
                 os.unlink(told.beside(tree.out))
             facts = told.facts_written(target)
-    write_out(tree, whole, facts, entries, left_out, lasting)
-
-
-def write_out(tree, whole, facts, entries, left_out, lasting):
-    """The manifest of the sum of all: its own bytes, with those of the line that tells the build."""
-    told.check_sums(tree.out, facts, [(1, whole)])
-    sums = {of: sum(each.weight * getattr(each, of) for each in entries) for of in ("total", "heads")}
-    more = [("out", tree.out), ("files_listed", len(tree.files)), ("total_in", sums["total"]), ("heads_in", sums["heads"])]
+    told.check_sums(tree.out, facts, [whole.input()])
     noted = whole._replace(size=facts.size, sha256=facts.sha256, files=entries, parts=[], left_out=left_out)
+    write_out(tree, noted, lasting)
+
+
+def write_out(tree: Tree, noted: told.Manifest, lasting: bool) -> None:
+    """The manifest of the sum of all: its own bytes, with those of the line that tells the build."""
+    went_in = told.sum_of(each.input() for each in noted.files)
+    more: List[Tuple[str, Union[str, int]]] = [
+        ("out", tree.out), ("files_listed", len(tree.files)),
+        ("total_in", went_in.total), ("heads_in", went_in.heads),
+    ]
     told.write(told.beside(tree.out), noted, more, lasting)
 
 
-def is_out(tree):
+def is_out(tree: Tree) -> bool:
     """The sum of all is in place already, by this user, made of the files as they are now."""
     try:
         seen = told.own(told.beside(tree.out))
-        if seen is None or seen.want != tree.want(tree.last()) or not all(map(is_unchanged, seen.files + seen.left_out)):
+        if seen is None or seen.want != tree.want(tree.last()) or not are_unchanged(seen):
             return False
         file, now = opened(tree.out)
     except (OSError, Trouble):
@@ -502,7 +591,7 @@ def is_out(tree):
     return True
 
 
-def do(tree, part, pgo):
+def do(tree: Tree, part: Part, pgo: str) -> int:
     """Makes a part unless that is done, and behind the last one the sum of all."""
     target_of(tree.out)
     if not is_settled(tree, part):

@@ -6,13 +6,15 @@ import os
 import selectors
 import signal
 import traceback
-from typing import List, NamedTuple, Tuple
+from types import TracebackType
+from typing import Dict, Iterator, List, NamedTuple, Optional, Tuple, Type
 
 from pgo_tools.cli import FAILED, HEARD, NO_FILE, NO_MEMORY, READ_FAULT, REFUSED, Stopped, Trouble, fault, say
 from pgo_tools.fleet import parts
 from pgo_tools.fleet.children import end_with
+from pgo_tools.fleet.tree import Part, Tree
 
-# Behind these faults, which are those of files, the other parts are made all the same, so that each file is named.
+# After these faults, which are those of files, the other parts are made all the same, so that each file is named.
 OF_FILES = (NO_FILE, REFUSED, READ_FAULT)
 
 
@@ -23,7 +25,23 @@ class Outcome(NamedTuple):
     said: List[Tuple[str, str]]
 
 
-def outcome(tree, part, pgo):
+class Ended(NamedTuple):
+    """A part that a process made, or failed to make."""
+
+    part: Part
+    outcome: Outcome
+
+
+class Job(NamedTuple):
+    """A process that makes a part, the pipe that its outcome comes by, and the pieces that came."""
+
+    part: Part
+    pid: int
+    pipe: int
+    pieces: List[bytes]
+
+
+def outcome(tree: Tree, part: Part, pgo: str) -> Outcome:
     """Makes a part, and tells how that ended."""
     try:
         parts.make(tree, part, pgo)
@@ -39,13 +57,7 @@ def outcome(tree, part, pgo):
         return Outcome(FAILED, [(line, "") for line in traceback.format_exc().splitlines()])
 
 
-class Job(NamedTuple):
-    part: object
-    pid: int
-    pipe: int
-
-
-def begin(tree, part, pgo):
+def begin(tree: Tree, part: Part, pgo: str) -> Job:
     """Starts a process that makes a part."""
     reading, writing = os.pipe()
     parent = os.getpid()
@@ -54,7 +66,7 @@ def begin(tree, part, pgo):
     pid = os.fork()
     if pid:
         os.close(writing)
-        return Job(part, pid, reading)
+        return Job(part, pid, reading, [])
     try:
         end_with(parent, signal.SIGTERM)
         signal.pthread_sigmask(signal.SIG_UNBLOCK, HEARD)
@@ -70,59 +82,83 @@ def begin(tree, part, pgo):
 class Jobs:
     """The processes that run. Left by any way, none of them goes on."""
 
-    def __init__(self):
-        self.running, self.held = selectors.DefaultSelector(), {}
+    def __init__(self) -> None:
+        self.running = selectors.DefaultSelector()
+        self.held: Dict[int, Job] = {}
 
-    def __enter__(self):
+    def __enter__(self) -> "Jobs":
         return self
 
-    def __exit__(self, *_):
-        for each in (lambda job: os.kill(job.pid, signal.SIGTERM), lambda job: os.waitpid(job.pid, 0)):
-            for job in self.held.values():
-                with contextlib.suppress(ProcessLookupError, ChildProcessError):
-                    each(job)
+    def __exit__(
+        self, _kind: Optional[Type[BaseException]], _value: Optional[BaseException], _trace: Optional[TracebackType]
+    ) -> None:
+        for job in self.held.values():
+            with contextlib.suppress(ProcessLookupError):
+                os.kill(job.pid, signal.SIGTERM)
+        for job in self.held.values():
+            with contextlib.suppress(ChildProcessError):
+                os.waitpid(job.pid, 0)
 
-    def start(self, tree, part, pgo):
+    def start(self, tree: Tree, part: Part, pgo: str) -> None:
+        """Begins a part. A signal that came meanwhile is heard once its process can be ended, too."""
         job = begin(tree, part, pgo)
         self.held[job.pipe] = job
-        self.running.register(job.pipe, selectors.EVENT_READ, [])
+        self.running.register(job.pipe, selectors.EVENT_READ)
         signal.pthread_sigmask(signal.SIG_UNBLOCK, HEARD)
 
-    def ended(self):
+    def ended(self) -> Iterator[Ended]:
         """Waits for processes that have ended: each part with its outcome."""
         for key, _ in self.running.select():
             piece = os.read(key.fd, 1 << 16)
             if piece:
-                key.data.append(piece)
+                self.held[key.fd].pieces.append(piece)
                 continue
             self.running.unregister(key.fd)
             os.close(key.fd)
             job = self.held[key.fd]
             _, how = os.waitpid(job.pid, 0)
             del self.held[key.fd]
-            yield job.part, read(job.part, how, b"".join(key.data))
+            yield Ended(job.part, read(job.part, how, b"".join(job.pieces)))
 
 
-def read(part, how, told):
+def read(part: Part, how: int, told: bytes) -> Outcome:
     """What a process told of its part. One that told nothing was ended from outside."""
     try:
-        return Outcome(*json.loads(told))
+        status, said = json.loads(told)
     except ValueError:
         by = f"by signal {os.WTERMSIG(how)}" if os.WIFSIGNALED(how) else "before its end"
         return Outcome(FAILED, [(f"part {part} was ended {by}", "--resume goes on with what is done")])
+    return Outcome(status, [(what, helps) for what, helps in said])
 
 
-def run(tree, jobs, pgo, lasting=True):
-    """Makes what is missing of a tree, so many parts side by side, and puts the sum of all in place. Returns the status."""
+def run(tree: Tree, jobs: int, pgo: str, lasting: bool = True) -> int:
+    """Makes the missing parts of a tree, so many side by side, and puts the sum of all in place. Returns the status."""
+    faults = make_missing(tree, jobs, pgo)
+    if not faults:
+        parts.put_out(tree, lasting)
+        return 0
+    for _, told in sorted(faults.items()):
+        for what, helps in told.said:
+            say(what, helps)
+    return min(faults.items())[1].status
+
+
+def order(part: Part) -> Tuple[int, int]:
+    """The order in which parts that can be made are begun: high levels first, whose parts below then go."""
+    return -part.level, part.number
+
+
+def make_missing(tree: Tree, jobs: int, pgo: str) -> Dict[Part, Outcome]:
+    """Makes what is missing of a tree: the parts that failed, each with its outcome."""
     todo = parts.missing(tree)
     waits = {part: sum(1 for each in todo if tree.above(each) == part) for part in todo if part.level > 1}
-    ready = [(-part.level, part.number, part) for part in todo if not waits.get(part)]
+    ready = [(order(part), part) for part in todo if not waits.get(part)]
     heapq.heapify(ready)
-    faults = {}
+    faults: Dict[Part, Outcome] = {}
     with Jobs() as running:
         while ready or running.held:
             while ready and len(running.held) < jobs and all(each.status in OF_FILES for each in faults.values()):
-                running.start(tree, heapq.heappop(ready)[-1], pgo)
+                running.start(tree, heapq.heappop(ready)[1], pgo)
             if not running.held:
                 break
             for part, told in running.ended():
@@ -132,11 +168,5 @@ def run(tree, jobs, pgo, lasting=True):
                 elif above in waits:
                     waits[above] -= 1
                     if not waits[above]:
-                        heapq.heappush(ready, (-above.level, above.number, above))
-    if faults:
-        for _, told in sorted(faults.items()):
-            for what, helps in told.said:
-                say(what, helps)
-        return min(faults.items())[1].status
-    parts.put_out(tree, lasting)
-    return 0
+                        heapq.heappush(ready, (order(above), above))
+    return faults

@@ -102,6 +102,19 @@ class Demo(Profiles):
         made = self.file("made.prof", self.made)
         self.assertEqual(self.run_here(PGO, "merge", "1", made).status, 0)
 
+    @needs("cc")
+    def test_ends_so_whatever_the_program(self):
+        """Without a build ID it is a number of the code."""
+        numbers = set()
+        for words in (["-O1"], ["-O1"], ["-O2"]):
+            program = self.build("program", *words, "-g", "-no-pie", "-Wl,--build-id=none")
+            found = self.run_here("sh", "-c", "nm program | sed -n 's/ T main$//p'").out.decode().strip()
+            branch = f"0x{found}/0x{found} " * 2 + "\n"
+            self.make("--other-build", "--no-base", program, self.file("text", branch * 300).name)
+            self.assertRegex(self.made.splitlines()[-1], r"^# build [0-9a-f]{64}$")
+            numbers.add(self.made.splitlines()[-1])
+        self.assertEqual(len(numbers), 2)
+
     def test_a_profile_that_was_there_stays(self):
         self.file("kept", "old:1:1\n")
         self.file("empty")

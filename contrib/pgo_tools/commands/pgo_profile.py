@@ -8,6 +8,7 @@ put in place where the number of another build stands in these, unless --other-b
 It needs `pgo`: where the variable PGO says, beside this script, in the folder above, or on the PATH; and `pgo-cold` beside it.
 """
 import argparse
+import hashlib
 import itertools
 import os
 import re
@@ -293,6 +294,14 @@ def with_cold(parts, made, folder):
     return made
 
 
+def build_of(elf) -> str:
+    """Returns the number of a program's build: GNU's build ID, or else the SHA-256 of its code.
+
+    A file of debugging information alone has no code; its information then takes that place.
+    """
+    return elf.build_id() or hashlib.sha256(elf.bytes_of(".text") or elf.bytes_of(".debug_info")).hexdigest()
+
+
 def write(out, parts, made):
     """Puts the profile in place: its lines, behind them the reports, and last the numbers of the builds, that of the program behind all."""
     with files.put_in_place(out) as file:
@@ -302,8 +311,7 @@ def write(out, parts, made):
             with open(part.made, "rb") as lines:
                 file.writelines(line for line in lines if line.startswith(b"#"))
         for number, part in reversed(list(enumerate(parts))):
-            if part.program.elf.build_id():
-                file.write(f"# {'also ' * (number > 0)}build {part.program.elf.build_id()}\n".encode())
+            file.write(f"# {'also ' * (number > 0)}build {build_of(part.program.elf)}\n".encode())
 
 
 # What is told of it.

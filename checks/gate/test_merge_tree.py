@@ -141,6 +141,16 @@ class Sums(Tree):
             self.tells(self.merge(given=f"{weight}\tp/0\n".encode()), BAD_WORDS, f"p/0: a weight of {weight}.*from 1 to 65535")
         self.tells(self.merge(given=b"-1\tp/0\n"), MISSING, "no such file")
 
+    def test_a_line_that_is_a_name_and_a_weight(self):
+        self.file("3\tp/0", profile(30))
+        for words, end in ([], "\n"), (["-0"], "\0"):
+            self.tells(self.merge(*words, given=f"3\tp/0{end}p/1{end}".encode()), BAD_WORDS,
+                       "3.x09p/0: a file has this name, which is also a weight, a tab and a name what helps: ./ before")
+        self.expect(self.merge(given=b"./3\tp/0\np/1\n"), DONE, self.sum_of(["3\tp/0", "p/1"]))
+        self.expect(self.merge(given=b"3\t./p/0\n"), DONE, self.expected((3, "p/0")))
+        self.expect(self.merge("3\tp/0", "p/1"), DONE, self.sum_of(["3\tp/0", "p/1"]))
+        self.expect(self.merge("--fetch=cp", given=b"3\tp/0\n"), DONE, self.expected((3, "p/0")))
+
     def test_numbers_of_thousands_of_digits(self):
         """Python refuses to read such: zeros in front are none, others are those of no profile."""
         zeros = "0" * 5000
@@ -465,6 +475,43 @@ class BadFiles(Tree):
         self.assertLess(resource.getrusage(resource.RUSAGE_CHILDREN).ru_utime - used, 2)
 
 
+class Slow(Tree):
+    """--most-seconds names the file that takes too long."""
+
+    count = 12
+
+    def test_a_file_that_takes_too_long(self):
+        """A stand-in for pgo is slow with one file, in whatever company."""
+        self.file("p/5", "slow:1:1\n 1: 1\n")
+        slow = self.pgo_that(
+            "shift", "for word; do", "    case $word in", "    /dev/fd/*) ! grep -q ^slow: \"$word\" || while :; do :; done ;;",
+            "    esac", "done", "set -- merge \"$@\"")
+        begun = time.monotonic()
+        said = "p/5: it takes more than 1 second of a processor .--most-seconds."
+        words = ["-o", "out", "--most-seconds=1", "--part-size=2", *self.files]
+        self.tells(self.merge(*words, environment=slow), REFUSED, said)
+        self.nothing_out()
+        ran = self.merge("--resume", "--skip-bad=10", *words, environment=slow)
+        self.tells(ran, DONE, f"left out: .*{said}")
+        rest = [name for name in self.files if name != "p/5"]
+        self.assertEqual((self.folder / "out").read_bytes(), self.sum_of(rest))
+        self.assertEqual([each["name"] for each in self.manifest()["left_out"]], [str(self.folder / "p/5")])
+        self.assertLess(time.monotonic() - begun, 60)
+        # By itself or in a part of a plan.
+        self.expect(self.merge("-o", "out", "--plan=tree", "--most-seconds=1", "--part-size=2", *self.files), DONE)
+        self.tells(self.merge("--part=1.2", "tree", environment=slow), REFUSED, said)
+
+    def test_a_sum_that_takes_too_long(self):
+        """Each file alone is fast."""
+        slow = self.pgo_that("[ $# -le 3 ] || while :; do :; done")
+        ran = self.merge("--most-seconds=1", "--part-size=2", "--skip-bad=100", *self.files[:2], environment=slow)
+        self.tells(ran, FAILED, "the sum of .*/p/0 to .*/p/1 takes more than 1 second of a processor")
+
+    def test_what_is_fast_is_not_refused(self):
+        self.expect(self.merge("--most-seconds=1", *self.files), DONE, self.sum_of(self.files))
+        self.tells(self.merge("--most-seconds=0", *self.files), BAD_WORDS, "a number from 1 up, and not 0")
+
+
 class Builds(Tree):
     """Profiles of several builds are kept apart."""
 
@@ -501,9 +548,33 @@ class Builds(Tree):
         self.tells(self.merge(*self.files[:15]), REFUSED, "p/3: it is of several builds")
 
     def test_files_that_tell_no_build(self):
+        """Where most files tell one, a file that does not is a bad one."""
         (self.folder / "p/3").write_text(profile(3))
-        self.tells(self.merge(*self.files[:15]), FAILED, f"several builds: {ONE}, none")
+        for words in ([], ["--build=any"]):
+            ran = self.merge(*words, *self.files[:15])
+            self.tells(ran, REFUSED, "p/3: it tells no build at its end, as most files do: it was cut off")
+        ran = self.merge("--skip-bad=10", *self.files[:15])
+        self.tells(ran, DONE, "left out: .*p/3: it tells no build")
+        rest = [name for name in self.files[:15] if name != "p/3"]
+        self.assertEqual(ran.out, self.sum_of(rest) + f"# build {ONE}\n".encode())
         self.tells(self.merge(f"--build={ONE}", *self.files[:15]), DONE, "left out: 1 of 15 files.*p/3: it tells no build")
+
+    def test_few_files_that_tell_a_build(self):
+        for number in range(2, 7):
+            (self.folder / f"p/{number}").write_text(profile(number))
+        self.tells(self.merge(*self.files[:7]), FAILED, f"several builds: {ONE}, none")
+        self.expect(self.merge("--build=any", *self.files[:7]), DONE, self.sum_of(self.files[:7]))
+
+    def test_a_file_that_was_cut_off_between_lines(self):
+        """At whatever line: nothing of it goes in without a word."""
+        text = (self.folder / "p/3").read_text().splitlines(keepends=True)
+        for kept in range(len(text)):
+            (self.folder / "p/3").write_text("".join(text[:kept]))
+            ran = self.merge("-o", "out", *self.files[:15])
+            self.tells(ran, REFUSED, "p/3: (it tells no build|empty)")
+            self.nothing_out()
+        self.expect(self.merge("-o", "out", "--plan=tree", "--part-size=4", *self.files[:15]), DONE)
+        self.tells(self.merge("--part=1.0", "tree"), REFUSED, "p/3: it tells no build")
 
 
 class Steps(Tree):

@@ -32,6 +32,7 @@ class Words(argparse.Namespace):
     add_weights: bool
     build: str
     fetch: str
+    most_seconds: int
     files: List[str]
     plan: Optional[str]
     engine: Optional[str]
@@ -76,6 +77,9 @@ def parser() -> argparse.ArgumentParser:
                            "any: all")
     made.add_argument("--fetch", metavar="COMMAND", default="",
                       help="the words of a command that copies a file by its name to a path: COMMAND NAME PATH")
+    made.add_argument("--most-seconds", metavar="N", type=at_least_one, default=0,
+                      help="refuse a file whose merge takes more than so many seconds of a processor; "
+                           "--skip-bad leaves it out")
     made.add_argument("files", metavar="FILE", nargs="*", help="a profile's text")
     add_tasks(made)
     return made
@@ -109,15 +113,15 @@ def choices_of(words: Words) -> Choices:
         fetch = shlex.split(words.fetch)
     except ValueError as reason:
         raise cli.Trouble(f"--fetch: {reason}", cli.USAGE) from None
-    return Choices(words.skip_bad, words.empty_ok, words.build, fetch)
+    return Choices(words.skip_bad, words.empty_ok, words.build, fetch, most_seconds=words.most_seconds)
 
 
 def described(words: Words, place: str, out: str) -> Tree:
     """The tree that was asked for, in this folder."""
-    names = [File(name, 1) for name in words.files] or listing.from_input(words.null)
+    choices = choices_of(words)
+    names = [File(name, 1) for name in words.files] or listing.from_input(words.null, not choices.fetch)
     if not names:
         raise cli.Trouble("there is no file to merge", cli.USAGE)
-    choices = choices_of(words)
     if choices.fetch:
         names = listing.once(listing.fetchable(names), words.add_weights, lambda name: name)
     else:
@@ -126,7 +130,11 @@ def described(words: Words, place: str, out: str) -> Tree:
     if words.out:
         listing.check_out(here, out)
         listing.check_folder(here, out, place)
-    listing.check_builds(here, choices.build)
+    if choices.build in ("", parts.ANY):
+        builds = listing.builds_of(here)
+        choices = choices._replace(tells_build=listing.most_tell(builds))
+        if not choices.build:
+            listing.check_builds(builds)
     size = words.part_size or (ENGINE_WIDTH if words.plan else LOCAL_WIDTH)
     return Tree(os.path.abspath(place), out, tree.fresh_id(), size, choices, names)
 

@@ -2,6 +2,7 @@
 import contextlib
 import ctypes
 import os
+import resource
 import signal
 import subprocess
 from typing import Callable, IO, Optional, Sequence, Tuple, Union
@@ -33,12 +34,36 @@ def end_all(process: "subprocess.Popen[bytes]") -> None:
         os.killpg(process.pid, signal.SIGKILL)
 
 
-def call(words: Sequence[str], stdout: Union[int, IO[bytes]], pass_fds: Sequence[int] = ()) -> Tuple[int, str]:
-    """Runs a program that ends with this process: its status and its error output as text."""
+def limit_seconds(most: int) -> None:
+    """Has the system end this process once it used so many seconds of a processor."""
+    hard = resource.getrlimit(resource.RLIMIT_CPU)[1]
+    soft = most if hard == resource.RLIM_INFINITY else min(most, hard)
+    resource.setrlimit(resource.RLIMIT_CPU, (soft, hard))
+    resource.setrlimit(resource.RLIMIT_CORE, (0, 0))
+
+
+def took_too_long(status: int) -> bool:
+    """Returns whether a program was ended for its seconds, with this status of its own or of a shell that ran it."""
+    return status in (-signal.SIGXCPU, 128 + signal.SIGXCPU)
+
+
+def call(
+    words: Sequence[str], stdout: Union[int, IO[bytes]], pass_fds: Sequence[int] = (), most_seconds: int = 0
+) -> Tuple[int, str]:
+    """Runs a program that ends with this process: its status and its error output as text.
+
+    It may use so many seconds of a processor (0: any time).
+    """
     parent = os.getpid()
+
+    def prepare() -> None:
+        end_with(parent)
+        if most_seconds:
+            limit_seconds(most_seconds)
+
     with running(
         words, end_all, env=None, stdin=subprocess.DEVNULL, stdout=stdout, stderr=subprocess.PIPE, pass_fds=pass_fds,
-        preexec_fn=lambda: end_with(parent), start_new_session=True,
+        preexec_fn=prepare, start_new_session=True,
     ) as process:
         _, said = process.communicate()
     return process.returncode, text_of(said).strip()

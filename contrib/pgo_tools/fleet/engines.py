@@ -55,12 +55,22 @@ def slurm(tree: Tree, script: str) -> Iterator[str]:
     yield "    sbatch --parsable --kill-on-invalid-dep=yes --job-name=merge-tree \\"
     yield f"        --output={shlex.quote(tree.folder.replace('%', '%%'))}/slurm-%A_%a.log \"$@\""
     yield "}"
+    yield "# An array has indexes below MaxArraySize, so a large level is several. An answer may be ID;CLUSTER."
+    yield "most=$(scontrol show config 2>/dev/null | sed -n 's/^MaxArraySize *= *//p')"
+    yield "[ \"${most:-0}\" -gt 0 ] || most=1001"
+    yield "before="
     for level, count in steps(tree):
-        after = ' --dependency="afterok:$jobs"' if level > 1 else ""
         wait = " --wait" if level == len(steps(tree)) else ""
-        wrapped = shlex.quote("exec " + call(script, tree.folder, f"{level}.$SLURM_ARRAY_TASK_ID"))
-        yield f'jobs=$(submit --array=0-{count - 1}{after}{wait} "$@" \\'
-        yield f"    --wrap={wrapped})"
+        wrapped = shlex.quote("exec " + call(script, tree.folder, f"{level}.$((first + SLURM_ARRAY_TASK_ID))"))
+        yield "first=0 jobs="
+        yield f'while [ "$first" -lt {count} ]; do'
+        yield f'    last=$(({count} - first - 1))'
+        yield '    [ "$last" -lt "$most" ] || last=$((most - 1))'
+        yield f'    id=$(submit --array="0-$last" ${{before:+"--dependency=afterok$before"}}{wait} "$@" \\'
+        yield f'        --wrap="first=$first; "{wrapped})'
+        yield '    jobs=$jobs:${id%%;*} first=$((first + last + 1))'
+        yield "done"
+        yield "before=$jobs"
 
 
 def as_text(word: str) -> str:
@@ -73,29 +83,44 @@ def as_text(word: str) -> str:
     return json.dumps(word, ensure_ascii=False)
 
 
-def mount(tree: Tree) -> str:
-    """The folder that holds all that a part reads and writes."""
-    names = [] if tree.choices.fetch else [os.path.dirname(file.name) for file in tree.files]
-    return os.path.commonpath([os.path.dirname(tree.folder), os.path.dirname(tree.out), *names])
+def mounts(tree: Tree) -> List[str]:
+    """The folders that contain all that a part reads and writes: one, or one for each folder of the root."""
+    files = [] if tree.choices.fetch else [file.name for file in tree.files]
+    folders = {os.path.dirname(name) for name in (tree.folder, tree.out, *files)}
+    if "/" in folders:
+        lost = next(name for name in (tree.folder, tree.out, *files) if os.path.dirname(name) == "/")
+        raise Trouble(f"{lost} is in the folder /, where no volume can be mounted", FAILED, "a folder below it")
+    common = os.path.commonpath(list(folders))
+    tops = sorted({each.split("/")[1] for each in folders})
+    return [common] if common != "/" else [
+        os.path.commonpath([each for each in folders if each.split("/")[1] == top]) for top in tops
+    ]
 
 
 def kubernetes(tree: Tree, script: str) -> Iterator[str]:
     """A job with indexes for each level, which are started one after the other."""
-    name = f"merge-tree-{tree.id}"
+    name, levels = f"merge-tree-{tree.id}", len(steps(tree))
+    places = mounts(tree)
+    claims = ["profiles"] if len(places) == 1 else [f"profiles-{number}" for number in range(1, len(places) + 1)]
+    mounted = ", ".join(f"the claim `{claim}` is mounted at {place}" for claim, place in zip(claims, places))
     yield ("# The parts of a tree of profiles, by Kubernetes: a job for each level, which starts suspended. "
            "The image has pgo, Python and")
-    yield (f"# {script}; the claim `profiles` is mounted at {mount(tree)}. "
-           "Put the farm's own names in place of IMAGE and profiles.")
+    yield f"# {script}; {mounted}. Put the farm's own names in place of IMAGE and {', '.join(claims)}."
+    yield "# A job that fails ends the loop within seconds. The last line tells by its status if all is done."
     yield "#   kubectl apply -f FILE"
     yield f"#   for level in {' '.join(str(level) for level, _ in steps(tree))}; do"
-    yield f"#       kubectl patch \"job/{name}-$level\" -p '{{\"spec\":{{\"suspend\":false}}}}' &&"
-    yield f"#           kubectl wait --for=condition=complete --timeout=6h \"job/{name}-$level\" || break"
+    yield f"#       job=job/{name}-$level"
+    yield "#       kubectl patch \"$job\" -p '{\"spec\":{\"suspend\":false}}' || break"
+    yield "#       until kubectl wait --for=condition=complete --timeout=5s \"$job\"; do"
+    yield "#           kubectl wait --for=condition=failed --timeout=1s \"$job\" && break 2"
+    yield "#       done"
     yield "#   done"
+    yield f"#   kubectl wait --for=condition=complete --timeout=1s job/{name}-{levels}"
     for level, count in steps(tree):
         yield from [
             "---", "apiVersion: batch/v1", "kind: Job", "metadata:", f"  name: {name}-{level}", "spec:",
             "  suspend: true", "  completionMode: Indexed", f"  completions: {count}",
-            f"  parallelism: {min(count, 64)}", "  backoffLimit: 6",
+            f"  parallelism: {min(count, 64)}", "  backoffLimit: 6", "  activeDeadlineSeconds: 21600",
             "  template:", "    spec:", "      restartPolicy: Never", "      containers:", "      - name: part",
             "        image: IMAGE",
         ]
@@ -104,11 +129,12 @@ def kubernetes(tree: Tree, script: str) -> Iterator[str]:
         yield "        securityContext:"
         yield from [f"          runAsUser: {os.geteuid()}", f"          runAsGroup: {os.getegid()}"]
         yield f"        command: [/bin/sh, -c, {as_text(shell.replace('$', '$$'))}]"
-        yield from [
-            "        volumeMounts:", "        - name: profiles", f"          mountPath: {as_text(mount(tree))}",
-            "      volumes:", "      - name: profiles", "        persistentVolumeClaim:",
-            "          claimName: profiles",
-        ]
+        yield "        volumeMounts:"
+        for claim, place in zip(claims, places):
+            yield from [f"        - name: {claim}", f"          mountPath: {as_text(place)}"]
+        yield "      volumes:"
+        for claim in claims:
+            yield from [f"      - name: {claim}", "        persistentVolumeClaim:", f"          claimName: {claim}"]
 
 
 def nomad(tree: Tree, script: str) -> Iterator[str]:

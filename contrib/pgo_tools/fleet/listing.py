@@ -18,24 +18,28 @@ TAIL = 4096
 LONGEST_NAME, LONGEST_END = 255, len(".4194304.999.new")
 
 
-def weighed(line: str) -> File:
-    """A line of a list: a name, or a weight, a tab and a name."""
+def weighed(line: str, are_here: bool = True) -> File:
+    """A line of a list: a name, or a weight, a tab and a name. It is refused if the whole line is a file's name."""
     weight, tab, name = line.partition("\t")
     if not (tab and weight.isascii() and weight.isdigit()):
         return File(line, 1)
+    if are_here and os.path.lexists(line):
+        raise Trouble(f"{line}: a file has this name, which is also a weight, a tab and a name", USAGE,
+                      "./ before the weight for the file, ./ after the tab for the weight")
     match = re.fullmatch(decimal(5), weight)
     if not match or not 1 <= int(match[1]) <= MOST_WEIGHT:
         raise Trouble(f"{name}: a weight of {weight}", USAGE, f"weights are from 1 to {MOST_WEIGHT}")
     return File(name, int(match[1]))
 
 
-def from_input(zeros: bool) -> List[File]:
-    """The files that the input lists, one a line, or each up to a NUL."""
+def from_input(zeros: bool, are_here: bool = True) -> List[File]:
+    """The files that the input lists, one a line, or each up to a NUL; here, or where a command fetches them."""
     text = os.fsdecode(given().read())
     if not zeros and "\0" in text:
         raise Trouble("the list has NULs", USAGE, "-0, for names as find -print0 prints them")
     # A line of blanks is no name, but of names that end with a NUL it may be one.
-    return [weighed(line) for line in text.split("\0" if zeros else "\n") if (line if zeros else line.strip())]
+    lines = [line for line in text.split("\0" if zeros else "\n") if (line if zeros else line.strip())]
+    return [weighed(line, are_here) for line in lines]
 
 
 def fetchable(files: List[File]) -> List[File]:
@@ -92,15 +96,23 @@ def build_at_end(name: str) -> str:
     return text_of(told[-1]) if told else ""
 
 
-def check_builds(files: List[File], choice: str) -> None:
+def builds_of(files: List[File]) -> Counter[str]:
+    """Counts the files of each build, by their last lines; "" for those that tell none there."""
+    return collections.Counter(build_at_end(name) for name, _ in files)
+
+
+def check_builds(builds: Counter[str]) -> None:
     """Refuses files of several builds before any of them is merged, and says how many there are of each."""
-    if choice:
-        return
-    counts: Counter[str] = collections.Counter(filter(None, (build_at_end(name) for name, _ in files)))
+    counts = collections.Counter({build: count for build, count in builds.items() if build})
     if len(counts) > 1:
         said = ", ".join(f"{build} ({count} file{'s' * (count > 1)})" for build, count in counts.most_common(5))
         raise Trouble(f"the profiles are of {len(counts)} builds: {said}", FAILED,
                       "--build=ID takes those of one and leaves the others out, --build=any adds up all")
+
+
+def most_tell(builds: Counter[str]) -> bool:
+    """Returns whether more than half of the files tell a build. Any that does not was then probably cut off."""
+    return 2 * builds[""] < sum(builds.values())
 
 
 def check_out(files: List[File], out: str) -> None:

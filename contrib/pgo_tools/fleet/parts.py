@@ -16,7 +16,7 @@ from pgo_tools.cli.files import MOST_TEXT, opened, put_in_place, scratch_folder,
 from pgo_tools.cli.programs import last_line
 from pgo_tools.fleet import manifest as told
 from pgo_tools.fleet import owner
-from pgo_tools.fleet.children import call
+from pgo_tools.fleet.children import call, took_too_long
 from pgo_tools.fleet.owner import keep_own, opened_own
 from pgo_tools.fleet.tree import File, Part, Tree
 from pgo_tools.texts import profile_text
@@ -156,6 +156,8 @@ def reason_against(tree: Tree, facts: told.Facts) -> Optional[Against]:
     if len(facts.builds) > 1:
         return Against(f"it is of several builds: {', '.join(facts.builds)}")
     build = facts.builds[0] if facts.builds else ""
+    if tree.choices.tells_build and not build:
+        return Against("it tells no build at its end, as most files do: it was cut off, or pgo-profile did not make it")
     if tree.choices.build not in ("", ANY, build):
         return Against(f"it is of the build {build}" if build else "it tells no build", FAILED, False)
     return None
@@ -203,11 +205,28 @@ def refusal_of(status: int, said: str) -> Refusal:
     return Refusal(int(match[2]) - 1, why, match[1] == "refused" and OF_SUMS not in why)
 
 
-def call_merge(pgo: str, sources: Sequence[Union[Source, Sum]], target: IO[bytes]) -> Tuple[int, str]:
-    """Has pgo merge sources, or sums, into a file: its status, and what it says."""
-    words = [word for each in sources for word in (str(each.weight), f"/dev/fd/{each.file.fileno()}")]
-    status, said = call([pgo, "merge", *words], stdout=target, pass_fds=[each.file.fileno() for each in sources])
-    return status, last_line(said)
+class Merger(NamedTuple):
+    """The program that merges, and how many seconds of a processor it may use for each of its inputs (0: any time)."""
+
+    pgo: str
+    most_seconds: int
+
+    def call(self, sources: Sequence[Union[Source, Sum]], target: IO[bytes]) -> Tuple[int, str]:
+        """Has it merge sources, or sums, into a file: its status, and what it says."""
+        target.seek(0)
+        target.truncate()
+        handles = [each.file.fileno() for each in sources]
+        words = [word for each, handle in zip(sources, handles) for word in (str(each.weight), f"/dev/fd/{handle}")]
+        status, said = call([self.pgo, "merge", *words], target, handles, self.most_seconds * len(sources))
+        return status, last_line(said)
+
+    def said(self) -> str:
+        """The limit, as it is reported."""
+        return f"more than {self.most_seconds} second{'s' * (self.most_seconds > 1)} of a processor (--most-seconds)"
+
+    def slow(self, sources: Sequence[Source], target: IO[bytes]) -> List[Source]:
+        """The sources that take too long by themselves."""
+        return [each for each in sources if took_too_long(self.call([each], target)[0])]
 
 
 class Merged(NamedTuple):
@@ -222,13 +241,19 @@ def has_changed(source: Source) -> bool:
     return told.written_of(os.fstat(source.file.fileno())) != source.stamp[: told.WRITTEN]
 
 
-def merge(pgo: str, sources: Sequence[Source], target: IO[bytes]) -> Merged:
+def merge(merger: Merger, sources: Sequence[Source], target: IO[bytes]) -> Merged:
     """Merges at most eight sources into a file."""
     merged = Merged(list(sources), [])
     while merged.good:
-        target.seek(0)
-        target.truncate()
-        status, said = call_merge(pgo, merged.good, target)
+        status, said = merger.call(merged.good, target)
+        if took_too_long(status):
+            slow = merger.slow(merged.good, target)
+            if not slow:
+                names = f"{merged.good[0].name} to {merged.good[-1].name}"
+                raise Trouble(f"the sum of {names} takes {merger.said()} for each", FAILED, "a larger limit")
+            merged.refused.extend(each.left_out(Against(f"it takes {merger.said()}")) for each in slow)
+            merged.good[:] = [each for each in merged.good if each not in slow]
+            continue
         if status:
             refusal = refusal_of(status, said)
             source = merged.good[refusal.number]
@@ -255,21 +280,24 @@ def scratch_file(scratch: str) -> IO[bytes]:
     return tempfile.TemporaryFile(dir=scratch)
 
 
-def add_up(pgo: str, sums: Sequence[Sum], target: IO[bytes], scratch: str) -> None:
+def add_up(merger: Merger, sums: Sequence[Sum], target: IO[bytes], scratch: str) -> None:
     """Merges any number of sums into a file, eight at a time."""
     while len(sums) > MERGED_AT_ONCE:
         above = []
         for group in groups(sums):
             file = scratch_file(scratch)
-            merge_sums(pgo, group, file)
+            merge_sums(merger, group, file)
             above.append(Sum(f"{group[0].name.split(' to ')[0]} to {group[-1].name.split(' to ')[-1]}", 1, file))
         sums = above
-    merge_sums(pgo, sums, target)
+    merge_sums(merger, sums, target)
 
 
-def merge_sums(pgo: str, sums: Sequence[Sum], target: IO[bytes]) -> None:
+def merge_sums(merger: Merger, sums: Sequence[Sum], target: IO[bytes]) -> None:
     """Merges at most eight sums into a file."""
-    status, said = call_merge(pgo, sums, target)
+    status, said = merger.call(sums, target)
+    if took_too_long(status):
+        names = f"{sums[0].name} to {sums[-1].name}"
+        raise Trouble(f"the sum of {names} takes {merger.said()} for each of {len(sums)}", FAILED, "a larger limit")
     if status:
         refusal = refusal_of(status, said)
         raise Trouble(f"the sum of {sums[refusal.number].name}: {refusal.why}", status, refusal.remedy())
@@ -285,7 +313,7 @@ class Made(NamedTuple):
     builds: List[str]
 
 
-def add_files(tree: Tree, part: Part, pgo: str, target: IO[bytes], scratch: str) -> Made:
+def add_files(tree: Tree, part: Part, merger: Merger, target: IO[bytes], scratch: str) -> Made:
     """Merges the files of a part of level 1, those that are good."""
     made = Made([], [], [])
     sums: List[Sum] = []
@@ -293,7 +321,7 @@ def add_files(tree: Tree, part: Part, pgo: str, target: IO[bytes], scratch: str)
     only = len(entries) <= MERGED_AT_ONCE
     for group in groups(entries):
         file = target if only else scratch_file(scratch)
-        good = add_group(tree, group, pgo, file, scratch, made)
+        good = add_group(tree, group, merger, file, scratch, made)
         if good and not only:
             sums.append(Sum(f"{good[0]} to {good[-1]}", 1, file))
     order = {entry.name: number for number, entry in enumerate(entries)}
@@ -302,11 +330,13 @@ def add_files(tree: Tree, part: Part, pgo: str, target: IO[bytes], scratch: str)
     if bad and tree.choices.skip_bad is None:
         raise Faults(bad, remedy(tree, bad[0]))
     if sums:
-        add_up(pgo, sums, target, scratch)
+        add_up(merger, sums, target, scratch)
     return made
 
 
-def add_group(tree: Tree, group: Sequence[File], pgo: str, file: IO[bytes], scratch: str, made: Made) -> List[str]:
+def add_group(
+    tree: Tree, group: Sequence[File], merger: Merger, file: IO[bytes], scratch: str, made: Made
+) -> List[str]:
     """Merges some files of a part into a file, and notes what became of them: the names of those that went in."""
     with contextlib.ExitStack() as stack:
         sources = []
@@ -317,7 +347,7 @@ def add_group(tree: Tree, group: Sequence[File], pgo: str, file: IO[bytes], scra
                 sources.append(source)
             else:
                 made.left_out.append(source)
-        merged = merge(pgo, sources, file)
+        merged = merge(merger, sources, file)
         made.left_out.extend(merged.refused)
     for each in merged.good:
         made.entries.append(each.entry())
@@ -380,7 +410,7 @@ class Noted(NamedTuple):
     left_out: List[told.LeftOut] = []
 
 
-def add_parts(tree: Tree, part: Part, pgo: str, target: IO[bytes], scratch: str) -> List[told.Manifest]:
+def add_parts(tree: Tree, part: Part, merger: Merger, target: IO[bytes], scratch: str) -> List[told.Manifest]:
     """Merges the parts below a part: their manifests."""
     sums, manifests = [], []
     with contextlib.ExitStack() as stack:
@@ -390,7 +420,7 @@ def add_parts(tree: Tree, part: Part, pgo: str, target: IO[bytes], scratch: str)
             manifests.append(seen)
             files = tree.files_of(each)
             sums.append(Sum(f"{files[0].name} to {files[-1].name}" if len(files) > 1 else files[0].name, 1, file))
-        add_up(pgo, sums, target, scratch)
+        add_up(merger, sums, target, scratch)
     return manifests
 
 
@@ -405,7 +435,8 @@ def make(tree: Tree, part: Part, pgo: str) -> None:
         os.unlink(tree.manifest(part))
     first = part.level == 1
     with scratch_of(tree, part) as scratch, put_in_place(tree.text(part), lasting=False) as target:
-        noted = (make_first if first else make_above)(tree, part, pgo, target, scratch)
+        merger = Merger(pgo, tree.choices.most_seconds)
+        noted = (make_first if first else make_above)(tree, part, merger, target, scratch)
         keep_own(target)
         facts = told.facts_written(target)
     seal(tree, part, facts, noted)
@@ -414,18 +445,18 @@ def make(tree: Tree, part: Part, pgo: str) -> None:
             os.unlink(tree.text(each))
 
 
-def make_first(tree: Tree, part: Part, pgo: str, target: IO[bytes], scratch: str) -> Noted:
+def make_first(tree: Tree, part: Part, merger: Merger, target: IO[bytes], scratch: str) -> Noted:
     """Merges a part of files."""
-    made = add_files(tree, part, pgo, target, scratch)
+    made = add_files(tree, part, merger, target, scratch)
     return Noted(
         [each.input() for each in made.entries], one_build(tree, made.builds, f"part {part}"), len(made.entries),
         sum(each.bad for each in made.left_out), files=made.entries, left_out=made.left_out,
     )
 
 
-def make_above(tree: Tree, part: Part, pgo: str, target: IO[bytes], scratch: str) -> Noted:
+def make_above(tree: Tree, part: Part, merger: Merger, target: IO[bytes], scratch: str) -> Noted:
     """Merges a part of parts, likewise."""
-    below = add_parts(tree, part, pgo, target, scratch)
+    below = add_parts(tree, part, merger, target, scratch)
     return Noted(
         [each.input() for each in below], one_build(tree, [each.build for each in below if each.says], f"part {part}"),
         sum(each.merged for each in below), sum(each.bad for each in below),

@@ -42,13 +42,15 @@ class Choices(NamedTuple):
     """What was asked for: how many percent may be bad (None for none), whether an empty file is good, and which build.
 
     The build is "" for the one that all agree on, and "any" for all together. `fetch` are the words of a command that
-    fetches a file.
+    fetches a file. A file has to tell a build if most files do, and may take so many seconds (0: any time).
     """
 
     skip_bad: Optional[float] = None
     empty_ok: bool = False
     build: str = ""
     fetch: List[str] = []
+    tells_build: bool = False
+    most_seconds: int = 0
 
 
 class Tree(NamedTuple):
@@ -92,8 +94,8 @@ class Tree(NamedTuple):
 
     def want(self, part: Part) -> str:
         """What a part has to be made of, as one word: two trees with the same files there ask for the same."""
-        choices = self.choices
-        asked = (part.level, self.width, choices.empty_ok, choices.build, choices.fetch, self.files_of(part))
+        choices = self.choices._replace(skip_bad=None)
+        asked = (part.level, self.width, choices, self.files_of(part))
         return hashlib.sha256(json.dumps(asked).encode("ascii")).hexdigest()
 
     def text(self, part: Part) -> str:
@@ -143,13 +145,14 @@ def is_text(value: object) -> bool:
 def is_of_its_kind(tree: Tree) -> bool:
     """What stands in a description is of its kind, and makes levels that end."""
     texts = [tree.out, tree.id, tree.choices.build, *tree.choices.fetch, *(name for name, _ in tree.files)]
-    numbers = [tree.width, *(weight for _, weight in tree.files)]
+    seconds = tree.choices.most_seconds
+    numbers = [tree.width, seconds, *(weight for _, weight in tree.files)]
     # A text that cannot be one of the system's names is a UnicodeEncodeError, which is a ValueError.
     are_texts = type(tree.choices.fetch) is list and all(map(is_text, texts))
     skipped = tree.choices.skip_bad
     is_percent = skipped is None or type(skipped) in (int, float) and 0 <= skipped <= 100
     are_numbers = all(type(each) is int for each in numbers)
-    return are_texts and is_percent and are_numbers and tree.width > 1 and bool(tree.files)
+    return are_texts and is_percent and are_numbers and seconds >= 0 and tree.width > 1 and bool(tree.files)
 
 
 def read(folder: str) -> Tree:

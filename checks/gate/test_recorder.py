@@ -1,5 +1,6 @@
-"""bench/repair/recorder.c: threads that run at once count as those that run one after another, and no line of its text is
-cut, with many threads, with forked processes, and if a signal ends the program or the program runs another one."""
+"""bench/repair/recorder.c: threads that run at once count as those that run one after another; no line of its text is
+cut, with many threads, with forked processes, and if a signal ends the program or the program runs another one; and load
+lines show where each file with code was loaded, so that profiles of several binaries can be made of one text."""
 import random
 import re
 import shutil
@@ -7,7 +8,7 @@ import signal
 import subprocess
 import time
 
-from common import DONE, PGO, TOP, Case, needs, run
+from common import CONTRIB, DONE, FAILED, PGO, TOP, Case, needs, run
 
 PERIOD = 499
 LINE = re.compile(rb" *[0-9a-f]+( 0x[0-9a-f]+/0x[0-9a-f]+/P/-/-/0//- )*|PERF_RECORD_MMAP2 .*")
@@ -81,24 +82,137 @@ int main(int argc, char **argv)
     return argc != 4;
 }
 """
+# A program with a library of its own, a plugin that it loads, and code that it writes itself.
+MAIN = r"""
+#include <dlfcn.h>
+#include <string.h>
+#include <sys/mman.h>
+long area(long n);
+__attribute__((noinline)) static long own(long n) { long sum = 0; while (n--) sum += n & 3 ? n : 1; return sum; }
+int main(void)
+{
+    void *plugin = dlopen("./plugin.so", RTLD_NOW);
+    long (*volume)(long) = plugin ? (long (*)(long))dlsym(plugin, "volume") : 0;
+    char *code = mmap(0, 4096, PROT_READ | PROT_WRITE, MAP_PRIVATE | MAP_ANONYMOUS, -1, 0);
+    long sum = volume ? own(100000) + area(100000) + volume(100000) : 0;
+    memcpy(code, "\xb8\x01\0\0\0\xc3", 6);
+    for (int k = 0; k < 3; k++) {
+        mprotect(code, 4096, PROT_READ | PROT_WRITE);
+        mprotect(code, 4096, PROT_READ | PROT_EXEC);
+        sum += ((int (*)(void))code)();
+    }
+    if (plugin)
+        dlclose(plugin);
+    return sum == 0;
+}
+"""
+AREA = "long area(long n) { long sum = 0; while (n--) sum += n & 7 ? n : 2; return sum; }\n"
+VOLUME = "long volume(long n) { long sum = 0; while (n--) sum += n & 1 ? n : 3; return sum; }\n"
+LOAD = re.compile(r"^PERF_RECORD_MMAP2 1/1: \[0x[0-9a-f]+\(0x[0-9a-f]+\) @ (?:0|0x[0-9a-f]+) (.*)\]: r-xp (.*)$", re.M)
 
 
 @needs("qemu-x86_64", "gcc")
 class Recorder(Case):
     def setUp(self):
         super().setUp()
+        self.compile("-O2", "-shared", "-fPIC", "-o", "recorder.so", TOP / "bench" / "repair" / "recorder.c")
+
+    def compile(self, *words):
+        made = run("gcc", *words, folder=self.folder)
+        self.assertEqual(made.status, DONE, made.said)
+
+
+class Objects(Recorder):
+    """Load lines of a program, its library and its plugin."""
+
+    def setUp(self):
+        super().setUp()
+        self.compile_all(AREA)
+
+    def compile_all(self, area):
+        for name, source in (("main.c", MAIN), ("area.c", area), ("volume.c", VOLUME)):
+            self.file(name, source)
+        shared = ("-O1", "-g", "-Wl,--build-id", "-shared", "-fPIC", "-o")
+        self.compile(*shared, "libarea.so", "area.c")
+        self.compile(*shared, "plugin.so", "volume.c")
+        self.compile("-O1", "-g", "-Wl,--build-id,-rpath,$ORIGIN", "-o", "main", "main.c", "libarea.so", "-ldl")
+
+    def record(self):
+        ran = self.run_here("qemu-x86_64", "-plugin", "./recorder.so,out=text,branches=99", "./main")
+        self.assertEqual(ran.status, DONE, ran.said)
+        return LOAD.findall((self.folder / "text").read_text())
+
+    def profile(self, *words):
+        return self.run_here(CONTRIB / "pgo-profile", *words, "main", "text", "prof")
+
+    def functions(self):
+        lines = (self.folder / "prof").read_text().splitlines()
+        return {line.partition(":")[0] for line in lines if not line.startswith((" ", "#"))}
+
+    def build(self, name):
+        told = run("readelf", "-n", self.folder / name).out.decode()
+        return re.search("Build ID: ([0-9a-f]+)", told)[1]
+
+    def test_each_file_with_code_has_one_line(self):
+        loads = self.record()
+        for name in ("main", "libarea.so", "plugin.so"):
+            path = (self.folder / name).resolve()
+            self.assertEqual([build for build, at in loads if at == str(path)], [f"<{self.build(name)}>"], name)
+        files = [at for _, at in loads if at.startswith("/") and at != "//anon"]
+        self.assertEqual(len(files), len(set(files)))
+        self.assertTrue(any("/ld-linux" in at or "/ld-2" in at for at in files), files)
+        self.assertTrue(any("/libc" in at for at in files), files)
+        self.assertEqual([at for at in files if "recorder" in at or "glib" in at], [])
+        # What the program writes itself may run twice more, at the same place.
+        self.assertEqual([at for _, at in loads].count("//anon"), 1)
+
+    def test_one_profile_of_all(self):
+        self.record()
+        made = self.profile("--also=libarea.so", "--also=plugin.so")
+        self.assertEqual((made.status, made.err), (DONE, b""), made.said)
+        self.assertLessEqual({"own", "area", "volume"}, self.functions())
+        text = made.out.decode()
+        shares = [int(share) for share in re.findall(r"(\d+)%", text.splitlines()[0])]
+        self.assertEqual(len(shares), 3, text)
+        self.assertTrue(all(share > 25 for share in shares), text)
+
+    def test_the_build_id_finds_a_file_of_another_name(self):
+        self.record()
+        (self.folder / "plugin.so").rename(self.folder / "renamed")
+        made = self.profile("--also=renamed")
+        self.assertEqual(made.status, DONE, made.said)
+        self.assertIn("volume", self.functions())
+
+    def test_another_build_is_refused(self):
+        self.record()
+        self.compile_all(AREA.replace("2;", "5;"))
+        made = self.profile("--also=libarea.so")
+        self.assertEqual((made.status, (self.folder / "prof").exists()), (FAILED, False), made.said)
+        self.assertIn("libarea.so is " + self.build("libarea.so"), made.said)
+
+    def test_a_program_without_a_loader(self):
+        self.file("plain.c", 'int main(void) { volatile int n = 100000; while (n--) ; return 0; }\n')
+        for words in (["-static"], ["-static-pie"], ["-no-pie"]):
+            with self.subTest(words=words):
+                self.compile("-O1", "-Wl,--build-id", *words, "-o", "main", "plain.c")
+                loads = self.record()
+                path = str((self.folder / "main").resolve())
+                self.assertEqual([build for build, at in loads if at == path], [f"<{self.build('main')}>"])
+
+
+class Threads(Recorder):
+    """Samples of threads and processes."""
+
+    def setUp(self):
+        super().setUp()
         self.file("threads.c", SOURCE)
-        source = TOP / "bench" / "repair" / "recorder.c"
-        for words in (["-O2", "-shared", "-fPIC", "-o", self.folder / "recorder.so", source],
-                      ["-O1", "-g", "-pthread", "-o", self.folder / "threads", self.folder / "threads.c"]):
-            made = run("gcc", *words)
-            self.assertEqual(made.status, DONE, made.said)
+        self.compile("-O1", "-g", "-pthread", "-o", "threads", "threads.c")
 
     def words(self, *words, period=PERIOD):
         return ["qemu-x86_64", "-plugin", f"./recorder.so,out=text,branches={period}", "./threads", *words]
 
     def text_is_whole(self, cut=False):
-        """The number of samples in the text, each line of which is whole, or blank or a comment if a signal may have cut it."""
+        """The number of samples in the text. Each line is whole, or blank or a comment if a signal may have cut it."""
         text = (self.folder / "text").read_bytes()
         self.assertTrue(text.endswith(b"\n"), text[-200:])
         lines = text.splitlines()
@@ -159,7 +273,8 @@ class Recorder(Case):
     def test_no_signal_cuts_a_line(self):
         """At a short period nearly each signal meets a line that is being written."""
         for number in (signal.SIGTERM, signal.SIGKILL) * 8:
-            self.assertGreater(self.ended_by(number, random.uniform(0.2, 0.5), "concurrent", "8", "1000000000000", period=50), 0)
+            seconds = random.uniform(0.2, 0.5)
+            self.assertGreater(self.ended_by(number, seconds, "concurrent", "8", "1000000000000", period=50), 0)
 
     def test_a_forked_process_that_is_killed_cuts_no_line(self):
         ran = self.run_here(*self.words("killed", "8", "10000", period=50))
@@ -179,4 +294,5 @@ class Recorder(Case):
         words[2] = "./recorder.so,out=/dev/full,branches=499"
         ran = self.run_here(*words)
         self.assertEqual(ran.status, DONE)
-        self.assertEqual(ran.err.count(b"recorder: /dev/full: No space left on device; lines are missing\n"), 1, ran.said)
+        told = b"recorder: /dev/full: No space left on device; lines are missing\n"
+        self.assertEqual(ran.err.count(told), 1, ran.said)

@@ -124,7 +124,7 @@ class Releases(Launcher):
         ran = self.call("counts", "/dev/stdin", given=b"0x1/0x2\n")
         self.expect(ran, 0, "0x1 0x2 1\n# branches 1\n")
         self.assertEqual(self.call("counts").status, 2)
-        self.expect(self.call("counts", "none"), 3, "", "no such file: 1\n")
+        self.expect(self.call("counts", "none"), 3, "", "pgo: note: no such file: none\nno such file: 1\n")
         (self.folder / "text").write_text("0x1/0x2\n")
         closed = self.call("counts", self.folder / "text", prepare=lambda: os.close(1))
         self.expect(closed, 6, "", "write fault\n")
@@ -310,6 +310,43 @@ class Sources(Launcher):
 
     def path_without_rt(self):
         return os.pathsep.join(it for it in os.environ["PATH"].split(os.pathsep) if not os.path.exists(os.path.join(it, "rt")))
+
+
+class Notes(Launcher):
+    """A line before the program's own names the command or the file that is not there."""
+
+    USAGE = "usage: pgo counts, where, profile, build, check, make, merge, summary or lift\n"
+
+    def notes(self, note, status, line, *words, **how):
+        ran = self.call(*words, folder=self.folder, **how)
+        self.assertEqual((ran.status, ran.out, ran.said), (status, b"", note + line))
+
+    def test_commands(self):
+        for word, note in (
+            ("profil", "profil; did you mean profile?"), ("merg", "merg; did you mean merge?"), ("help", "help"), ("Build", "Build; did you mean build?"),
+            ("\033[2Jcounts", "?[2Jcounts"), ("../pgo", "../pgo"), ("-", None), ("--base", None), ("", ""),
+        ):
+            with self.subTest(word=word):
+                self.notes("" if note is None else f"pgo: note: no such command: {note}\n", 2, self.USAGE, word, "a", "b")
+
+    def test_files(self):
+        for file in ("perf", "cfg"):
+            (self.folder / file).write_text("\n")
+        for words, file, number in (
+            ("counts gone", "gone", 1), ("where gone 401000", "gone", 1), ("profile --base gone perf", "gone", 1), ("check gone lost", "gone", 1),
+            ("lift --base gone cfg perf", "gone", 1), ("merge 1 gone 2 perf", "gone", 1), ("summary sub/gone", None, 1), ("build gone perf cfg", "gone", 1),
+        ):
+            with self.subTest(words=words):
+                self.notes(f"pgo: note: no such file: {file}\n" if file else "", 3, f"no such file: {number}\n", *words.split())
+        for words, number in (("gone perf", 1), ("profile gone perf", 1)):
+            with self.subTest(words=words):
+                self.notes("pgo-cold: note: no such file: gone\n", 3, f"no such file: {number}\n", *words.split(), name="pgo-cold")
+
+    def test_no_note(self):
+        """If the number of words is wrong, the program's own line is all."""
+        self.notes("", 2, self.USAGE, "profile", "gone")
+        self.notes("", 2, self.USAGE, "where", "gone", "gone", "gone")
+        self.notes("", 2, self.USAGE, "make", "many", "bin")
 
 
 class Links(Launcher):

@@ -1,6 +1,6 @@
 """How a script begins and ends: statuses, messages, signals, and an output that cannot be written.
 
-A script ends with `cli.run(main)`. Its `main(argv)` parses its words and returns the status. What goes wrong is a `Trouble`.
+A script ends with `cli.run(main)`. Its `main(argv)` parses its words and returns the status. A fault is a `Trouble`.
 """
 import contextlib
 import errno
@@ -46,7 +46,7 @@ def name() -> str:
 
 
 def say(what: str, helps: str = "") -> None:
-    """Tells a line on the error output, whatever names it has, and below it what helps. No byte of a file reaches a terminal raw."""
+    """Writes a line to the error output, and below it what helps. No byte of a file reaches a terminal raw."""
     lines = [f"{name()}: {what}"] + (f"  what helps: {helps}".split("\n") if helps else [])
     with contextlib.suppress(OSError, ValueError, AttributeError):
         for line in lines:
@@ -82,7 +82,7 @@ def stop(number: int, _frame: Optional[FrameType]) -> NoReturn:
 
 @contextlib.contextmanager
 def undisturbed() -> Iterator[None]:
-    """A signal that comes within the block is heard behind it: what is begun there is then known, and what is ended there is gone."""
+    """A signal that comes within the block is heard after it: what began is then known, and what ended is gone."""
     late: List[int] = []
     is_main = threading.current_thread() is threading.main_thread()
     heard = [each for each in HEARD if is_main and signal.getsignal(each) == stop]
@@ -115,7 +115,7 @@ def fault(reason: OSError) -> Tuple[int, str]:
 
 
 def hold_streams() -> None:
-    """Has the numbers of streams that the caller closed taken, so that no file that is opened gets one; where there is /dev/null."""
+    """Takes the numbers of streams that the caller closed, so that no file gets one; where there is /dev/null."""
     with contextlib.suppress(OSError):
         while (handle := os.open(os.devnull, os.O_RDWR)) <= 2:
             pass
@@ -146,7 +146,7 @@ def told(main: Callable[[List[str]], Optional[int]], argv: List[str]) -> int:
 
 
 def ended(main: Callable[[List[str]], Optional[int]], argv: List[str]) -> int:
-    """The status of a script's main, whatever stops it: a signal, too, that comes while a message waits for who reads it."""
+    """The status of a script's main, whatever stops it: also a signal while a message waits for its reader."""
     try:
         hear()
         hold_streams()

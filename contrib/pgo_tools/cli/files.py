@@ -9,32 +9,61 @@ import os
 import shutil
 import stat
 import subprocess
-import sys
 import tempfile
 import threading
 import zlib
+from typing import IO, TYPE_CHECKING, BinaryIO, Iterable, Iterator, List, NamedTuple, Optional, Protocol, Tuple
 
 from pgo_tools.cli import READ_FAULT, REFUSED, USAGE, WRITE_FAULT, Trouble, given, undisturbed
 from pgo_tools.texts.names import text_of
 
+if TYPE_CHECKING:
+    from _typeshed import WriteableBuffer
+
 # What a file is by its first bytes.
 MAGICS = [
-    (b"\x7fELF", "program"), (b"PERFILE2", "recording"), (b"\x1f\x8b", "gz"), (b"\xfd7zXZ\0", "xz"), (b"\x28\xb5\x2f\xfd", "zst"),
-    (b"BZh", "bz2"), (b"!<arch>\n", "archive"), (b"!<thin>\n", "archive"), (b"#!", "script"), (b"PK\3\4", "zip"), (b"7z\xbc\xaf", "7z"),
-    (b"\x04\x22\x4d\x18", "lz4"), (b"\xff\xfe", "utf-16"), (b"\xfe\xff", "utf-16"),
+    (b"\x7fELF", "program"), (b"PERFILE2", "recording"), (b"\x1f\x8b", "gz"), (b"\xfd7zXZ\0", "xz"),
+    (b"\x28\xb5\x2f\xfd", "zst"), (b"BZh", "bz2"), (b"!<arch>\n", "archive"), (b"!<thin>\n", "archive"),
+    (b"#!", "script"), (b"PK\3\4", "zip"), (b"7z\xbc\xaf", "7z"), (b"\x04\x22\x4d\x18", "lz4"), (b"\xff\xfe", "utf-16"),
+    (b"\xfe\xff", "utf-16"),
 ]
 PACKED = ("gz", "xz", "zst", "bz2")
 # What no script here reads, and what helps.
 FOREIGN = {
-    "zip": "it is a zip archive: unpack it", "7z": "it is a 7z archive: unpack it", "lz4": "it is packed by lz4: unpack it",
-    "tar": "it is a tar archive: unpack it", "utf-16": "it is text of 16 bits a letter: iconv -f UTF-16 -t UTF-8",
+    "zip": "it is a zip archive: unpack it", "7z": "it is a 7z archive: unpack it",
+    "lz4": "it is packed by lz4: unpack it", "tar": "it is a tar archive: unpack it",
+    "utf-16": "it is text of 16 bits a letter: iconv -f UTF-16 -t UTF-8",
 }
 HEAD = 512
 # A profile, a block text or a repair has at most so many bytes (docs/FORMATS.md).
 MOST_TEXT = 1 << 28
 
 
-def kind_by(head):
+class Source(Protocol):
+    """A stream of bytes that is read once, and closed."""
+
+    def read(self, size: int) -> bytes:
+        """The next bytes, of at most this many; none at its end."""
+
+    def close(self) -> None:
+        """Ends the reading."""
+
+
+class Opened(NamedTuple):
+    """A file that is open, and what the system knows of it."""
+
+    file: BinaryIO
+    seen: os.stat_result
+
+
+class Created(NamedTuple):
+    """A file that was made: its number as an open one, and its name."""
+
+    handle: int
+    name: str
+
+
+def kind_by(head: bytes) -> str:
     """What a file is that begins with these bytes: a word of MAGICS, "tar", "empty", or "" for anything else."""
     if not head:
         return "empty"
@@ -43,7 +72,7 @@ def kind_by(head):
     return next((kind for magic, kind in MAGICS if head.startswith(magic)), "")
 
 
-def kind_of(path):
+def kind_of(path: str) -> str:
     """What the file at a path is; "" for what is no file or cannot be read."""
     try:
         if not os.path.isfile(path):
@@ -54,57 +83,66 @@ def kind_of(path):
         return ""
 
 
+def held(stream: Optional[IO[bytes]]) -> IO[bytes]:
+    """The stream of a program that was started with a pipe for it."""
+    assert stream is not None
+    return stream
+
+
 class Unpacker:
     """What a program such as zstd unpacks of a stream."""
 
-    def __init__(self, words, source):
+    def __init__(self, words: List[str], source: BinaryIO) -> None:
         self.source = source
         self.process = subprocess.Popen(words, stdin=subprocess.PIPE, stdout=subprocess.PIPE, stderr=subprocess.DEVNULL)
         threading.Thread(target=self.feed, daemon=True).start()
 
-    def feed(self):
+    def feed(self) -> None:
+        stdin = held(self.process.stdin)
         with contextlib.suppress(OSError, ValueError):
-            shutil.copyfileobj(self.source, self.process.stdin, 1 << 16)
+            shutil.copyfileobj(self.source, stdin, 1 << 16)
         with contextlib.suppress(OSError, ValueError):
-            self.process.stdin.close()
+            stdin.close()
 
-    def read(self, size):
-        piece = self.process.stdout.read(size)
+    def read(self, size: int) -> bytes:
+        piece = held(self.process.stdout).read(size)
         if not piece and self.process.wait():
             raise EOFError("its end is not there")
         return piece
 
-    def close(self):
+    def close(self) -> None:
         self.process.kill()
-        self.process.stdout.close()
+        held(self.process.stdout).close()
         self.process.wait()
 
 
 class Checked(io.RawIOBase):
     """A packed stream whose damage is a Trouble that names the file."""
 
-    def __init__(self, stream, path):
+    def __init__(self, stream: Source, path: str) -> None:
         super().__init__()
         self.stream, self.path = stream, path
 
-    def readable(self):
+    def readable(self) -> bool:
         return True
 
-    def readinto(self, buffer):
+    def readinto(self, buffer: "WriteableBuffer") -> int:
+        view = memoryview(buffer)
         try:
-            piece = self.stream.read(len(buffer))
+            piece = self.stream.read(len(view))
         except (EOFError, OSError, lzma.LZMAError, zlib.error) as reason:
-            raise Trouble(f"{self.path} is packed, and damaged or cut off ({reason})", READ_FAULT, "pack it again") from None
-        buffer[: len(piece)] = piece
+            what = f"{self.path} is packed, and damaged or cut off ({reason})"
+            raise Trouble(what, READ_FAULT, "pack it again") from None
+        view[: len(piece)] = piece
         return len(piece)
 
-    def close(self):
+    def close(self) -> None:
         if not self.closed:
             self.stream.close()
         super().close()
 
 
-def unpacked(file, kind, path):
+def unpacked(file: BinaryIO, kind: str, path: str) -> Source:
     """What a packed stream holds, as a stream to read and to close."""
     if kind == "gz":
         return gzip.GzipFile(fileobj=file)
@@ -118,7 +156,7 @@ def unpacked(file, kind, path):
 
 
 @contextlib.contextmanager
-def open_packed(path):
+def open_packed(path: str) -> Iterator[BinaryIO]:
     """The file or pipe at a path as a stream of bytes, unpacked where it is packed. It is read once, from its start."""
     with open(path, "rb") as file:
         kind = kind_by(file.peek(8)[:8])
@@ -129,11 +167,11 @@ def open_packed(path):
             yield stream
 
 
-def too_large(path, limit):
+def too_large(path: str, limit: int) -> Trouble:
     return Trouble(f"{path} has more than {limit} bytes", REFUSED)
 
 
-def read_packed(path, limit=MOST_TEXT):
+def read_packed(path: str, limit: int = MOST_TEXT) -> bytes:
     """The bytes of a file or pipe, or of the input for "-", unpacked, of at most so many."""
     try:
         with open_packed(path) if path != "-" else contextlib.nullcontext(given()) as file:
@@ -145,18 +183,21 @@ def read_packed(path, limit=MOST_TEXT):
     return raw
 
 
-def opened(path):
+def opened(path: str) -> Opened:
     """A file that is open, and what the system tells of it. It is one that can be read again."""
     handle = os.open(path, os.O_RDONLY | os.O_CLOEXEC | os.O_NONBLOCK)
     seen = os.fstat(handle)
     if not stat.S_ISREG(seen.st_mode):
         os.close(handle)
         raise IsADirectoryError(errno.EISDIR, "it is a folder" if stat.S_ISDIR(seen.st_mode) else "it is no file", path)
-    return os.fdopen(handle, "rb"), seen
+    return Opened(os.fdopen(handle, "rb"), seen)
 
 
-def lines_of(file, path):
-    """The lines of a stream of bytes as texts, without their line feeds, each with its number. A packed one may have no end."""
+def lines_of(file: IO[bytes], path: str) -> Iterator[Tuple[int, str]]:
+    """The lines of a stream of bytes as texts, without their line feeds, each with its number.
+
+    A packed one may have no end.
+    """
     number, left = 0, MOST_TEXT
     while line := file.readline(left + 1):
         number, left = number + 1, left - len(line)
@@ -165,8 +206,8 @@ def lines_of(file, path):
         yield number, text_of(line[:-1] if line.endswith(b"\n") else line)
 
 
-def target_of(path, inputs=()):
-    """The file that an output goes to, behind links; a Trouble where that is a folder, a device, a pipe, or an input."""
+def target_of(path: str, inputs: Iterable[str] = ()) -> str:
+    """The file that an output goes to, links followed; a Trouble for a folder, a device, a pipe, or an input."""
     if path.endswith(os.sep):
         raise Trouble(f"{path}: it is the name of a folder", WRITE_FAULT)
     place = os.path.realpath(path)
@@ -186,7 +227,7 @@ def target_of(path, inputs=()):
     return place
 
 
-def is_same(place, other):
+def is_same(place: str, other: str) -> bool:
     """Two names are of one file."""
     try:
         return os.path.samefile(place, other)
@@ -194,12 +235,12 @@ def is_same(place, other):
         return os.path.realpath(other) == place
 
 
-def created(place):
+def created(place: str) -> Created:
     """A new file beside a place, opened, with its name."""
     for number in range(1000):
         new = f"{place}.{os.getpid()}.{number}.new"
         try:
-            return os.open(new, os.O_WRONLY | os.O_CREAT | os.O_EXCL | os.O_CLOEXEC, 0o666), new
+            return Created(os.open(new, os.O_WRONLY | os.O_CREAT | os.O_EXCL | os.O_CLOEXEC, 0o666), new)
         except FileExistsError:
             continue
         except OSError as reason:
@@ -208,7 +249,7 @@ def created(place):
 
 
 @contextlib.contextmanager
-def scratch_folder(prefix, above=None):
+def scratch_folder(prefix: str, above: Optional[str] = None) -> Iterator[str]:
     """A new folder, which goes with the block; where TMPDIR says, or in another one."""
     path = None
     try:
@@ -221,8 +262,8 @@ def scratch_folder(prefix, above=None):
                 shutil.rmtree(path, ignore_errors=True)
 
 
-def keep_mode(file, place):
-    """Gives a new file the permissions of the caller's own file at this place. Another user's file does not choose ours."""
+def keep_mode(file: IO[bytes], place: str) -> None:
+    """Gives a new file the permissions of the caller's own file at a place, and not those of another user's file."""
     with contextlib.suppress(OSError):
         old = os.lstat(place)
         if stat.S_ISREG(old.st_mode) and old.st_uid == os.geteuid():
@@ -230,12 +271,12 @@ def keep_mode(file, place):
 
 
 @contextlib.contextmanager
-def put_in_place(path, inputs=(), lasting=True):
-    """A file to write bytes to, which stands at the path once the block has ended well, and else leaves nothing behind.
+def put_in_place(path: str, inputs: Iterable[str] = (), lasting: bool = True) -> Iterator[BinaryIO]:
+    """A file to write bytes to, which is at the path once the block has ended well, and else leaves nothing there.
 
-    A link is followed, and a file of the caller's that was there keeps its permissions, but no setuid, setgid or sticky bit.
-    Devices, pipes, folders and the inputs are refused. What need not outlive a loss of power is not waited for on its way to
-    the disk.
+    A link is followed, and a file of the caller's that was there keeps its permissions, but no setuid, setgid or sticky
+    bit. Devices, pipes, folders and the inputs are refused. What need not outlive a loss of power is not waited for on
+    its way to the disk.
     """
     place = target_of(path, inputs)
     new = None

@@ -1,7 +1,7 @@
 """Block texts (docs/FORMATS.md, "Block text"): functions with their blocks, and the edges between these."""
 import bisect
 import re
-from typing import NamedTuple, Optional
+from typing import IO, Iterator, List, Match, NamedTuple, Optional, Set, Tuple
 
 from pgo_tools.cli import REFUSED, Trouble
 from pgo_tools.cli.files import lines_of
@@ -36,15 +36,24 @@ class Edge(NamedTuple):
 class Function:
     """A function: its name, its blocks in order, its edges, and the number of its first line."""
 
-    def __init__(self, name, line):
+    def __init__(self, name: str, line: int) -> None:
         self.name, self.line = name, line
-        self.blocks, self.edges = [], []
-        # What stood before: pairs of edges, and addresses of blocks in order.
-        self.pairs, self.starts = set(), []
+        self.blocks: List[Block] = []
+        self.edges: List[Edge] = []
+        # The edges so far, and the addresses of the blocks so far in order.
+        self.pairs: Set[Tuple[int, int]] = set()
+        self.starts: List[Tuple[int, int]] = []
 
 
-def bound_of(words, is_block):
-    """The bound that these words spell, in front of each a space; a ValueError for others, "BadBound" in it where A is above B."""
+class Judged(NamedTuple):
+    """A bound, and the cause of a refusal or None."""
+
+    bound: Bound
+    kind: Optional[str]
+
+
+def bound_of(words: str, is_block: bool) -> Bound:
+    """The bound that these words spell, a space before each; else a ValueError, of "BadBound" where A is above B."""
     if words == " never":
         return Bound(0, 0)
     if words == " ran" and is_block:
@@ -59,13 +68,15 @@ def bound_of(words, is_block):
     return Bound(low, high)
 
 
-def refused(path, number, kind):
-    return Trouble(f"{path}: refused at {number}: {kind}", REFUSED, "a block text, as contrib/blocks prints it" if kind == "BadLine" else "")
+def refused(path: str, number: int, kind: str) -> Trouble:
+    helps = "a block text, as contrib/blocks prints it" if kind == "BadLine" else ""
+    return Trouble(f"{path}: refused at {number}: {kind}", REFUSED, helps)
 
 
-def functions(file, path="the block text"):
+def functions(file: IO[bytes], path: str = "the block text") -> Iterator[Function]:
     """Each function of a stream of bytes; a Trouble at the first bad line."""
-    function, number = None, 0
+    number = 0
+    function: Optional[Function] = None
     for number, line in lines_of(file, path):
         fields = re.split("[ \t]+", line.strip(" \t"))
         if line.startswith("#") or fields == [""]:
@@ -73,7 +84,7 @@ def functions(file, path="the block text"):
         kind = add(function, " ".join(fields), fields)
         if kind == "func":
             function = Function(fields[1], number)
-        elif kind == "end":
+        elif kind == "end" and function:
             yield function
             function = None
         elif kind:
@@ -82,8 +93,8 @@ def functions(file, path="the block text"):
         raise refused(path, number + 1, "NoEndLine")
 
 
-def add(function, line, fields):
-    """Adds a line to the open function. "func" and "end" are told back, and else the cause of a refusal or None."""
+def add(function: Optional[Function], line: str, fields: List[str]) -> Optional[str]:
+    """Adds a line to the open function. Returns "func" and "end" for these, and else the cause of a refusal or None."""
     if fields[0] == "func":
         return "func" if len(fields) == 2 and function is None else "BadLine"
     if function is None:
@@ -98,7 +109,7 @@ def add(function, line, fields):
         return str(reason) if str(reason) == "BadBound" else "BadLine"
 
 
-def add_block(function, match):
+def add_block(function: Function, match: Optional[Match[str]]) -> Optional[str]:
     if not match or function.edges:
         return "BadLine"
     number, low, high = number_of(match[1], 64), number_of(match[2], 64, 16), number_of(match[3], 64, 16)
@@ -115,7 +126,7 @@ def add_block(function, match):
     return kind
 
 
-def add_edge(function, match):
+def add_edge(function: Function, match: Optional[Match[str]]) -> Optional[str]:
     if not match:
         return "BadLine"
     tail, head = number_of(match[1], 64), number_of(match[2], 64)
@@ -131,17 +142,17 @@ def add_edge(function, match):
     return kind
 
 
-def judged_bound(words, is_block):
-    """The bound, and "BadBound" where its ends are the wrong way round: that cause comes behind all others."""
+def judged_bound(words: str, is_block: bool) -> Judged:
+    """The bound, and "BadBound" where its ends are the wrong way round: that cause comes after all others."""
     try:
-        return bound_of(words, is_block), None
+        return Judged(bound_of(words, is_block), None)
     except ValueError as reason:
         if str(reason) != "BadBound":
             raise
-        return Bound(), "BadBound"
+        return Judged(Bound(), "BadBound")
 
 
-def overlaps(function, low, high):
+def overlaps(function: Function, low: int, high: int) -> bool:
     """An earlier block of the function has one of these addresses."""
     starts = function.starts
     at = bisect.bisect_left(starts, (low, high))

@@ -1,6 +1,6 @@
 """Branch texts, as `perf script -F ip,brstack` prints them (docs/FORMATS.md, "Branch text"), and their load lines."""
 import re
-from typing import NamedTuple
+from typing import IO, Iterator, List, NamedTuple, Optional
 
 from pgo_tools.cli import REFUSED, Trouble
 from pgo_tools.texts.names import text_of
@@ -10,8 +10,9 @@ LONGEST, MOST_ENTRIES = 65536, 1024
 PIECE = 1 << 20
 RECORD = b"PERF_RECORD_"
 LOAD = re.compile(
-    rb"PERF_RECORD_MMAP2 (?:[^ \t]*[^ \t:][ \t]+)*[^ \t]*:[ \t]+\[0x([0-9a-fA-F]+)\(0x([0-9a-fA-F]+)\)[ \t]+@[ \t]+(0|0x[0-9a-fA-F]+)"
-    rb"[ \t]+((?:(?![^ \t]*\]:[ \t])[^ \t]+[ \t]+)*[^ \t]*\]):[ \t]+([^ \t]+)[ \t](.+)", re.DOTALL)
+    rb"PERF_RECORD_MMAP2 (?:[^ \t]*[^ \t:][ \t]+)*[^ \t]*:[ \t]+\[0x([0-9a-fA-F]+)\(0x([0-9a-fA-F]+)\)"
+    rb"[ \t]+@[ \t]+(0|0x[0-9a-fA-F]+)[ \t]+"
+    rb"((?:(?![^ \t]*\]:[ \t])[^ \t]+[ \t]+)*[^ \t]*\]):[ \t]+([^ \t]+)[ \t](.+)", re.DOTALL)
 BUILD = re.compile(rb"<([0-9a-fA-F]+)>\]$")
 POINTER = re.compile(rb"(?:0x)?[0-9a-fA-F]+")
 BEGINS = re.compile(rb"[ \t]*(?:0x)?[0-9a-fA-F]+[ \t]+0x[0-9a-fA-F]+/0x|[^\n]*PERF_RECORD_")
@@ -19,7 +20,7 @@ ENTRY = re.compile(rb"(0x[0-9a-fA-F]+)/(0x[0-9a-fA-F]+)(?:/.*)?", re.DOTALL)
 
 
 class Load(NamedTuple):
-    """A load line: from `start` on stand `size` bytes of the file of this name, from its offset on. `build` is its number, or ""."""
+    """A load line: at `start` are `size` bytes of a file, from its offset on. `build` is the file's number, or ""."""
 
     number: int
     start: int
@@ -29,30 +30,45 @@ class Load(NamedTuple):
     name: str
     build: str
 
-    def is_code(self):
+    def is_code(self) -> bool:
         return "x" in self.rights
+
+
+class Branch(NamedTuple):
+    """A branch that was taken."""
+
+    source: int
+    target: int
 
 
 class Sample(NamedTuple):
     """A sample: the line's number, the instruction pointer or None, and the branches, newest first."""
 
     number: int
-    pointer: int
-    branches: list
+    pointer: Optional[int]
+    branches: List[Branch]
 
 
-def load_of(number, line):
-    """The load that a line tells of, or None."""
+class Line(NamedTuple):
+    """A line of a text without its line feed, and its number."""
+
+    number: int
+    raw: bytes
+
+
+def load_of(number: int, line: bytes) -> Optional[Load]:
+    """The load of a load line; of another line None."""
     at = line.find(b"PERF_RECORD_MMAP2 ")
     match = LOAD.match(line, at) if at >= 0 and not line.startswith(b"#") else None
     if not match:
         return None
     build = BUILD.search(match[4])
-    numbers = [int(match[place], 16) for place in (1, 2, 3)]
-    return Load(number, *numbers, text_of(match[5]), text_of(match[6]), text_of(build[1]).lower() if build else "")
+    start, size, offset = (int(match[place], 16) for place in (1, 2, 3))
+    name, shown = text_of(match[6]), text_of(build[1]).lower() if build else ""
+    return Load(number, start, size, offset, text_of(match[5]), name, shown)
 
 
-def is_at(path):
+def is_at(path: str) -> bool:
     """The file at a path begins as a branch text does."""
     try:
         with open(path, "rb") as file:
@@ -61,30 +77,37 @@ def is_at(path):
         return False
 
 
-def is_sample(line):
+def is_sample(line: bytes) -> bool:
     """A line is a sample: it is not blank, and neither a comment nor a record."""
     return not line.startswith(b"#") and bool(line.strip(b" \t")) and RECORD not in line
 
 
-def lines(file):
-    """The lines of a stream of bytes without their line feeds, each with its number. Of one that is too long a piece is given,
-    which is too long as well, so that no line is held whole however long it is."""
+def lines(file: IO[bytes]) -> Iterator[Line]:
+    """The lines of a stream of bytes. Of one that is too long a piece is given, which is too long as well.
+
+    So no line is held whole however long it is.
+    """
     number, is_begun = 0, False
     while piece := file.readline(LONGEST + 2):
         number += not is_begun
         if not is_begun:
-            yield number, piece[:-1] if piece.endswith(b"\n") else piece
+            yield Line(number, piece[:-1] if piece.endswith(b"\n") else piece)
         is_begun = not piece.endswith(b"\n")
 
 
-def loads(file):
-    """The load lines of a stream of bytes, from its first line to its last. Most pieces of a text have none, and are looked at whole."""
+def loads(file: IO[bytes]) -> Iterator[Load]:
+    """The load lines of a stream of bytes, from its first line to its last.
+
+    Most pieces of a text have none, and are looked at whole.
+    """
     number = 1
     while piece := file.read(PIECE):
         piece += file.readline(LONGEST + 1)
         if RECORD in piece:
-            found = (load_of(at, line) for at, line in enumerate(piece.split(b"\n"), number) if len(line) <= LONGEST)
-            yield from filter(None, found)
+            for at, line in enumerate(piece.split(b"\n"), number):
+                load = load_of(at, line) if len(line) <= LONGEST else None
+                if load is not None:
+                    yield load
         number += piece.count(b"\n")
         while piece and not piece.endswith(b"\n"):
             # The rest of a line that is too long.
@@ -92,14 +115,14 @@ def loads(file):
             number += piece.count(b"\n")
 
 
-def samples(file, path="the branch text"):
+def samples(file: IO[bytes], path: str = "the branch text") -> Iterator[Sample]:
     """Each sample of a stream of bytes; a Trouble at the first bad line."""
     for number, line in lines(file):
         if is_sample(line):
             yield sample_of(number, line, path)
 
 
-def sample_of(number, line, path):
+def sample_of(number: int, line: bytes, path: str) -> Sample:
     if len(line) > LONGEST:
         raise Trouble(f"{path}: refused at {number}: LineTooLong", REFUSED)
     fields = re.split(rb"[ \t]+", line.strip(b" \t"))
@@ -107,10 +130,10 @@ def sample_of(number, line, path):
     if b"/" not in fields[0]:
         first = fields.pop(0)
         pointer = int(first, 16) if POINTER.fullmatch(first) else -1
-    found = [ENTRY.fullmatch(field) for field in fields]
-    if pointer is not None and not 0 <= pointer < 1 << 64 or None in found:
+    found = [match for match in map(ENTRY.fullmatch, fields) if match]
+    if pointer is not None and not 0 <= pointer < 1 << 64 or len(found) < len(fields):
         raise Trouble(f"{path}: refused at {number}: BadLine", REFUSED, remedy(text_of(line)))
-    branches = [(int(match[1], 16), int(match[2], 16)) for match in found]
+    branches = [Branch(int(match[1], 16), int(match[2], 16)) for match in found]
     if any(end >> 64 for branch in branches for end in branch):
         raise Trouble(f"{path}: refused at {number}: BadLine", REFUSED, remedy(text_of(line)))
     if len(branches) > MOST_ENTRIES:
@@ -121,15 +144,17 @@ def sample_of(number, line, path):
 # What helps with a line that is no sample, by how it looks.
 LOOKS = [(re.compile(form), said) for form, said in [
     (r"[^ ]+:[0-9]+:[0-9]+$", "it is a profile: the text that perf script -F ip,brstack prints"),
-    (r"(func [^ ]+|block [0-9]+ 0x[0-9a-f]+ 0x[0-9a-f]+.*)$", "it is a block text: the text that perf script -F ip,brstack prints"),
+    (r"(func [^ ]+|block [0-9]+ 0x[0-9a-f]+ 0x[0-9a-f]+.*)$",
+     "it is a block text: the text that perf script -F ip,brstack prints"),
     (r"(0x[0-9a-f]+(@.*)? \[0x|\. |\.$)", "perf script without -D"),
     (r".*([+][0-9a-fx]+/|\]/|\([^ ]*\)/)", "brstack without sym or dso: perf script -F ip,brstack"),
     (r" *(0x)?[0-9a-f]+ +[^0-9 ]", "no names beside the address: perf script -F ip,brstack"),
-    (r" *[^ ]*[^0-9a-fx/ ][^ ]* | *[0-9a-fx]+ +[0-9a-fx]+( |$)", "no fields in front of the address: perf script -F ip,brstack"),
+    (r" *[^ ]*[^0-9a-fx/ ][^ ]* | *[0-9a-fx]+ +[0-9a-fx]+( |$)",
+     "no fields in front of the address: perf script -F ip,brstack"),
 ]]
 
 
-def remedy(line, is_last=False):
+def remedy(line: str, is_last: bool = False) -> str:
     """What helps with a line that is refused."""
     if "\0" in line:
         return "it is no text: what perf script -F ip,brstack prints is one"

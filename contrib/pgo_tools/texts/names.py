@@ -11,7 +11,7 @@ from typing import Dict, Iterable, Match
 UNPRINTED = re.compile("[\x00-\x1f\x7f-\x9f\ud800-\udfff\u200e\u200f\u2028-\u202e\u2066-\u2069]")
 DEMANGLERS = ["llvm-cxxfilt", "c++filt"] + [f"llvm-cxxfilt-{number}" for number in range(30, 13, -1)]
 
-# What a demangler may take: a name of some hundred bytes can stand for one of terabytes. Memory, seconds, and bytes that it prints.
+# A demangler's memory, seconds, and bytes that it prints: a name of some hundred bytes can mean one of terabytes.
 DEMANGLER_LIMITS = ((resource.RLIMIT_AS, 1 << 30), (resource.RLIMIT_CPU, 20), (resource.RLIMIT_FSIZE, 1 << 28))
 
 
@@ -68,7 +68,8 @@ def answer(tool: str, text: str) -> str:
         with tempfile.TemporaryFile() as given, tempfile.TemporaryFile() as told:
             given.write(raw_of(text))
             given.seek(0)
-            ran = subprocess.run([tool], stdin=given, stdout=told, stderr=subprocess.DEVNULL, preexec_fn=within_limits, check=False)
+            ran = subprocess.run(
+                [tool], stdin=given, stdout=told, stderr=subprocess.DEVNULL, preexec_fn=within_limits, check=False)
             told.seek(0)
             return "" if ran.returncode else text_of(told.read())
     except OSError:
@@ -77,7 +78,7 @@ def answer(tool: str, text: str) -> str:
 
 
 def demangled(names: Iterable[str]) -> Dict[str, str]:
-    """Each name as its program's source has it, where a demangler is there and can tell of all, and else as it stands."""
+    """Each name as its program's source has it, where a demangler is there and knows all of them, and else as it is."""
     names = list(names)
     tool = next(filter(shutil.which, DEMANGLERS), None)
     asked = [name for name in names if name.startswith(("_Z", "__Z", "_R")) and "\n" not in name]

@@ -1,6 +1,9 @@
-"""Repairs, as `pgo build` prints them (docs/FORMATS.md, "Repair text"): counts with prices, or a cut. Other lines are passed over."""
+"""Repairs, as `pgo build` prints them (docs/FORMATS.md, "Repair text"): counts with prices, or a cut.
+
+Other lines are passed over.
+"""
 import re
-from typing import NamedTuple, Optional
+from typing import IO, Iterator, List, NamedTuple, Optional, Tuple
 
 from pgo_tools.cli import REFUSED, Trouble
 from pgo_tools.cli.files import lines_of
@@ -17,10 +20,13 @@ END = re.compile(rf"# end ({NUMBER})(?: ({NUMBER}))?")
 
 
 class Block(NamedTuple):
-    """A block: its weight (None where no sample could tell), and its count with prices; of a cut the sides that are in it."""
+    """A block: its weight (None where no sample could say), and its count with prices; of a cut its sides in it.
+
+    The field `count` takes the place of the method of tuples that nobody needs here.
+    """
 
     weight: Optional[int]
-    count: Optional[int]
+    count: Optional[int]  # type: ignore[assignment]
     enters: int
     leaves: int
 
@@ -29,43 +35,46 @@ class Edge(NamedTuple):
     tail: int
     head: int
     weight: Optional[int]
-    count: int
+    count: int  # type: ignore[assignment]
 
 
 class Repair:
     """The repair of a function: `kind` is "flow" or "cut", `end` its cost, or the two sums of the cut."""
 
-    def __init__(self, name, kind, root, line):
+    def __init__(self, name: str, kind: str, root: int, line: int) -> None:
         self.name, self.kind, self.root, self.line = name, kind, root, line
-        self.blocks, self.edges, self.end = [], [], None
+        self.blocks: List[Block] = []
+        self.edges: List[Edge] = []
+        self.end: Optional[Tuple[int, ...]] = None
 
 
-def value_of(text):
+def value_of(text: str) -> int:
     """The number that a text is; a ValueError where it has more than 128 bits."""
     return number_of(text.lstrip("-"), 128) * (-1 if text.startswith("-") else 1)
 
 
-def weight_of(text):
-    return None if text in (None, "?") else value_of(text)
+def weight_of(text: Optional[str]) -> Optional[int]:
+    return None if text is None or text == "?" else value_of(text)
 
 
-def functions(file, path="the repair"):
+def functions(file: IO[bytes], path: str = "the repair") -> Iterator[Repair]:
     """Each repair of a stream of bytes, in its order; a Trouble at the first line that is none of a repair."""
-    repair, number = None, 0
+    number = 0
+    repair: Optional[Repair] = None
     for number, line in lines_of(file, path):
         if repair is None and not line.startswith("# function "):
             continue
         shown = " ".join(re.split("[ \t]+", line.strip(" \t")))
         if repair is None:
             match = FUNCTION.fullmatch(shown)
-            repair = match and Repair(match[1], match[2] or "cut", int(match[3] or 0), number)
+            repair = Repair(match[1], match[2] or "cut", int(match[3] or 0), number) if match else None
             good = bool(match)
         else:
             try:
                 good = add(repair, shown)
             except ValueError:
                 good = False
-        if not good:
+        if repair is None or not good:
             raise Trouble(f"{path}: line {number} is none of a repair: {line.rstrip()[:60]!r}", REFUSED)
         if repair.end is not None:
             yield repair
@@ -75,15 +84,16 @@ def functions(file, path="the repair"):
         raise Trouble(f"{path}: {what}", REFUSED, "give what `pgo build` wrote, to its end")
 
 
-def add(repair, line):
+def add(repair: Repair, line: str) -> bool:
     """Adds a line to a repair; False where it is none of its kind, or not the next one."""
     is_flow = repair.kind == "flow"
     match = (FLOW_BLOCK if is_flow else CUT_BLOCK).fullmatch(line)
     if match:
         if value_of(match[1]) != len(repair.blocks) or repair.edges or len(repair.blocks) == MOST_BLOCKS:
             return False
-        told = [value_of(each) for each in match.groups()[2:]]
-        repair.blocks.append(Block(weight_of(match[2]), *(told if is_flow else [None, *told])))
+        count = value_of(match[3]) if is_flow else None
+        enters, leaves = value_of(match[3 + is_flow]), value_of(match[4 + is_flow])
+        repair.blocks.append(Block(weight_of(match[2]), count, enters, leaves))
         return True
     match = EDGE.fullmatch(line)
     if match and is_flow and len(repair.edges) < MOST_EDGES:

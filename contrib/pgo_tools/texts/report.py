@@ -1,4 +1,4 @@
-"""Reports, as they follow a profile's lines (docs/FORMATS.md, "Report"): what became of each sampled branch and range."""
+"""Reports, as they follow a profile's lines (docs/FORMATS.md, "Report"): where sampled branches and ranges went."""
 import re
 from typing import BinaryIO, Dict, List, NamedTuple
 

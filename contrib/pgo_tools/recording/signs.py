@@ -2,13 +2,17 @@
 import bisect
 import os
 import re
-from typing import NamedTuple
+from typing import Dict, Iterable, Iterator, List, NamedTuple
 
 from pgo_tools.cli import programs
 from pgo_tools.cli.files import FOREIGN, PACKED, kind_of
 from pgo_tools.elf import X86_64
 from pgo_tools.recording import found, inputs
+from pgo_tools.recording.inputs import Program, Text
+from pgo_tools.recording.part import Part
 from pgo_tools.texts import branch_text
+from pgo_tools.texts.profile_text import Node
+from pgo_tools.texts.report import Report
 from pgo_tools.texts.names import shell_word, text_of
 
 # A function's hot lines are those that make up this share of all counts; below this count the least of them is chance.
@@ -22,7 +26,8 @@ OLD_RUST = re.compile(r"_ZN.*17h[0-9a-f]{16}E(?:\..*)?")
 # Bytes that an instruction that branches begins with, behind prefixes (x86-64).
 BRANCH = re.compile(
     rb"(?:[\xf2\xf3\x26\x36\x2e\x3e\x64-\x67\x40-\x4f])*"
-    rb"(?:[\x70-\x7f]|[\xe0-\xe3\xe8\xe9\xeb]|[\xc2\xc3]|\x0f[\x80-\x8f\x05\x34]|\xcd|\xff[\x10-\x2f\x50-\x6f\x90-\xaf\xd0-\xef])")
+    rb"(?:[\x70-\x7f]|[\xe0-\xe3\xe8\xe9\xeb]|[\xc2\xc3]|\x0f[\x80-\x8f\x05\x34]|\xcd"
+    rb"|\xff[\x10-\x2f\x50-\x6f\x90-\xaf\xd0-\xef])")
 
 
 class Sign(NamedTuple):
@@ -32,85 +37,130 @@ class Sign(NamedTuple):
     helps: str
 
 
+class Aside(NamedTuple):
+    """Branches that a profile leaves out: those of no loaded file, and those that start in the program's own code."""
+
+    foreign: int
+    near: int
+
+
+class Loaded(NamedTuple):
+    """Where code was loaded: from where on, how much, and from which offset of the file."""
+
+    start: int
+    size: int
+    offset: int
+
+
+class Shift(NamedTuple):
+    """Addresses from the first up to the second, and how far an offset of the file is from each."""
+
+    start: int
+    end: int
+    to_offset: int
+
+
+class Sources(NamedTuple):
+    """Of the most frequent sources of branches how many are an instruction that branches, and how many are none."""
+
+    good: int
+    bad: int
+
+
+class Line(NamedTuple):
+    """A line of a text, and whether it is the last one."""
+
+    text: str
+    is_last: bool
+
+
 SHOW_LOADS = "perf script --show-mmap-events -F ip,brstack, which tells where files were loaded (docs/USING.md, step 2)"
 
 
-def help_to_map(program, text, first=""):
+def help_to_map(program: Program, text: Text, first: str = "") -> str:
     names = found.names_to_choose(program, text.loads())
     if not names:
         return SHOW_LOADS
     return f"{first}the name by which it was loaded, whole; {text.name} has\n{found.as_options(names)}"
 
 
-def sums_of(report, program):
+def sums_of(report: Report, program: Program) -> Aside:
     """How many branches are of no loaded file that is wanted, and how many start in the program's own code."""
-    code = program.elf.code()
+    code = program.headers().code()
     low, high = (code[0].address, code[0].address + code[0].size) if code else (0, 0)
     foreign = sum(each.times for each in report.unmapped if each.source == each.target == 0)
     near = sum(each.times for each in report.unmapped if low <= each.source < high)
-    return foreign, near
+    return Aside(foreign, near)
 
 
-def why_empty(program, text, name, report):
+def why_empty(program: Program, text: Text, name: str, report: Report) -> Sign:
     """Why a profile has no line: the first cause that holds."""
     branches, (foreign, near) = report["branches"], sums_of(report, program)
     if not branches:
         return without_branches(text)
     if not report["units read"]:
         return without_units(program, report)
-    if program.elf.is_position_independent() and is_debug_file(program):
+    if program.headers().is_position_independent() and is_debug_file(program):
         return debug_file_sign(program)
     if name and foreign == branches and any(load.name == name for load in text.loads()):
         return Sign(f"no branch is of {name}, though it was loaded",
-                    "the program itself, no debug file of it (eu-unstrip of elfutils puts the two together); in a recording of "
-                    "several programs that one's samples (perf script --comms=)")
+                    "the program itself, no debug file of it (eu-unstrip of elfutils puts the two together); "
+                    "in a recording of several programs that one's samples (perf script --comms=)")
     if name and foreign == branches:
         return Sign(f"no load line has this name: {name}", help_to_map(program, text))
-    if not name and program.elf.is_position_independent():
-        where = "no load line has its name" if found.names_to_choose(program, text.loads()) else "ran at other addresses than it says"
-        return Sign(f"{program.name} is position-independent, and {where}", help_to_map(program, text, "the binary that ran, or "))
+    if not name and program.headers().is_position_independent():
+        has_names = found.names_to_choose(program, text.loads())
+        where = "no load line has its name" if has_names else "ran at other addresses than it says"
+        return Sign(f"{program.name} is position-independent, and {where}",
+                    help_to_map(program, text, "the binary that ran, or "))
     if near:
         return Sign(f"{near} of {branches} branches are of {program.name}, but it has no functions with lines there",
                     "build with -g, without -gsplit-dwarf; the binary that ran")
     return Sign(f"none of {branches} branches is of {program.name}",
-                "the binary that ran; brstack and not brstackoff; of a recording of several programs perf script --comms= or --pid=")
+                "the binary that ran; brstack and not brstackoff; "
+                "of a recording of several programs perf script --comms= or --pid=")
 
 
-def is_debug_file(program):
-    code = program.elf.code()
+def is_debug_file(program: Program) -> bool:
+    code = program.headers().code()
     return bool(code) and not code[0].file_size
 
 
-def debug_file_sign(program):
+def debug_file_sign(program: Program) -> Sign:
     return Sign(f"{program.name} is a debug file, and has other offsets than the program that was loaded",
                 "the program itself; eu-unstrip of elfutils puts the two together")
 
 
-def without_branches(text):
+def without_branches(text: Text) -> Sign:
     if text.asked:
-        return Sign(f"{text.name} has no branches of {inputs.as_given(text.asked)}", f"perf script -i {shell_word(text.name)} -F comm,pid shows whose it has")
+        return Sign(f"{text.name} has no branches of {inputs.as_given(text.asked)}",
+                    f"perf script -i {shell_word(text.name)} -F comm,pid shows whose it has")
     if text.is_file() and not os.path.getsize(text.path):
         return Sign(f"{text.name} is empty", "what perf record or perf script said when it made it")
     return Sign(f"{text.name} has no branches", "perf record -b, then perf script -F ip,brstack")
 
 
-def without_units(program, report):
+def without_units(program: Program, report: Report) -> Sign:
     if report["units passed"]:
         return Sign(f"the debugging information of {program.name} is split, or of DWARF 2 or 3",
                     "build with -gdwarf-4 or -gdwarf-5, without -gsplit-dwarf")
     if program.debug:
+        whole, debug = shell_word(program.base_name() + ".whole"), shell_word(program.debug)
         return Sign(f"{program.name} has its debugging information in {program.debug}, and the two could not be joined",
-                    f"eu-unstrip -o {shell_word(program.base_name() + '.whole')} {shell_word(program.name)} {shell_word(program.debug)} (elfutils)")
-    if program.elf.section(".zdebug_info"):
-        return Sign(f"{program.name} has its debugging information compressed the old way", "objcopy --decompress-debug-sections")
-    if program.elf.section(".symtab"):
-        return Sign(f"{program.name} has no debugging information", "build with -g, and for clang -fdebug-info-for-profiling")
-    return Sign(f"{program.name} has no debugging information, nor symbols: it is stripped", "the program as it was before strip, built with -g")
+                    f"eu-unstrip -o {whole} {shell_word(program.name)} {debug} (elfutils)")
+    if program.headers().section(".zdebug_info"):
+        return Sign(f"{program.name} has its debugging information compressed the old way",
+                    "objcopy --decompress-debug-sections")
+    if program.headers().section(".symtab"):
+        return Sign(f"{program.name} has no debugging information",
+                    "build with -g, and for clang -fdebug-info-for-profiling")
+    return Sign(f"{program.name} has no debugging information, nor symbols: it is stripped",
+                "the program as it was before strip, built with -g")
 
 
 # Of a line that is refused, and of a file that is none.
 
-def look_at_line(text, number):
+def look_at_line(text: Text, number: int) -> str:
     """What helps with a line that is refused, and the line."""
     if not text.is_file():
         return "print the text into a file, and look at this line"
@@ -130,17 +180,17 @@ def look_at_line(text, number):
     return f"{branch_text.remedy(line, is_last)}\n  the line: {shown}"
 
 
-def line_at(path, number):
+def line_at(path: str, number: int) -> Line:
     """A line, and whether it is the last one."""
     line = b""
     with open(path, "rb") as file:
         for count, line in enumerate(file, 1):
             if count == number:
-                return text_of(line.rstrip(b"\n")), not file.readline(1)
-    return text_of(line), True
+                return Line(text_of(line.rstrip(b"\n")), not file.readline(1))
+    return Line(text_of(line), True)
 
 
-def look_at_program(program, text):
+def look_at_program(program: Program, text: Text) -> str:
     """What helps with what is no program, by what it is instead; "" where pgo's own help says it."""
     kind, name = kind_of(program.path), program.name
     if kind in PACKED or kind in FOREIGN:
@@ -149,13 +199,14 @@ def look_at_program(program, text):
         return f"the program first, then the text: {text.name} is a program, and {name} is none"
     return {
         "empty": f"{name} is empty: see what the linker said when it made it",
-        "recording": f"{name} is a recording: the program first, then what perf script -F ip,brstack prints of the recording",
+        "recording": f"{name} is a recording: the program first, "
+                     "then what perf script -F ip,brstack prints of the recording",
         "archive": f"{name} is a static library: the program that it was linked into",
         "script": f"{name} is a script: the program that it starts",
     }.get(kind, "")
 
 
-def look_at_unread(path):
+def look_at_unread(path: str) -> str:
     """What helps where a file could not be read."""
     if os.path.isdir(path):
         return "a file: this is a folder"
@@ -170,112 +221,124 @@ def look_at_unread(path):
 
 # Of profiles that have lines.
 
-def same_binary(program):
+def same_binary(program: Program) -> str:
     return f"the binary that ran: perf buildid-list and readelf -n {shell_word(program.name)} tell its number"
 
 
-def of_program(part, text):
+def of_program(part: Part, text: Text) -> Iterator[Sign]:
     """What looks wrong with the profile of a program."""
     yield from other_binary(part, text)
     yield from unfit_build(part.program, part.profile)
 
 
-def of_text(text, parts):
+def of_text(text: Text, parts: List[Part]) -> Iterator[Sign]:
     """What is wrong with the recording."""
     if not text.ends():
-        yield Sign(f"{text.name} does not end with a line feed, so it may have been cut off, and its last address with it",
+        yield Sign(f"{text.name} does not end with a line feed, so it may have been cut off, "
+                   "and its last address with it",
                    "print the text again, and see that perf ended well")
     yield from few_samples([part.profile for part in parts], parts[0].report["branches"])
 
 
-def other_binary(part, text):
-    """The binary may be another one than ran: by its build, by its branches, or by the sums where those cannot be seen."""
+def other_binary(part: Part, text: Text) -> Iterator[Sign]:
+    """The binary may be another one than ran: by its build, by its branches, or else by the sums."""
     program, same = part.program, same_binary(part.program)
     entries, crossing = part.report["entries"], part.report["ranges crossing"]
     if part.name and is_debug_file(program):
         yield debug_file_sign(program)
         return
     if part.built:
-        yield Sign(f"the build {part.built} ran, and {program.name} is {program.elf.build_id()}", same)
+        yield Sign(f"the build {part.built} ran, and {program.name} is {program.headers().build_id()}", same)
         return
-    good, bad = branching(program, text, part.name) if program.elf.machine == X86_64 and text.is_file() else (0, 0)
+    can_look = program.headers().machine == X86_64 and text.is_file()
+    good, bad = branching(program, text, part.name) if can_look else Sources(0, 0)
     ran = part.report["ranges ran"] + crossing
     if good + bad:
         if bad * 9 > good:
-            yield Sign(f"of the {good + bad} most frequent branches {bad} start where {program.name} has no branch: another binary ran", same)
+            yield Sign(f"of the {good + bad} most frequent branches {bad} start where {program.name} has no branch: "
+                       "another binary ran", same)
     elif part.profile and not entries:
         yield Sign("no branch enters a function: another binary may have run", same)
     elif crossing * 20 > ran:
-        yield Sign(f"{crossing} of {ran} stretches lead from one function into another: another binary may have run", same)
+        yield Sign(f"{crossing} of {ran} stretches lead from one function into another: "
+                   "another binary may have run", same)
 
 
-def places(program, text, name):
-    """Where the program's code was loaded: from where on, how much, and from which offset of the file."""
+def places(program: Program, text: Text, name: str) -> List[Loaded]:
+    """Where the program's code was loaded."""
     if name:
-        return [(load.start, load.size, load.offset) for load in text.loads() if load.name == name]
-    return [(each.address, each.file_size, each.offset) for each in program.elf.code()]
+        return [Loaded(load.start, load.size, load.offset) for load in text.loads() if load.name == name]
+    return [Loaded(each.address, each.file_size, each.offset) for each in program.headers().code()]
 
 
-def laid_out(pieces):
-    """The same as (start, end, shift to the offset), from low to high, of which none has an address that one before it has."""
-    rows, end = [], 0
+def laid_out(pieces: Iterable[Loaded]) -> List[Shift]:
+    """The same from low to high, of which none has an address that one before it has."""
+    end = 0
+    rows: List[Shift] = []
     for start, size, offset in sorted(pieces):
         if start + size > end:
-            rows.append((max(start, end), start + size, offset - start))
+            rows.append(Shift(max(start, end), start + size, offset - start))
             end = start + size
     return rows
 
 
-def branching(program, text, name):
-    """How many of the 50 most frequent sources of branches are an instruction of the file that branches, and how many are none."""
+def branching(program: Program, text: Text, name: str) -> Sources:
+    """The 50 most frequent sources of branches, by the file's instructions there."""
     status, told, _ = programs.call([programs.pgo(), "counts", programs.as_file(text.path)])
     if status:
-        return 0, 0
-    sums, rows = {}, laid_out(places(program, text, name))
-    starts = [row[0] for row in rows]
+        return Sources(0, 0)
+    rows = laid_out(places(program, text, name))
+    sums: Dict[int, int] = {}
+    starts = [row.start for row in rows]
     for line in told.split(b"\n"):
         fields = line.split()
         if len(fields) != 3 or fields[0] == b"#":
             continue
         at = int(fields[0], 16)
         row = bisect.bisect_right(starts, at) - 1
-        if row >= 0 and at < rows[row][1]:
-            place = at + rows[row][2]
+        if row >= 0 and at < rows[row].end:
+            place = at + rows[row].to_offset
             sums[place] = sums.get(place, 0) + int(fields[2])
     top = sorted(sums, key=lambda at: (-sums[at], -at))[:50]
-    good = sum(bool(BRANCH.match(program.elf.data[at : at + 6])) for at in top)
-    return good, len(top) - good
+    good = sum(bool(BRANCH.match(program.headers().data[at : at + 6])) for at in top)
+    return Sources(good, len(top) - good)
 
 
-def unfit_build(program, profile):
+def unfit_build(program: Program, profile: Dict[str, Node]) -> Iterator[Sign]:
     """The program was built in a way by which compilers find little of its profile."""
-    makers = program.elf.makers()
-    maker = makers[0][0] if makers else ""
+    makers = program.headers().makers()
+    maker = makers[0].maker if makers else ""
     if not found.packs(maker):
         return
     ran = [each.lines for node in profile.values() for each in node.walk()]
-    lines = [place for lines in ran for place, line in lines.items() if line.count or line.targets]
-    if len(lines) >= MANY_LINES and not any(disc for _, disc in lines) and not program.elf.has_discriminators():
+    places_run = [place for lines in ran for place, line in lines.items() if line.count or line.targets]
+    is_plain = len(places_run) >= MANY_LINES and not any(place.disc for place in places_run)
+    if is_plain and not program.headers().has_discriminators():
         option = "-Z debug-info-for-profiling (nightly)" if maker == "rustc" else "-fdebug-info-for-profiling"
-        yield Sign(f"{program.name} was built without {option.split(' (')[0]}: a build by this profile can be slower than one without",
+        yield Sign(f"{program.name} was built without {option.split(' (')[0]}: "
+                   "a build by this profile can be slower than one without",
                    f"-g {option} on the build that is sampled, and on the one that takes the profile")
     old = [name for name in profile if OLD_RUST.fullmatch(name)]
     if maker == "rustc" and len(old) * 2 > len(profile):
-        yield Sign("rustc spelled the names in its old way (_ZN..), and nightly builds, which read profiles, spell them in another (_R..)",
-                   "sample a build by the very rustc that takes the profile; else -C symbol-mangling-version=v0 on both")
+        yield Sign("rustc spelled the names in its old way (_ZN..), and nightly builds, which read profiles, "
+                   "spell them in another (_R..)",
+                   "sample a build by the very rustc that takes the profile; "
+                   "else -C symbol-mangling-version=v0 on both")
 
 
-def few_samples(profiles, branches):
+def few_samples(profiles: Iterable[Dict[str, Node]], branches: int) -> Iterator[Sign]:
     """The hot lines were met so seldom that chance has a say in them, or of so few samples all together."""
     nodes = [each for profile in profiles for node in profile.values() for each in node.walk()]
     counts = sorted((line.count for node in nodes for line in node.lines.values()), reverse=True)
-    left, least = HOT_SHARE * sum(counts), 0
+    least, left = 0, HOT_SHARE * sum(counts)
     for least in counts:
         left -= least
         if left <= 0:
             break
     if 0 < least < FEW_SAMPLES:
-        yield Sign(f"too few samples: some of the lines that make up {HOT_SHARE:.0%} of all counts were met {least} time{'s' * (least > 1)}",
+        yield Sign(f"too few samples: some of the lines that make up {HOT_SHARE:.0%} of all counts were met {least} "
+                   f"time{'s' * (least > 1)}",
                    f"{-(-FEW_SAMPLES // least)} times as many: record longer, or at a higher rate (perf record -F)")
     elif branches < FEW_BRANCHES:
-        yield Sign(f"too few samples: {branches} branches in all", "record longer, or at a higher rate (perf record -F)")
+        yield Sign(f"too few samples: {branches} branches in all",
+                   "record longer, or at a higher rate (perf record -F)")

@@ -130,7 +130,7 @@ def described(words: Words, place: str, out: str) -> Tree:
     if words.out:
         listing.check_out(here, out)
         listing.check_folder(here, out, place)
-    if choices.build in ("", parts.ANY):
+    if choices.build in ("", tree.ANY):
         builds = listing.builds_of(here)
         choices = choices._replace(tells_build=listing.most_tell(builds))
         if not choices.build:

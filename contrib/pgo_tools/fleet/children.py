@@ -52,7 +52,7 @@ def call(
 ) -> Tuple[int, str]:
     """Runs a program that ends with this process: its status and its error output as text.
 
-    It may use so many seconds of a processor (0: any time).
+    It has the caller's own environment, and may use so many seconds of a processor (0: any time).
     """
     parent = os.getpid()
 
@@ -62,8 +62,8 @@ def call(
             limit_seconds(most_seconds)
 
     with running(
-        words, end_all, env=None, stdin=subprocess.DEVNULL, stdout=stdout, stderr=subprocess.PIPE, pass_fds=pass_fds,
-        preexec_fn=prepare, start_new_session=True,
+        list(words), end_all, env=dict(os.environ), stdin=subprocess.DEVNULL, stdout=stdout, stderr=subprocess.PIPE,
+        pass_fds=pass_fds, preexec_fn=prepare, start_new_session=True,
     ) as process:
         _, said = process.communicate()
     return process.returncode, text_of(said).strip()

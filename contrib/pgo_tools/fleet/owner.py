@@ -63,7 +63,8 @@ def close(folder: str) -> None:
 
 
 def check_content(folder: str) -> None:
-    """Refuses a folder that contains a file of another user's, or one that is read and that other users may write."""
+    """Refuses a folder likewise, and one with a file of another user, or one that is read and others may write."""
+    check_folder(folder)
     for entry in list(os.scandir(folder)):
         with contextlib.suppress(FileNotFoundError):
             check(entry.path, entry.stat(follow_symlinks=False), folder, mode=bool(READ.fullmatch(entry.name)))

@@ -19,6 +19,8 @@ from pgo_tools.texts.numbers import decimal
 FORM = "merge-tree's tree 1"
 # How every description begins, of whatever version.
 START = b'{"form": "merge-tree\'s tree '
+# The choice of all builds together.
+ANY = "any"
 
 
 class File(NamedTuple):

@@ -1,13 +1,16 @@
 #!/usr/bin/env python3
-"""fleet.py PROFILES FUNCTIONS FOLDER: the profiles of so many machines that all run one made-up program, FOLDER/1.prof and so on.
+"""fleet.py PROFILES FUNCTIONS FOLDER: the profiles of so many machines that all run one made-up program.
 
-The program has FUNCTIONS functions with names as of C++. A machine has sampled 24 of 25 of them, each with four lines of
-text on average: its own, lines of it, some with targets, and inlined calls with a line or two. Totals are those of the
-lines. The same words make the same bytes.
+They are FOLDER/1.prof and so on.
+
+The program has FUNCTIONS functions with names as of C++. A machine has sampled 24 of 25 of them, each with four lines
+of text on average: its own, lines of it, some with targets, and inlined calls with a line or two. Totals are those of
+the lines. The same words make the same bytes.
 """
 import os
 import random
 import sys
+from typing import List, NamedTuple, Sequence
 
 WORDS = "arena buffer cache codec cursor digest edge frame graph hash index journal kernel lexer matrix node".split()
 
@@ -15,18 +18,28 @@ WORDS = "arena buffer cache codec cursor digest edge frame graph hash index jour
 class Function:
     """What all machines share: the name, and where its lines and calls are."""
 
-    def __init__(self, draw, number):
+    def __init__(self, draw: random.Random, number: int) -> None:
         space, kind, verb = draw.choice(WORDS), draw.choice(WORDS), draw.choice(WORDS)
         inner = f"{kind}_{number}"
-        self.name = f"_ZN{len(space)}{space}{len(inner)}{inner}{len(verb)}{verb}ERKNS_6StatusERNSt3mapINS_4NameENS_5ValueEEEm"
-        self.bodies = {(draw.randrange(200), draw.choice([0, 0, 0, 1, 2, 14])) for _ in range(draw.choice([1, 1, 2, 3]))}
+        spelled = "".join(f"{len(each)}{each}" for each in (space, inner, verb))
+        self.name = f"_ZN{spelled}ERKNS_6StatusERNSt3mapINS_4NameENS_5ValueEEEm"
+        bodies = range(draw.choice([1, 1, 2, 3]))
+        self.bodies = {(draw.randrange(200), draw.choice([0, 0, 0, 1, 2, 14])) for _ in bodies}
         self.calls = {draw.randrange(200): draw.choice([1, 1, 2]) for _ in range(draw.choice([0, 0, 0, 1, 2]))}
         self.called = draw.random() < 0.7
 
 
-def lines_of(draw, function, names):
+class Lines(NamedTuple):
+    """The lines of a function, and the sum of their counts."""
+
+    total: int
+    lines: List[str]
+
+
+def lines_of(draw: random.Random, function: Function, names: Sequence[str]) -> Lines:
     """The lines of a machine: deeper by a space than what they belong to."""
-    made, total = [], 0
+    made: List[str] = []
+    total = 0
     for offset, disc in sorted(function.bodies):
         count = int(draw.paretovariate(0.6)) % 10**9
         targets = draw.sample(names, draw.choice([1, 1, 2])) if function.called and offset % 2 else []
@@ -39,10 +52,10 @@ def lines_of(draw, function, names):
         made.append(f" {offset}: {names[offset % len(names)]}:{sum(counts)}\n")
         made += [f"  {3 * at}: {count}\n" for at, count in enumerate(counts)]
         total += sum(counts)
-    return total, made
+    return Lines(total, made)
 
 
-def profile(functions, names, machine):
+def profile(functions: Sequence[Function], names: Sequence[str], machine: int) -> str:
     """What one machine has sampled."""
     draw = random.Random(machine)
     made = []
@@ -53,7 +66,7 @@ def profile(functions, names, machine):
     return "".join(f"{name}:{-total}:{head}\n{''.join(lines)}" for total, name, head, lines in sorted(made))
 
 
-def main():
+def main() -> None:
     if sys.argv[1:2] in (["-h"], ["--help"]):
         print(__doc__.strip())
         return

@@ -8,8 +8,12 @@ PYTHON = python3
 
 bin = $(DESTDIR)$(PREFIX)/bin
 share = $(DESTDIR)$(PREFIX)/share/pgo
+doc = $(DESTDIR)$(PREFIX)/share/doc/pgo
 man = $(DESTDIR)$(PREFIX)/share/man/man1
 
+# The pages of share/doc/pgo, with their links as here.
+pages = README.md CHANGELOG.md SECURITY.md LICENSE
+more = $(wildcard docs/*.md docs/*.svg)
 # The scripts for users, all but what fills release/. In bin each has `pgo-` in front, if it has not yet.
 scripts = $(filter-out contrib/release, $(shell find contrib -maxdepth 1 -type f -perm -100 | LC_ALL=C sort))
 packages = $(shell find contrib -mindepth 2 -name '*.py' | LC_ALL=C sort)
@@ -17,7 +21,7 @@ packages = $(shell find contrib -mindepth 2 -name '*.py' | LC_ALL=C sort)
 .PHONY: all help install uninstall check demo prove
 
 all help:
-	@echo 'make install [PREFIX=$(PREFIX)] [DESTDIR=]   programs, scripts and man pages'
+	@echo 'make install [PREFIX=$(PREFIX)] [DESTDIR=]   programs, scripts, pages and man pages'
 	@echo 'make uninstall [PREFIX=$(PREFIX)] [DESTDIR=] takes them away'
 	@echo 'make check                                   the checks, in some minutes: release/, scripts, documents'
 	@echo 'make demo                                    a program before and behind its profile, with what it gains (clang, qemu-user)'
@@ -30,10 +34,12 @@ install:
 	    grep -qx "$$name $$(sha256sum <release/$$name | cut -d ' ' -f 1)" release/made || \
 	        { echo "install: release/$$name has not the sum that release/made tells" >&2; exit 1; }; \
 	done
-	$(INSTALL) -d '$(bin)' '$(share)/contrib' '$(man)'
+	$(INSTALL) -d '$(bin)' '$(share)/contrib' '$(man)' '$(doc)/docs'
 	$(INSTALL) -m 755 release/pgo release/pgo-cold '$(bin)'
 	$(INSTALL) -m 644 $(wildcard docs/*.1) '$(man)'
-	$(INSTALL) -m 644 release/made release/NOTICE LICENSE '$(share)'
+	$(INSTALL) -m 644 $(pages) '$(doc)'
+	$(INSTALL) -m 644 $(more) '$(doc)/docs'
+	$(INSTALL) -m 644 release/made release/NOTICE LICENSE bench/repair/recorder.c '$(share)'
 	$(INSTALL) -m 755 $(scripts) '$(share)/contrib'
 	for file in $(packages:contrib/%=%); do \
 	    $(INSTALL) -d "$(share)/contrib/$${file%/*}" && $(INSTALL) -m 644 "contrib/$$file" "$(share)/contrib/$$file" || exit; \
@@ -44,7 +50,7 @@ install:
 uninstall:
 	for name in $(scripts:contrib/%=%); do rm -f "$(bin)/pgo-$${name#pgo-}" || exit; done
 	rm -f '$(bin)/pgo' '$(bin)/pgo-cold' $(patsubst docs/%,'$(man)/%',$(wildcard docs/*.1))
-	rm -rf '$(share)'
+	rm -rf '$(share)' '$(doc)'
 
 # Neither rt nor git's folder nor a compiler is needed: what lacks is skipped, and told.
 check:

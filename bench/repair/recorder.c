@@ -1,12 +1,15 @@
 /* A recorder of taken branches that needs no processor that records them: a plugin for the emulator qemu-x86_64.
  *
+ * The command pgo-record builds and uses it. By hand:
+ *
  *   cc -O2 -shared -fPIC -o recorder.so recorder.c
  *   qemu-x86_64 -plugin ./recorder.so,out=TEXT,branches=499,exact=COUNTS PROGRAM WORDS..
  *
  * out=FILE takes the samples as perf script -F ip,brstack --show-mmap-events prints them: the last DEPTH taken branches
  * (depth=, 32), every N of them (branches=N, as processors sample by events) or every N instructions (instructions=N).
  * N varies by up to an eighth each way, by a fixed sequence. exact=FILE takes how often each instruction of the program
- * ran, as lines of an address of its file and a count. Sums go to the error output as a process ends by itself.
+ * ran, as lines of an address of its file and a count. Sums go to the error output as a process ends by itself, but with
+ * quiet=on.
  *
  * A load line shows where code of a file was loaded, with the build ID of the file: of the program and its dynamic
  * loader as they start, then of each mapping that the program may execute. Processes that fork share the text, as with
@@ -123,7 +126,7 @@ static pthread_key_t ending;
 static struct file text, exact;
 static struct range *shown;
 static uint64_t depth = 32, by_branches, by_instructions, beside, forks, low, high, bias, guest_base;
-static bool placed, several;
+static bool placed, several, quiet;
 
 static uint64_t drawn(struct thread *me)
 {
@@ -739,6 +742,8 @@ static void on_exit_of(qemu_plugin_id_t id, void *data)
     if (exact.path)
         tell_counts();
     pthread_mutex_unlock(&lock);
+    if (quiet)
+        return;
     fprintf(stderr, "recorder: instructions %" PRIu64 " branches %" PRIu64 " inside %" PRIu64 " samples %" PRIu64 "\n",
             instructions, branches, inside, samples);
 }
@@ -767,6 +772,8 @@ static bool take_word(const char *name, const char *value)
         by_branches = strtoull(value, NULL, 10);
     else if (!strcmp(name, "instructions"))
         by_instructions = strtoull(value, NULL, 10);
+    else if (!strcmp(name, "quiet"))
+        quiet = !strcmp(value, "on");
     else
         return false;
     return true;

@@ -74,10 +74,14 @@ class Installed(Case):
         self.assertEqual(made.read_bytes(), (TOP / "release" / "made").read_bytes())
         for name in ("LICENSE", "NOTICE"):
             self.assertTrue((made.parent / name).is_file(), name)
-        for page in ("pgo.1", "pgo-cold.1"):
+        for page in ("pgo.1", "pgo-cold.1", "pgo-record.1"):
             self.assertTrue((stage / "opt" / "pgo" / "share" / "man" / "man1" / page).is_file())
+        # Pages, with what they link to.
+        doc = stage / "opt" / "pgo" / "share" / "doc" / "pgo"
+        pages = [path.relative_to(TOP) for path in [*TOP.glob("*.md"), *TOP.glob("docs/*.md"), *TOP.glob("docs/*.svg")]]
+        self.assertEqual([str(page) for page in pages if not (doc / page).is_file()], [])
         scripts = sorted(path.name for path in bin_folder.iterdir())
-        self.assertIn("pgo-profile", scripts)
+        self.assertLessEqual({"pgo-profile", "pgo-record"}, set(scripts))
         # Each finds what it needs, and the programs, where they stand now.
         for name in scripts:
             with self.subTest(name):
@@ -89,14 +93,21 @@ class Installed(Case):
         )
         self.assertEqual(made.status, 0, made.said)
         self.assertIn(b"count_word", (self.folder / "prof").read_bytes())
+        if shutil.which("qemu-x86_64") and shutil.which("gcc"):
+            ran = run(bin_folder / "pgo-record", "-q", TOP / "demo" / "words", folder=self.folder,
+                environment={"XDG_CACHE_HOME": str(self.folder)})
+            self.assertEqual((ran.status, ran.err), (0, b""))
+            self.assertIn(b"/demo/words\n", (self.folder / "recorded.txt").read_bytes())
+        ran = run("make", "-C", TOP, "uninstall", f"DESTDIR={stage}", "PREFIX=/opt/pgo")
+        self.assertEqual((ran.status, [str(path) for path in stage.rglob("*") if not path.is_dir()]), (0, []), ran.said)
         shutil.rmtree(stage)
 
     @needs("make", "install")
     def test_a_changed_program_is_not_installed(self):
         copy = self.folder / "copy"
-        for name in ("release", "contrib", "docs"):
+        for name in ("release", "contrib", "docs", "bench"):
             shutil.copytree(TOP / name, copy / name, symlinks=True)
-        for name in ("Makefile", "LICENSE"):
+        for name in ("Makefile", "LICENSE", "README.md", "CHANGELOG.md", "SECURITY.md"):
             shutil.copy2(TOP / name, copy)
         with open(copy / "release" / "pgo-cold", "ab") as program:
             program.write(b"!")

@@ -56,7 +56,8 @@ class Using(Case):
             (self.folder / name).symlink_to(TOP / name)
 
     def sh(self, command):
-        return self.run_here("sh", "-c", f"{{ {command}\n}} 2>&1", limit=300)
+        cache = {"XDG_CACHE_HOME": str(self.folder / "cache")}
+        return self.run_here("sh", "-c", f"{{ {command}\n}} 2>&1", limit=300, environment=cache)
 
     def records_none(self, command, ran):
         """A recording of another kind of machine, or by another user: one that is made stands in for it."""
@@ -69,8 +70,9 @@ class Using(Case):
     def follow(self, page):
         for command, wanted in commands(page):
             with self.subTest(command):
-                if command.split()[0] in ("cmake", "make", "qemu-x86_64") and not shutil.which(command.split()[0]):
-                    self.skipTest(f"there is no {command.split()[0]}")
+                tool = command.split()[0].replace("./contrib/pgo-record", "qemu-x86_64")
+                if tool in ("cmake", "make", "qemu-x86_64") and not shutil.which(tool):
+                    self.skipTest(f"there is no {tool}")
                 ran = self.sh(command)
                 if self.records_none(command, ran):
                     self.skipTest(f"no branches are recorded here: {' '.join(ran.out.decode(errors='replace').split())[:90]}")

@@ -13,7 +13,7 @@ sys.dont_write_bytecode = True
 from bolt_text import samples_of
 
 sys.path.insert(0, os.path.join(os.path.dirname(os.path.realpath(__file__)), "..", "..", "contrib"))
-from pgo_tools.commands import layout as made  # noqa: E402
+from pgo_tools.blocks import layout as made  # noqa: E402
 
 
 def counts_of(path, places):

@@ -1,5 +1,4 @@
 """contrib/layout: orders of blocks beside all orders of small functions, and programs of clang 19 that are laid out and run again."""
-import argparse
 import bisect
 import collections
 import itertools
@@ -12,8 +11,7 @@ from common import BLOCKS, CONTRIB, MISSING, PGO, REFUSED, TEXT, WORDS, BAD_WORD
 from test_lined import drawn_run, functions_of
 
 sys.path.insert(0, str(CONTRIB))
-from pgo_tools.blocks import block_order  # noqa: E402
-from pgo_tools.commands import layout as maker  # noqa: E402
+from pgo_tools.blocks import block_order, layout as maker  # noqa: E402
 
 LAYOUT, MAKER, LINED = CONTRIB / "layout", CONTRIB / "blocks", CONTRIB / "lined"
 BUILD = ["clang-19", "-O2", "-w", "-no-pie", "-fuse-ld=lld", "-B/usr/lib/llvm-19/bin"]
@@ -168,9 +166,9 @@ class OfClang(Case):
 
     def test_each_count_of_an_edge_is_taken(self):
         self.repaired(self.file("program.c", PROGRAM))
-        words = argparse.Namespace(cfg=str(self.folder / "cfg"), out=str(self.folder / "out"))
+        cfg, out, program = (str(self.folder / name) for name in ("cfg", "out", "program"))
         wanted = self.wanted(self.numbers("program"))
-        self.assertEqual(maker.counts_of(words, maker.Places(str(self.folder / "program"))), wanted)
+        self.assertEqual(maker.counts_of(cfg, out, maker.Places(program)), wanted)
         self.assertGreater(sum(sum(edges.values()) for edges in wanted.values()), 50)
 
     def test_functions_of_one_name_stay_as_they_were(self):

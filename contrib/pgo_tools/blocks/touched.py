@@ -1,25 +1,30 @@
 """Which addresses of a program the samples of a branch text touch."""
 import bisect
+from typing import BinaryIO, Dict, Generic, List, NamedTuple, Optional, Set, Tuple, TypeVar
 
 from pgo_tools.cli.files import open_packed
-from pgo_tools.elf import Elf
+from pgo_tools.elf import Elf, Segment
 from pgo_tools.texts import branch_text
 
 NOWHERE = -1
 
 
-class Spans:
-    """Stretches of numbers, in order and apart from each other: where two met, the later one cut the other.
+What = TypeVar("What")
 
-    Rows (start, end, what) stand in pieces of a hundred or so, so that one that is put between others moves few of them.
-    """
+
+class Spans(Generic[What]):
+    """Ranes of numbers, in order and apart from each other: where two met, the later one cut the other.
+
+    Rows (start, end, what) stand in pieces of a hundred or so, so that one that is put between others moves few of
+    them. """
 
     MOST = 128
 
-    def __init__(self):
-        self.pieces, self.starts = [], []
+    def __init__(self) -> None:
+        self.pieces: List[List[Tuple[int, int, What]]] = []
+        self.starts: List[int] = []
 
-    def put(self, start, size, what):
+    def put(self, start: int, size: int, what: What) -> None:
         """From `start` on so many numbers are of this one now."""
         end = start + size
         if start == end:
@@ -40,7 +45,7 @@ class Spans:
         pieces = [rows[at : at + step] for at in range(0, len(rows), step)]
         self.pieces[low:high], self.starts[low:high] = pieces, [piece[0][0] for piece in pieces]
 
-    def at(self, number):
+    def at(self, number: int) -> Optional[What]:
         """What the number is of, or None."""
         k = bisect.bisect_right(self.starts, number) - 1
         if k < 0:
@@ -50,26 +55,30 @@ class Spans:
 
 
 class Places:
-    """Where addresses of a run stand in the program's file: themselves, or by the load lines of a name (docs/FORMATS.md)."""
+    """Where addresses of a run stand in the program's file: themselves, or by the load lines of a name
+    (docs/FORMATS.md)."""
 
-    def __init__(self, path, name):
-        self.name, self.loads, self.code, self.known = name, Spans(), Spans(), {}
+    def __init__(self, path: str, name: Optional[str]) -> None:
+        self.name = name
+        self.loads: Spans[branch_text.Load] = Spans()
+        self.code: Spans[Segment] = Spans()
+        self.known: Dict[int, int] = {}
         # Of segments that share bytes the first one counts.
         for part in reversed(Elf(path).code() if name is not None else []):
             self.code.put(part.offset, part.file_size, part)
 
-    def add(self, load):
+    def add(self, load: branch_text.Load) -> None:
         self.loads.put(load.start, load.size, load)
         self.known.clear()
 
-    def place(self, address):
+    def place(self, address: int) -> int:
         if self.name is None:
             return address
         if address not in self.known:
             self.known[address] = self.moved(address)
         return self.known[address]
 
-    def moved(self, address):
+    def moved(self, address: int) -> int:
         load = self.loads.at(address)
         if load is None or load.name != self.name:
             return NOWHERE
@@ -78,14 +87,23 @@ class Places:
         return offset - part.offset + part.address if part else NOWHERE
 
 
-class Touch:
-    """The addresses that the program ran through between two branches, as far as samples tell, and the ends of all branches."""
+class Ran(NamedTuple):
+    """Addresses that were run through, from the first to the last."""
 
-    def __init__(self, path, program, name):
-        ranges = set()
+    first: int
+    last: int
+
+
+class Touch:
+    """The addresses that the program ran through between two branches, as far as samples tell, and the ends of all
+    branches."""
+
+    def __init__(self, path: str, program: str, name: Optional[str]) -> None:
+        ranges: Set[Ran] = set()
         with open_packed(path) as file:
             self.read(file, path, Places(program, name), ranges)
-        self.lows, self.highs = [], []
+        self.lows: List[int] = []
+        self.highs: List[int] = []
         for low, high in sorted(ranges):
             if self.highs and low <= self.highs[-1] + 1:
                 self.highs[-1] = max(high, self.highs[-1])
@@ -94,7 +112,8 @@ class Touch:
                 self.highs.append(high)
 
     @staticmethod
-    def read(file, path, places, ranges):
+    def read(file: BinaryIO, path: str, places: Places, ranges: Set[Ran]) -> None:
+        """Notes what ran."""
         for number, line in branch_text.lines(file):
             load = branch_text.load_of(number, line)
             if load:
@@ -104,13 +123,14 @@ class Touch:
             after = None
             for source, target in branch_text.sample_of(number, line, path).branches:
                 source, target = places.place(source), places.place(target)
-                # A branch's ends are touched whatever stands between them; so is what ran from its target to the next branch.
-                ranges.update({(source, source), (target, target)})
+                # A branch's ends are touched whatever stands between them; so is what ran from its target to the next
+                # branch.
+                ranges.update({Ran(source, source), Ran(target, target)})
                 if after is not None and NOWHERE != target <= after:
-                    ranges.add((target, after))
+                    ranges.add(Ran(target, after))
                 after = source
 
-    def holds(self, low, high):
+    def holds(self, low: int, high: int) -> bool:
         """Whether one of the addresses from `low` to `high`, without it, was touched."""
         k = bisect.bisect_left(self.lows, high) - 1
         return k >= 0 and self.highs[k] >= low

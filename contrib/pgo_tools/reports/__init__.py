@@ -1,0 +1,2 @@
+"""What is read off profiles and repairs for people: the hottest functions, lines and blocks, and how much alike two
+profiles are."""

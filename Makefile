@@ -18,12 +18,13 @@ more = $(wildcard docs/*.md docs/*.svg)
 scripts = $(filter-out contrib/release, $(shell find contrib -maxdepth 1 -type f -perm -100 | LC_ALL=C sort))
 packages = $(shell find contrib -mindepth 2 -name '*.py' | LC_ALL=C sort)
 
-.PHONY: all help install uninstall check demo prove
+.PHONY: all help install uninstall check check-all demo prove
 
 all help:
 	@echo 'make install [PREFIX=$(PREFIX)] [DESTDIR=]   programs, scripts, pages and man pages'
 	@echo 'make uninstall [PREFIX=$(PREFIX)] [DESTDIR=] takes them away'
 	@echo 'make check                                   the checks, in some minutes: release/, scripts, documents'
+	@echo 'make check-all                               the same with those that take long, as the gate runs them'
 	@echo 'make demo                                    a program before and behind its profile, with what it gains (clang, qemu-user)'
 	@echo 'make prove                                   the gate: proves, builds and tests every crate by rt, in an hour or two'
 
@@ -52,9 +53,12 @@ uninstall:
 	rm -f '$(bin)/pgo' '$(bin)/pgo-cold' $(patsubst docs/%,'$(man)/%',$(wildcard docs/*.1))
 	rm -rf '$(share)' '$(doc)'
 
-# Neither rt nor git's folder nor a compiler is needed: what lacks is skipped, and told.
+# Neither rt nor git's folder nor a compiler nor pytest is needed: a check that cannot run here is skipped, and named.
 check:
 	$(PYTHON) checks/run
+
+check-all:
+	$(PYTHON) checks/run --all
 
 # It ends in some seconds.
 demo:

@@ -16,7 +16,7 @@ import sys
 import tempfile
 import time
 import unittest
-from typing import Callable, NamedTuple, Optional
+from typing import Any, Callable, Dict, Iterable, List, NamedTuple, Optional, Set, TypeVar
 
 sys.dont_write_bytecode = True
 # A shell has what it starts behind it pass signals over, and so would all that is started here, which is to be tried with them.
@@ -146,6 +146,58 @@ def terminated(*words, folder, until: Optional[Callable[[], bool]] = None, by=si
     finally:
         kill_group(started.pid)
     return Ran(started.returncode, out, err)
+
+
+Tried = TypeVar("Tried")
+# A test that takes so many seconds is long: only `checks/run --all` and the gate run it.
+LONG = 30
+
+
+def takes(seconds: int) -> Callable[[Tried], Tried]:
+    """Marks a test, or each test of a class, with the seconds that it takes on four processors: the longest are begun first."""
+
+    def marked(tried: Tried) -> Tried:
+        setattr(tried, "seconds", seconds)
+        return tried
+
+    return marked
+
+
+def seconds_of(method: object, owner: object) -> int:
+    """Returns the seconds of a test, or else of its class; 0 if neither is marked."""
+    return getattr(method, "seconds", getattr(owner, "seconds", 0))
+
+
+def on_signals(handler: Any) -> None:
+    """Sets the handler of the signals that end a run of the checks."""
+    for number in (signal.SIGINT, signal.SIGTERM, signal.SIGHUP):
+        signal.signal(number, handler)
+
+
+def interrupted(number: int, frame: object) -> None:
+    """Ends the run, once: a second signal would stop what the first one cleans up."""
+    on_signals(signal.SIG_IGN)
+    raise KeyboardInterrupt
+
+
+class Counts:
+    """The cases of a run of the checks: those that passed and failed, and the tests with a skipped case, by the reason."""
+
+    def __init__(self) -> None:
+        self.passed, self.failed = 0, 0
+        self.skipped: Dict[str, Set[str]] = {}
+
+    def add(self, test: str, passed: int, failed: int, reasons: Iterable[str]) -> None:
+        """Adds the cases of one test."""
+        self.passed, self.failed = self.passed + passed, self.failed + failed
+        for reason in reasons:
+            self.skipped.setdefault(reason, set()).add(test)
+
+    def lines(self) -> List[str]:
+        """Returns the last lines of the run: a line for each reason to skip, and the counts."""
+        skips = [f"skipped: {reason}: {', '.join(sorted(tests))}" for reason, tests in sorted(self.skipped.items())]
+        skipped = len({test for tests in self.skipped.values() for test in tests})
+        return [*skips, f"checks: {self.passed} passed, {self.failed} failed, {skipped} skipped"]
 
 
 def needs(*tools):

@@ -6,7 +6,7 @@ import os
 import shutil
 import unittest
 
-from common import BLOCKS, CONTRIB, HERE, TEXT, WORDS, Case, needs, python
+from common import BLOCKS, CONTRIB, HERE, TEXT, WORDS, Case, needs, python, takes
 
 CASES = HERE / "blocks" / "cases"
 JUDGE = HERE / "blocks" / "judge.py"
@@ -73,12 +73,15 @@ class Steps(BlockTexts):
                     self.skipTest(f"there is no {compiler_of(case, compiler)}")
                 self.follow(case, compiler, options)
 
+    @takes(60)
     def test_gcc(self):
         self.by("gcc")
 
+    @takes(60)
     def test_clang_14(self):
         self.by("clang-14" if shutil.which("clang-14") else "clang")
 
+    @takes(60)
     def test_clang_19(self):
         self.by("clang-19", ("throws.cpp", "-O2 -fbasic-block-sections=all"))
 
@@ -97,7 +100,6 @@ class Steps(BlockTexts):
                 self.step()
                 self.judge("--steps", "program", mapped, "steps")
 
-    test_gcc.takes = test_clang_14.takes = test_clang_19.takes = 60
 
 
 if __name__ == "__main__":

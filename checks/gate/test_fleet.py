@@ -6,7 +6,7 @@ import re
 import sys
 import unittest
 
-from common import CONTRIB, DONE, FAILED, TOP, Case, needs
+from common import CONTRIB, DONE, FAILED, TOP, Case, needs, takes
 import test_merge_tree
 from test_using import chapters, commands
 
@@ -163,10 +163,9 @@ esac
 """
 
 
+@takes(20)
 @needs("clang", "make", "timeout")
 class FleetPage(Case):
-    takes = 20
-
     def test_its_commands(self):
         for name in ("demo", "pgo", "pgo-cold", "contrib"):
             (self.folder / name).symlink_to(TOP / name)

@@ -4,7 +4,7 @@ import importlib.util
 import sys
 import unittest
 
-from common import BAD_WORDS, DONE, MISSING, REFUSED, TOP, Case, needs
+from common import BAD_WORDS, DONE, MISSING, REFUSED, TOP, Case, needs, takes
 
 GAIN = TOP / "bench" / "gain"
 
@@ -34,9 +34,8 @@ class Statistics(unittest.TestCase):
                 self.assertLessEqual(found.difference, found.high + 1e-9)
 
 
+@takes(15)
 class Gain(Case):
-    takes = 15
-
     def gain(self, *words):
         return self.run_here(GAIN, *words, limit=300)
 

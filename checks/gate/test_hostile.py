@@ -9,7 +9,7 @@ import shutil
 import tempfile
 import unittest
 
-from common import COLD, DONE, PGO, REFUSED, TOP, Case, needs
+from common import COLD, DONE, PGO, REFUSED, TOP, Case, needs, takes
 
 import growing
 import make
@@ -132,9 +132,7 @@ class Growth(Case):
 
 def test_of(family):
     """The test of a family; the long ones are begun first."""
-    test = lambda self: self.try_family(family)
-    test.takes = 1 if family.name in KNOWN_SLOW else 10
-    return test
+    return takes(1 if family.name in KNOWN_SLOW else 10)(lambda self: self.try_family(family))
 
 
 for family in growing.FAMILIES:

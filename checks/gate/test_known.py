@@ -1,7 +1,7 @@
 """The built programs on files of which each byte is known, and on drawn ones that second programs answer too."""
 import unittest
 
-from common import COLD, PGO, TOP, Case
+from common import COLD, PGO, TOP, Case, takes
 
 import cold
 import judged
@@ -35,15 +35,16 @@ class ColdInOnePass(Case):
 
 
 class Drawn(unittest.TestCase):
+    @takes(40)
     def test_merges_and_summaries(self):
         if judging.drawn(self, PGO, 400, merges.at_random):
             merges.kinds_at_random()
 
+    @takes(40)
     def test_checked_repairs(self):
         judging.drawn(self, PGO, 1000, judged.one)
         judged.all_at_once()
 
-    test_merges_and_summaries.takes = test_checked_repairs.takes = 40
 
 
 if __name__ == "__main__":

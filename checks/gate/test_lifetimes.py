@@ -5,7 +5,7 @@ import re
 import shutil
 import unittest
 
-from common import HERE, TOP, Case, needs, run
+from common import HERE, TOP, Case, needs, run, takes
 
 PAIRS = sorted(path.stem for path in (HERE / "must_not_compile").glob("*.good"))
 # The errors of a value that is moved or ends while a reference to it is kept.
@@ -37,6 +37,7 @@ class Lifetimes(Case):
         errors = [line for line in said.splitlines() if "error[" in line]
         self.assertTrue(errors and all(LIFETIME.search(line) for line in errors), f"it is refused for other than a lifetime: {errors[:5]}")
 
+    @takes(300)
     def test_pairs(self):
         self.assertTrue(PAIRS)
         if not (TOP / "out" / "built").is_file():
@@ -47,8 +48,6 @@ class Lifetimes(Case):
         for name in PAIRS:
             with self.subTest(name):
                 self.judge(name)
-
-    test_pairs.takes = 300
 
 
 if __name__ == "__main__":

@@ -7,7 +7,7 @@ import struct
 import sys
 import unittest
 
-from common import BLOCKS, CONTRIB, HERE, MISSING, PGO, REFUSED, TEXT, TOP, WORDS, BAD_WORDS, Case, needs, run
+from common import BLOCKS, CONTRIB, HERE, MISSING, PGO, REFUSED, TEXT, TOP, WORDS, BAD_WORDS, Case, needs, run, takes
 
 sys.path.insert(0, str(CONTRIB))
 from make import elf  # noqa: E402
@@ -200,6 +200,7 @@ class OfCompilers(Case):
             self.assertEqual((weights, counts), (ran, ran), function.name)
         self.assertGreater(sum(map(sum, wanted)), 300)
 
+    @takes(20)
     def test_counts_of_drawn_ways_are_found_again(self):
         found = [it for it in COMPILERS if shutil.which(it)]
         if not found:
@@ -209,7 +210,6 @@ class OfCompilers(Case):
                 with self.subTest(compiler=compiler, flags=flags):
                     self.agrees(*flags, compiler=compiler)
 
-    test_counts_of_drawn_ways_are_found_again.takes = 20
 
     @needs("gcc", "strip")
     def test_a_stripped_program_has_them_too(self):

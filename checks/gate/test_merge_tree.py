@@ -10,7 +10,7 @@ import time
 import unittest
 
 from common import CONTRIB, DONE, FAILED, BAD_WORDS, MISSING, NO_MEMORY, PGO, HERE, READ_FAULT, REFUSED, TOP, WRITE_FAULT, Case, needs, needs_file
-from common import on_closed_output, python, run, terminated
+from common import on_closed_output, python, run, takes, terminated
 
 TREE = CONTRIB / "merge-tree"
 # By this a process takes what the script calls, to change something of it first.
@@ -92,10 +92,9 @@ class Tree(Case):
             self.expect(self.merge(f"--part={part}", "tree"), DONE)
 
 
+@takes(20)
 class Sums(Tree):
     """Whichever tree, the bytes are the same."""
-
-    takes = 20
 
     def test_a_thousand(self):
         ran = python(FLEET, "1000", "12", "fleet", folder=self.folder)
@@ -875,10 +874,9 @@ class InTheWay(Tree):
         self.tells(self.merge("--run", "out.tree", limit=20), READ_FAULT, "out.tree/tree: it is no file")
 
 
+@takes(20)
 class Ended(Tree):
     """Ended by any signal nothing runs on, and what is done stays."""
-
-    takes = 20
 
     # Some merges are made, the others wait for ever.
     WAITS = "[ \"$(wc -l <\"${0%/fake/pgo}/calls\")\" -le 3 ] || exec sleep 600"

@@ -3,7 +3,7 @@ import os
 import sys
 import unittest
 
-from common import BAD_WORDS, COLD, DONE, FAILED, MISSING, PGO, TOP, WRITE_FAULT, Case
+from common import BAD_WORDS, COLD, DONE, FAILED, MISSING, PGO, TOP, WRITE_FAULT, Case, takes
 
 PEERS = TOP / "bench" / "peers"
 NO_PROGRAM = 127
@@ -20,9 +20,8 @@ def rows_of(table):
     return {cells[0].strip(): [cell.strip() for cell in cells[1:]] for cells in lines}
 
 
+@takes(10)
 class Peers(Case):
-    takes = 10
-
     def setUp(self):
         super().setUp()
         self.programs("before", f'exec {PGO} "$@"', f'exec {COLD} "$@"')

@@ -11,7 +11,7 @@ import unittest
 
 from common import (
     BAD_WORDS, BLOCKS, DONE, HERE, MISSING, NO_MEMORY, PGO, READ_FAULT, REFUSED, TEXT, TOP, USAGE, WORDS, WRITE_FAULT, Case, into_closed_pipe,
-    needs, needs_file, on_closed_output, python, within,
+    needs, needs_file, on_closed_output, python, takes, within,
 )
 
 import make
@@ -123,6 +123,7 @@ class Counts(Program):
         )
         self.piped("a pipe without end whose first line is bad", "yes zz | program", REFUSED, "", "refused: file 1 at 1: BadLine\n")
 
+    @takes(20)
     def test_a_gigabyte_in_little_memory(self):
         line = "401036  0x401038/0x401036/P/-/-/1//-  0x40100c/0x401020/P/-/-/1"
         self.piped(
@@ -136,7 +137,6 @@ class Counts(Program):
             "refused: file 1 at 2: LineTooLong\n",
         )
 
-    test_a_gigabyte_in_little_memory.takes = 20
 
 
 class Words(Program):

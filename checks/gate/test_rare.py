@@ -4,7 +4,7 @@ import shutil
 import sys
 import unittest
 
-from common import CONTRIB, MISSING, PGO, REFUSED, BAD_WORDS, Case, run
+from common import CONTRIB, MISSING, PGO, REFUSED, BAD_WORDS, Case, run, takes
 
 sys.path.insert(0, str(CONTRIB))
 from pgo_tools.blocks import rare  # noqa: E402
@@ -109,6 +109,7 @@ class Programs(Case):
     def function(text, part):
         return next(it for it in text.split("\nend\n") if any(line.startswith("func ") and part in line for line in it.splitlines()))
 
+    @takes(20)
     def test_pads_and_ways_to_abort_are_told(self):
         found = [it for it in ("g++", "clang++-14", "clang++-19") if shutil.which(it)]
         if not found:
@@ -123,7 +124,6 @@ class Programs(Case):
                 self.assertEqual(barred.replace(" never\n", "\n"), plain)
                 self.no_cut_comes_of_it(plain, barred)
 
-    test_pads_and_ways_to_abort_are_told.takes = 20
 
     def no_cut_comes_of_it(self, plain, barred):
         """Each function is called once, so that it has to have a way out."""

@@ -489,6 +489,18 @@ class Names(Profiles):
         self.judge(2, "--also=.* is .* once more, and would count twice", "--map=/srv/app/words", f"--also={WORDS}", WORDS, fixed)
         self.judge(0, "no branch is of /srv/app/program, though", "--map=/srv/app/program", "--map=/srv/old/program", "--also=program", program, two)
 
+    @needs("objdump", "cc", "objcopy")
+    def test_a_debug_file(self):
+        """A debug file lies at other offsets than the program that was loaded, so its profile would be of wrong lines."""
+        program, line, text = self.independent()
+        self.run_here("objcopy", "--only-keep-debug", program, "program.debug")
+        self.file("loaded", line % ("08:02 5 0", "/srv/app/program") + text)
+        self.file("kept", "old:1:1\n")
+        for words in (["--map=/srv/app/program", "program.debug"], ["--map=/srv/app/program", "--other-build", "program.debug"]):
+            with self.subTest(words):
+                self.tells(self.run_here(SCRIPT, *words, "loaded", "kept"), 1, "kept stays as it was: .*(is a debug file|though it was loaded).*eu-unstrip")
+        self.assertEqual((self.folder / "kept").read_text(), "old:1:1\n")
+
     @needs("objdump", "cc")
     def test_found(self):
         program, line, text = self.independent()
@@ -542,8 +554,31 @@ class Builds(Profiles):
     @needs("cc")
     def test_branches(self):
         self.build("program", "-O1", "-g", "-no-pie")
-        self.judge(0, "start where program has no branch.*the binary that ran", "program", TEXT)
-        self.judge(0, "start where program has no branch.*the binary that ran", "program", "/dev/stdin", given=TEXT.read_bytes())
+        strange = "start where program has no branch.*the binary that ran"
+        self.judge(1, f"was not made: .*{strange}.*or --other-build", "program", TEXT)
+        self.judge(1, f"was not made: .*{strange}.*or --other-build", "program", "/dev/stdin", given=TEXT.read_bytes())
+        self.judge(0, f"made/prof again: .*{strange}", "--other-build", "program", TEXT)
+        self.file("kept", "old:1:1\n")
+        self.tells(self.run_here(SCRIPT, "program", TEXT, "kept"), 1, "kept stays as it was: of the .* start where program has no branch")
+        self.assertEqual((self.folder / "kept").read_text(), "old:1:1\n")
+
+    @needs("cc", "readelf")
+    def test_the_build_id_decides(self):
+        """Branches that start where a program has none are nothing to go by, if the load lines have the build ID of this very program."""
+        program = self.build("program", "-O1", "-g", "-no-pie", "-Wl,--build-id")
+        number = re.search(r"Build ID: ([0-9a-f]+)", self.run_here("readelf", "-n", program).out.decode())[1]
+        self.judge(0, "", program, self.file("loaded", load_line("/srv/program", number) + TEXT.read_text()).name)
+        two = load_line("/srv/program", number) + load_line("/srv/program", "0123")
+        self.judge(1, "was not made: the build 0123 ran", program, self.file("loaded", two + TEXT.read_text()).name)
+
+    @needs("cc")
+    def test_a_kernel(self):
+        """A kernel changes its code while it runs, so strange branches are a warning."""
+        source = self.file("kernel.c", "volatile int sum;\nint work(int n) { while (n) sum += n--; return sum; }\nvoid _start(void) { work(3); }\n")
+        high = ["-mcmodel=kernel", "-fno-pic", "-nostdlib", "-static", "-Wl,-Ttext=0xffffffff81001000"]
+        self.build("vmlinux", "-O1", "-g", "-no-pie", *high, source=source)
+        branches = "".join(f"0xffffffff810010{at:02x}/0xffffffff81001000 " for at in range(16)) + "\n"
+        self.judge(0, "[0-9][0-9] most frequent branches .* start where vmlinux has no branch", "vmlinux", self.file("text", branches * 50).name)
 
 
 class Information(Profiles):
@@ -566,7 +601,7 @@ class Information(Profiles):
     @needs("cc", "objcopy")
     def test_packed(self):
         self.set_up("-gz")
-        self.judge(0, "start where program has no branch", "program", TEXT)
+        self.judge(0, "start where program has no branch", "--other-build", "program", TEXT)
 
     @needs("objcopy", "eu-unstrip")
     def test_a_debug_file(self):
@@ -649,7 +684,7 @@ class Several(Profiles):
     @needs("objdump", "cc")
     def test_two(self):
         self.build("program", "-O1", "-g", "-no-pie")
-        ran = self.make("--also=program", WORDS, TEXT)
+        ran = self.make("--other-build", "--also=program", WORDS, TEXT)
         self.assertEqual(ran.status, 0)
         self.assertRegex(ran.out.decode(), r"85% of 4768 branches are of .*words, [0-9]+% of program\n")
         self.assertRegex(self.made, r"\n# also build [0-9a-f]+\n# build [0-9a-f]+\n\Z")
@@ -707,7 +742,7 @@ class Shares(Profiles):
     @needs("gcc")
     def test_gcc_with_base(self):
         self.build("program", "-O1", "-g", "-no-pie", cc="gcc")
-        self.judge(0, "gcc made program, and --base is for binaries of clang and rustc.*without --base", "--base", "program", TEXT)
+        self.judge(0, "gcc made program, and --base is for binaries of clang and rustc.*without --base", "--other-build", "--base", "program", TEXT)
 
 
 if __name__ == "__main__":

@@ -3,8 +3,8 @@ has lines: of several programs by `pgo profile`, a merge, and `pgo-cold` after i
 another binary had run, the sums of the report say why, and so what helps.
 
 Who made the program is found in its debugging information, and by which name it was loaded in the load lines. Nor is a
-profile put in place where these have the number of another build, unless --other-build is given. docs/USING.md shows it
-in use.
+profile put in place where another build ran, by the build IDs in these or by where branches start, unless --other-build
+is given. docs/USING.md shows it in use.
 
 It needs `pgo`: where the variable PGO says, beside this script, in the folder above, or on the PATH; and `pgo-cold`
 beside it.
@@ -24,8 +24,7 @@ from pgo_tools.cli import FAILED, NO_MEMORY, USAGE, WRITE_FAULT, Trouble
 from pgo_tools.elf import Elf
 from pgo_tools.recording import found, inputs, signs
 from pgo_tools.recording.inputs import Program, Text
-from pgo_tools.recording.part import Part
-from pgo_tools.recording.signs import Sign
+from pgo_tools.recording.part import Part, Sign
 from pgo_tools.texts import branch_text, profile_text, report
 from pgo_tools.texts.branch_text import Load
 from pgo_tools.texts.names import shell_word
@@ -128,7 +127,8 @@ written out first, in the folder for temporary files (TMPDIR).""")
         help="of the recording perf.data the samples of threads of this name, as perf script -F comm shows it; "
              "--pid= has all threads")
     add("--other-build", action="store_true",
-        help="PROFILE is made, with a warning, even where load lines have the number of another build than BIN")
+        help="PROFILE is made, with a warning, even where another build than BIN ran, "
+             "by the numbers of the builds or by where branches start")
     add("files", metavar="BIN PERF PROFILE", nargs="*", help=argparse.SUPPRESS)
     at = judge_words(argv)
     taken = parser.parse_args(argv[:at] + ["--"] + argv[at:][argv[at : at + 1] == ["--"] :])
@@ -248,6 +248,7 @@ def part_of(program: Program, loads: List[Load], words: Words, name: str) -> Par
     # A program at fixed addresses needs no name, but load lines can have the number of its build.
     names = [name] if name else found.loaded_names(program, loads)
     part.built = found.other_build(program, loads, names[0]) if len(names) == 1 else ""
+    part.is_known = found.is_known_build(program, loads, names)
     return part
 
 
@@ -295,10 +296,15 @@ def judge(parts: List[Part], text: Text, words: Words) -> List[Sign]:
     if len(empty) == len(parts):
         raise Trouble(empty[0].what, FAILED, empty[0].helps)
     for part in parts:
-        if part.built and not words.other_build:
-            number, name = part.program.headers().build_id(), part.program.name
-            raise Trouble(f"the build {part.built} ran, and {name} is {number}", FAILED,
-                          f"{signs.same_binary(part.program)}; or --other-build, which makes the profile all the same")
+        if part.name and part.profile and signs.is_debug_file(part.program):
+            sign = signs.debug_file_sign(part.program)
+            raise Trouble(sign.what, FAILED, sign.helps)
+        signs.judge_binary(part, text)
+        may_stay = part.branches < signs.FEW_SOURCES or signs.is_kernel(part.program)
+        may_differ = words.other_build or not part.built and may_stay
+        if part.other and not may_differ:
+            helps = f"{part.other.helps}; or --other-build, which makes the profile all the same"
+            raise Trouble(part.other.what, FAILED, helps)
     return empty
 
 
@@ -366,9 +372,9 @@ def makers_sign(part: Part, words: Words) -> Iterator[Sign]:
 
 
 def how_to_build(out: str, part: Part) -> str:
-    """The options of the build that takes the profile."""
+    """The options of the build that takes the profile. Its path is whole: CMake builds in a folder of its own."""
     makers = part.program.headers().makers()
-    maker, profile = makers[0].maker if makers else "clang", shell_word(out)
+    maker, profile = makers[0].maker if makers else "clang", shell_word(os.path.abspath(out))
     rest = "and the options of the sampled build"
     if maker == "rustc":
         use = f"-g -Z debug-info-for-profiling -Z profile-sample-use={profile}"
@@ -410,7 +416,7 @@ def profile(words: Words, folder: str) -> Done:
         seen.append(Sign(f"there is no pgo-cold beside {programs.pgo()}", helps))
     write(out, parts, made)
     for part in parts:
-        seen += signs.of_program(part, text)
+        seen += signs.of_program(part)
         seen += makers_sign(part, words)
     return Done(seen + list(signs.of_text(text, parts)), list(about(out, parts, made)))
 

@@ -91,6 +91,13 @@ def other_build(program: "Program", loads: Iterable[Load], name: str) -> str:
     return next((build for build in builds if not is_same_build(build, number)), "")
 
 
+def is_known_build(program: "Program", loads: Iterable[Load], names: List[str]) -> bool:
+    """Load lines with these names have the build ID of the program, and no other one."""
+    number = program.headers().build_id()
+    builds = {load.build for load in loads if load.name in names and load.build}
+    return bool(number and builds) and all(is_same_build(build, number) for build in builds)
+
+
 def is_same_build(build: str, number: str) -> bool:
     """Two numbers are one. perf fills short ones up with zeros to 20 bytes."""
     return bool(build) and build.ljust(40, "0") == number.ljust(40, "0")

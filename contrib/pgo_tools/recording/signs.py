@@ -9,7 +9,7 @@ from pgo_tools.cli.files import FOREIGN, PACKED, kind_of
 from pgo_tools.elf import X86_64
 from pgo_tools.recording import found, inputs
 from pgo_tools.recording.inputs import Program, Text
-from pgo_tools.recording.part import Part
+from pgo_tools.recording.part import Part, Sign
 from pgo_tools.texts import branch_text
 from pgo_tools.texts.profile_text import Node
 from pgo_tools.texts.report import Report
@@ -19,6 +19,8 @@ from pgo_tools.texts.names import shell_word, text_of
 HOT_SHARE, FEW_SAMPLES = 0.9, 10
 # Fewer branches are of ten samples or so, and those of one sample hang together.
 FEW_BRANCHES = 320
+# Where fewer branches than these start says too little to refuse a profile.
+FEW_SOURCES = 10
 # So many lines without a discriminator are no chance.
 MANY_LINES = 20
 # Names as rustc's old mangling has them.
@@ -28,13 +30,6 @@ BRANCH = re.compile(
     rb"(?:[\xf2\xf3\x26\x36\x2e\x3e\x64-\x67\x40-\x4f])*"
     rb"(?:[\x70-\x7f]|[\xe0-\xe3\xe8\xe9\xeb]|[\xc2\xc3]|\x0f[\x80-\x8f\x05\x34]|\xcd"
     rb"|\xff[\x10-\x2f\x50-\x6f\x90-\xaf\xd0-\xef])")
-
-
-class Sign(NamedTuple):
-    """What is wrong, and what helps."""
-
-    what: str
-    helps: str
 
 
 class Aside(NamedTuple):
@@ -225,9 +220,9 @@ def same_binary(program: Program) -> str:
     return f"the binary that ran: perf buildid-list and readelf -n {shell_word(program.name)} tell its number"
 
 
-def of_program(part: Part, text: Text) -> Iterator[Sign]:
+def of_program(part: Part) -> Iterator[Sign]:
     """What looks wrong with the profile of a program."""
-    yield from other_binary(part, text)
+    yield from other_binary(part)
     yield from unfit_build(part.program, part.profile)
 
 
@@ -240,23 +235,34 @@ def of_text(text: Text, parts: List[Part]) -> Iterator[Sign]:
     yield from few_samples([part.profile for part in parts], parts[0].report["branches"])
 
 
-def other_binary(part: Part, text: Text) -> Iterator[Sign]:
-    """The binary may be another one than ran: by its build, by its branches, or else by the sums."""
+def is_kernel(program: Program) -> bool:
+    """Its code is in the upper half of the addresses. A kernel changes its code while it runs."""
+    code = program.headers().code()
+    return bool(code) and code[0].address >= 1 << 63
+
+
+def judge_binary(part: Part, text: Text) -> None:
+    """Finds out whether another binary ran: by the build IDs alone where both sides have one, else by its branches."""
     program, same = part.program, same_binary(part.program)
-    entries, crossing = part.report["entries"], part.report["ranges crossing"]
-    if part.name and is_debug_file(program):
-        yield debug_file_sign(program)
-        return
     if part.built:
-        yield Sign(f"the build {part.built} ran, and {program.name} is {program.headers().build_id()}", same)
-        return
-    can_look = program.headers().machine == X86_64 and text.is_file()
-    good, bad = branching(program, text, part.name) if can_look else Sources(0, 0)
+        part.other = Sign(f"the build {part.built} ran, and {program.name} is {program.headers().build_id()}", same)
+    elif not part.is_known and program.headers().machine == X86_64 and text.is_file():
+        good, bad = branching(program, text, part.name)
+        part.branches, part.is_known = good + bad, good + bad > 0 and bad * 9 <= good
+        if good + bad and not part.is_known:
+            what = f"of the {good + bad} most frequent branches {bad} start where {program.name} has no branch"
+            part.other = Sign(f"{what}: another binary ran", same)
+
+
+def other_binary(part: Part) -> Iterator[Sign]:
+    """The binary may be another one than ran: by what `judge_binary` found, or else by the sums."""
+    same = same_binary(part.program)
+    entries, crossing = part.report["entries"], part.report["ranges crossing"]
     ran = part.report["ranges ran"] + crossing
-    if good + bad:
-        if bad * 9 > good:
-            yield Sign(f"of the {good + bad} most frequent branches {bad} start where {program.name} has no branch: "
-                       "another binary ran", same)
+    if part.other:
+        yield part.other
+    elif part.is_known:
+        return
     elif part.profile and not entries:
         yield Sign("no branch enters a function: another binary may have run", same)
     elif crossing * 20 > ran:

@@ -11,7 +11,7 @@ from collections import Counter
 from types import SimpleNamespace
 
 from common import (BAD_WORDS, BLOCKS, CONTRIB, DONE, FAILED, MISSING, REFUSED, WORDS, WRITE_FAULT, Case, into_closed_pipe, needs, needs_file,
-                    on_closed_output, run)
+                    on_closed_output, run, within)
 
 sys.path.insert(0, str(CONTRIB))
 from pgo_tools.blocks.block_map import BLOCK_MAP, BlockMap  # noqa: E402
@@ -340,6 +340,19 @@ class Overlaps(Case):
                 once, twice = (named_again(raw, kind, times) for times in (1, 2))
                 self.tells(run(SCRIPT, self.file("once", once)), REFUSED, "no code")
                 self.tells(run(SCRIPT, self.file("twice", twice)), REFUSED, "twice is damaged or cut off: its tables overlap")
+
+
+    def test_code_that_several_headers_name(self):
+        """objdump would print it once for each of them: 55 KB took 4 s and 108 MB, and twice the headers twice that."""
+        raw = WORDS.read_bytes()
+        table, = struct.unpack_from("<Q", raw, 40)
+        count, = struct.unpack_from("<H", raw, 60)
+        rows = [raw[table + 64 * k : table + 64 * k + 64] for k in range(count)]
+        text = max((row for row in rows if row[8] & 4), key=lambda row: struct.unpack_from("<Q", row, 32))
+        rows += [text] * 500
+        many = raw[:40] + struct.pack("<Q", len(raw)) + raw[48:60] + struct.pack("<H", len(rows)) + raw[62:] + b"".join(rows)
+        ran = run(*within("ulimit -v 1000000", SCRIPT, "--code", self.file("many", many)), limit=20)
+        self.tells(ran, REFUSED, "the program is damaged: its sections of code overlap at 0x")
 
 
 def named_again(raw, kind, times):

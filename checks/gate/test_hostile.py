@@ -3,16 +3,26 @@ within the bounds of growing.py.
 
 The families of make.py are tried in small here, and those of growing.py at two sizes; checks/by_hand/hostile times both at full size.
 """
+import contextlib
+import os
 import pathlib
 import re
 import shutil
+import struct
+import sys
 import tempfile
+import time
 import unittest
+from unittest import mock
 
-from common import COLD, DONE, PGO, REFUSED, TOP, Case, needs, takes
+from common import COLD, CONTRIB, DONE, PGO, REFUSED, TOP, Case, needs, takes
 
 import growing
 import make
+
+sys.path.insert(0, str(CONTRIB))
+from pgo_tools.cli import Trouble, limits, programs  # noqa: E402
+from pgo_tools.draw.source import places  # noqa: E402
 
 SIZES = (1, 2, 7, 40)
 # In how many tests the families are tried, side by side.
@@ -84,6 +94,56 @@ class Farm(Case):
         self.assertEqual((self.folder / "told").read_bytes(), self.run_here(PGO, "where", "good", "401014").out)
         self.tells(self.run_here("sh", script, "other", PGO, "where", "bad", "401014"), REFUSED, "^other: status 4: refused: file 1 at 0: ")
         self.assertEqual([name for name in self.names() if name.startswith("other")], ["other.said"])
+
+
+class Tools(Case):
+    """Tools of the system that a script calls for a stranger's program end within limits, and no more of their output is held."""
+
+    def limited(self, *words, seconds=60, memory=1 << 30, printed=1 << 24):
+        """The lines that a tool prints, and how it ended."""
+        with limits.limited(list(words), limits.Limits(seconds, memory, printed)) as said:
+            held = list(said.lines())
+        return held, said.status
+
+    def test_lines_come_whole_but_for_those_that_are_too_long(self):
+        long = b"x" * (limits.LONGEST - 1)
+        name = self.file("lines", b"a\n\n" + long + b"\n" + long + b"x\nb\n" + 3 * long + b"\nc")
+        self.assertEqual(self.limited("cat", str(name)), ([b"a", b"", long, b"b", b"c"], 0))
+
+    def test_a_tool_that_never_ends(self):
+        begun = time.monotonic()
+        with self.assertRaisesRegex(Trouble, "sleep takes more than 1 seconds for this file"):
+            self.limited("sleep", "100", seconds=1)
+        self.assertLess(time.monotonic() - begun, 20)
+
+    def test_a_tool_that_prints_without_end(self):
+        with self.assertRaisesRegex(Trouble, "yes prints too much of this file"):
+            self.limited("yes")
+
+    def test_a_tool_that_takes_memory_without_end(self):
+        told, status = self.limited(sys.executable, "-c", "x = []\nwhile True: x.append(bytes(1 << 24))")
+        self.assertEqual((told, status > 0), ([], True))
+
+    @needs("clang", "llvm-symbolizer")
+    def test_what_a_program_names_as_its_dwo(self):
+        """A pipe that nobody writes to, and a file without end, in the place of a part of the debugging information."""
+        source = self.file("a.c", "int main(int n, char **v) { return n * 3; }\n")
+        self.expect(self.run_here("clang", "-g", "-gsplit-dwarf", "-no-pie", "-o", "program", source.name), DONE)
+        dwo, = self.folder.glob("*.dwo")
+        entry, = struct.unpack_from("<Q", (self.folder / "program").read_bytes(), 24)
+        for made in (os.mkfifo, lambda path: os.symlink("/dev/zero", path)):
+            dwo.unlink()
+            made(dwo)
+            with mock.patch.multiple(limits, SECONDS=3, MEMORY=1 << 29), contextlib.suppress(Trouble):
+                begun = time.monotonic()
+                places(str(self.folder / "program"), [entry])
+            self.assertLess(time.monotonic() - begun, 30)
+
+    @needs("printenv")
+    def test_no_tool_asks_a_server(self):
+        with mock.patch.dict(os.environ, DEBUGINFOD_URLS="https://example.com"):
+            self.assertEqual(self.limited("printenv", "DEBUGINFOD_URLS"), ([b""], 0))
+            self.assertEqual(programs.answer("printenv", "DEBUGINFOD_URLS"), "\n")
 
 
 # The families of growing.py that are known to be slow, with what is known; docs/LIMITS.md has their figures. These are tried in small

@@ -68,7 +68,7 @@ class Code:
     def read_all(self, path: str) -> None:
         held = -1
         texts: List[bytes] = []
-        for address, text in printed(path):
+        for address, text in printed(self.program, path):
             k = self.functions.holding(address)
             if k != held:
                 self.keep(held, texts)

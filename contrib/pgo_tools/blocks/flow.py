@@ -1,13 +1,12 @@
 """The flow of functions, as objdump prints it: the instructions that do not simply go on at the next."""
 import re
-import subprocess
-import tempfile
-from typing import IO, Dict, Iterator, List, NamedTuple, Optional
+from typing import Dict, Iterator, List, NamedTuple, Optional
 
-from pgo_tools.blocks.program import Functions, Program, Refused
+from pgo_tools.blocks.program import EXECUTE, Functions, Program, Refused
 from pgo_tools.cli import NO_PROGRAM, Trouble
-from pgo_tools.cli.programs import as_file, running
-from pgo_tools.texts.names import text_of
+from pgo_tools.cli.limits import Output, limited, limits_for
+from pgo_tools.cli.programs import as_file
+from pgo_tools.elf import COMPRESSED, NOBITS
 
 # What is called and never comes back. Functions of the program itself are found out, these are those of libraries.
 NO_RETURN = frozenset("""
@@ -55,26 +54,32 @@ class Piece(NamedTuple):
     text: bytes
 
 
-def printed(path: str) -> Iterator[Piece]:
-    """What objdump prints of the program's code, in pieces that each begin at a symbol."""
+def judge_code(program: Program) -> None:
+    """Refuses sections of code that share addresses, or have more bytes than the file: objdump prints each of them."""
+    code = [it for it in program.sections if it.flags & EXECUTE and it.kind not in (0, NOBITS) and it.size]
+    end = 0
+    for section in sorted(code, key=lambda it: (it.address, it.size)):
+        if section.address < end:
+            raise Refused(f"the program is damaged: its sections of code overlap at {section.address:#x}")
+        end = section.address + section.size
+    if sum(it.size for it in code) > len(program.data) or any(it.flags & COMPRESSED for it in code):
+        raise Refused("the program is damaged: its sections of code have more bytes than the file")
+
+
+def printed(program: Program, path: str) -> Iterator[Piece]:
+    """What objdump prints of the program's code, each address once, in pieces that each begin at a symbol."""
+    judge_code(program)
     words = ["objdump", "-d", "-w", "--no-show-raw-insn", "--", as_file(path)]
-    with tempfile.TemporaryFile() as said:
-        try:
-            with running(words, stdin=subprocess.DEVNULL, stdout=subprocess.PIPE, stderr=said) as run:
-                if run.stdout is not None:
-                    yield from pieces(run.stdout)
-        except FileNotFoundError:
-            raise Trouble("there is no objdump", NO_PROGRAM, "the package binutils") from None
-        if run.returncode:
-            said.seek(0)
-            raise Refused(f"objdump failed: {one_line(said.read(500))}")
+    try:
+        with limited(words, limits_for(path)) as said:
+            yield from pieces(said)
+    except FileNotFoundError:
+        raise Trouble("there is no objdump", NO_PROGRAM, "the package binutils") from None
+    if said.status:
+        raise Refused(f"objdump failed: {' '.join(said.err[:500].split())}")
 
 
-def one_line(raw: bytes) -> str:
-    return " ".join(text_of(raw).split())
-
-
-def pieces(stream: IO[bytes]) -> Iterator[Piece]:
+def pieces(stream: Output) -> Iterator[Piece]:
     """The code of each symbol in what objdump prints."""
     rest = b""
     while True:

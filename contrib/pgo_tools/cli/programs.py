@@ -64,8 +64,8 @@ def as_file(name: str) -> str:
 
 
 def plain_words() -> Dict[str, str]:
-    """The environment in which tools print what their manuals say."""
-    return {**os.environ, "LC_ALL": "C"}
+    """The environment in which tools print what their manuals say, and ask no server for debugging information."""
+    return {**os.environ, "LC_ALL": "C", "DEBUGINFOD_URLS": ""}
 
 
 @contextlib.contextmanager

@@ -2,13 +2,16 @@
 
 A program names any file as its source. Lines are shown of files alone that lie below the folders that the caller
 allows. """
+import itertools
 import os
 import re
 import stat
+import tempfile
 from typing import Dict, Iterable, Iterator, List, NamedTuple, Sequence
 
 from pgo_tools.cli import REFUSED, Trouble
-from pgo_tools.cli.programs import as_file, call, tool
+from pgo_tools.cli.limits import limited, limits_for
+from pgo_tools.cli.programs import as_file, tool
 from pgo_tools.texts.names import printable, text_of
 from pgo_tools.texts.numbers import decimal
 
@@ -19,6 +22,8 @@ MOST_BYTES, MOST_NAME, MOST_PATH, MOST_ASKED = 1 << 26, 4096, 4096, 256
 # A program may name files without end, by paths of a thousand folders. So many files are looked for, each by so long an
 # end of its path.
 MOST_FILES, MOST_PARTS = 256, 64
+# So many bytes are read of what a tool prints of an address.
+MOST_PRINTED = 1 << 13
 # What the kernel makes up, whatever folder is allowed.
 MADE_UP = ("/proc/", "/sys/", "/dev/")
 
@@ -57,19 +62,20 @@ def starts(binary: str, names: Iterable[str]) -> Dict[str, Place]:
     if not dump:
         return {}
     for k in range(0, len(asked), MOST_ASKED):
-        status, said, err = call([dump, *asked[k : k + MOST_ASKED], as_file(binary)])
-        if status:
+        with limited([dump, *asked[k : k + MOST_ASKED], as_file(binary)], limits_for(binary)) as said:
+            note_all(found, map(text_of, said.lines()))
+        if said.status:
             # A file that is not there, or a folder, is told as such.
             open(binary, "rb").close()
-            what = one_line(err).replace(f"error: {binary}: ", "")
+            what = one_line(said.err).replace(f"error: {binary}: ", "")
             raise Trouble(f"{binary}: {what or 'llvm-dwarfdump fails'}", REFUSED)
-        note_all(found, text_of(said).split("\n"))
     return {name: Place(it.file, it.line) for name, it in found.items()}
 
 
-def note_all(found: Dict[str, Begin], lines: List[str]) -> None:
+def note_all(found: Dict[str, Begin], lines: Iterable[str]) -> None:
+    """Keeps where the functions begin of which these lines tell."""
     entry: Dict[str, str] = {}
-    for line in lines + ["0x0: DW_TAG_end"]:
+    for line in itertools.chain(lines, ["0x0: DW_TAG_end"]):
         tag = ENTRY.match(line)
         attribute = ATTRIBUTE.match(line)
         if tag:
@@ -104,11 +110,15 @@ def places(binary: str, addresses: Sequence[int]) -> Dict[int, Place]:
         words, between = [older, "-e", as_file(binary)], "\n"
     if not addresses:
         return {}
-    given = "".join(f"{each:#x}\n" for each in addresses).encode()
-    status, said, err = call(words, given=given)
-    if status:
-        raise Trouble(f"{binary}: {one_line(err) or words[0] + ' fails'}", REFUSED)
-    told = text_of(said).split(between)
+    limits = limits_for(binary)
+    limits = limits._replace(printed=min(limits.printed, MOST_PRINTED * (len(addresses) + 1)))
+    with tempfile.TemporaryFile() as given:
+        given.write("".join(f"{each:#x}\n" for each in addresses).encode())
+        given.seek(0)
+        with limited(words, limits, given) as said:
+            told = text_of(b"".join(iter(lambda: said.read(1 << 16), b""))).split(between)
+    if said.status:
+        raise Trouble(f"{binary}: {one_line(said.err) or words[0] + ' fails'}", REFUSED)
     if len(told) != len(addresses) + 1:
         return {}
     found = {}

@@ -144,8 +144,13 @@ class Sums(Tree):
         self.file("3\tp/0", profile(30))
         for words, end in ([], "\n"), (["-0"], "\0"):
             self.tells(self.merge(*words, given=f"3\tp/0{end}p/1{end}".encode()), BAD_WORDS,
-                       "3.x09p/0: a file has this name, which is also a weight, a tab and a name what helps: ./ before")
+                       "3.x09p/0: a file has this name, which looks like a name with a weight what helps: ./ before")
         self.expect(self.merge(given=b"./3\tp/0\np/1\n"), DONE, self.sum_of(["3\tp/0", "p/1"]))
+        self.tells(self.merge(given=b"p/0\t3\np/1\n"), MISSING, "p/0.x093: no such file")
+        self.file("p/0\t3", profile(31))
+        self.tells(self.merge(given=b"p/0\t3\np/1\n"), BAD_WORDS,
+                   "p/0.x093: a file has this name, which looks like a name with a weight what helps: the weight before")
+        self.expect(self.merge("p/0\t3", "p/1"), DONE, self.sum_of(["p/0\t3", "p/1"]))
         self.expect(self.merge(given=b"3\t./p/0\n"), DONE, self.expected((3, "p/0")))
         self.expect(self.merge("3\tp/0", "p/1"), DONE, self.sum_of(["3\tp/0", "p/1"]))
         self.expect(self.merge("--fetch=cp", given=b"3\tp/0\n"), DONE, self.expected((3, "p/0")))

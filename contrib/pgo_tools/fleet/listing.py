@@ -12,6 +12,8 @@ from pgo_tools.texts.names import text_of
 from pgo_tools.texts.numbers import decimal
 
 MOST_WEIGHT = 65535
+# A line of a list in which a weight may stand in the wrong place.
+ENDS_IN_WEIGHT = re.compile(r"\t[0-9]+\Z")
 # The line that tells a profile's build stands at its end.
 TAIL = 4096
 # How many bytes a file's name may have, and those that it has more than its place while it is written.
@@ -21,11 +23,13 @@ LONGEST_NAME, LONGEST_END = 255, len(".4194304.999.new")
 def weighed(line: str, are_here: bool = True) -> File:
     """A line of a list: a name, or a weight, a tab and a name. It is refused if the whole line is a file's name."""
     weight, tab, name = line.partition("\t")
-    if not (tab and weight.isascii() and weight.isdigit()):
+    is_weighed = bool(tab) and weight.isascii() and weight.isdigit()
+    if are_here and (is_weighed or ENDS_IN_WEIGHT.search(line)) and os.path.lexists(line):
+        helps = "./ before the weight for the file, ./ after the tab for the weight"
+        raise Trouble(f"{line}: a file has this name, which looks like a name with a weight", USAGE,
+                      helps if is_weighed else "the weight before the name; or the file as an argument, not in a list")
+    if not is_weighed:
         return File(line, 1)
-    if are_here and os.path.lexists(line):
-        raise Trouble(f"{line}: a file has this name, which is also a weight, a tab and a name", USAGE,
-                      "./ before the weight for the file, ./ after the tab for the weight")
     match = re.fullmatch(decimal(5), weight)
     if not match or not 1 <= int(match[1]) <= MOST_WEIGHT:
         raise Trouble(f"{name}: a weight of {weight}", USAGE, f"weights are from 1 to {MOST_WEIGHT}")

@@ -27,6 +27,7 @@ TREE = str(CONTRIB / "merge-tree")
 BUILD = b"# build 0123456789abcdef\n"
 OLD = b"old:5:5\n 1: 5\n"
 NOBODY = 65534
+# Not SIGINT: while Python itself starts, its answer is a traceback of its own. `test_merge_tree` sends it later.
 SIGNALS = (signal.SIGKILL, signal.SIGTERM, signal.SIGHUP)
 LONGEST = 60
 HANGS = 999

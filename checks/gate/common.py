@@ -157,7 +157,7 @@ def takes(seconds: int) -> Callable[[Tried], Tried]:
     """Marks a test, or each test of a class, with the seconds that it takes on four processors: the longest are begun first."""
 
     def marked(tried: Tried) -> Tried:
-        setattr(tried, "seconds", seconds)
+        setattr(tried, "takes_seconds", seconds)
         return tried
 
     return marked
@@ -165,7 +165,7 @@ def takes(seconds: int) -> Callable[[Tried], Tried]:
 
 def seconds_of(method: object, owner: object) -> int:
     """Returns the seconds of a test, or else of its class; 0 if neither is marked."""
-    return getattr(method, "seconds", getattr(owner, "seconds", 0))
+    return getattr(method, "takes_seconds", getattr(owner, "takes_seconds", 0))
 
 
 def on_signals(handler: Any) -> None:

@@ -87,6 +87,15 @@ class Installed(Case):
             with self.subTest(name):
                 ran = run(bin_folder / name, "--help", environment={"PGO": None, "PGO_COLD": None}, folder=self.folder)
                 self.assertEqual(ran.status, 0, ran.said)
+                # The texts of the two programs are proved, and name a clone's.
+                if name not in ("pgo", "pgo-cold"):
+                    self.assertNotIn(b"contrib/", ran.out)
+        self.file("empty", b"")
+        self.file("contexts", b"[main:1 @ f]:1:1\n")
+        page = f'{doc}/docs/USING.md, "Profiles of other tools"'
+        for name, helps in (("empty", "pgo-profile tells why"), ("contexts", page)):
+            ran = run(bin_folder / "pgo-hot", name, folder=self.folder)
+            self.assertIn(f"what helps: {helps}\n" if name == "empty" else helps, ran.said)
         made = run(
             bin_folder / "pgo-profile", "--base", TOP / "demo" / "words", TOP / "demo" / "words.txt", self.folder / "prof",
             environment={"PGO": None, "PGO_COLD": None, "PATH": "/usr/bin:/bin"}, folder=self.folder,

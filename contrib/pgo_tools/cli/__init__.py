@@ -5,6 +5,7 @@ A script ends with `cli.run(main)`. Its `main(argv)` parses its words and return
 import contextlib
 import errno
 import os
+import re
 import signal
 import sys
 import threading
@@ -16,6 +17,8 @@ from pgo_tools.texts.names import printable
 # The statuses, as pgo's own (docs/FORMATS.md, "Statuses").
 DONE, FAILED, USAGE, NO_FILE, REFUSED, READ_FAULT, WRITE_FAULT, NO_MEMORY = range(8)
 NO_PROGRAM = 127
+# Commands and pages, by their places in a clone.
+NAMED = re.compile(r"(?<![\w/.-])(?:contrib/([a-z]+(?:-[a-z]+)?)(?![\w/-]|\.\w)|docs/([A-Z]+\.md))")
 # By these a script ends as by Ctrl-C: what it was at is undone, and what it started ends.
 HEARD = (signal.SIGINT, signal.SIGTERM, signal.SIGHUP, signal.SIGQUIT)
 
@@ -45,9 +48,18 @@ def name() -> str:
     return os.path.basename(sys.argv[0]) or "pgo"
 
 
+def as_installed(text: str) -> str:
+    """The text with the names that commands and pages have in an installation, if the script is a part of one."""
+    share = os.path.dirname(os.path.dirname(os.path.realpath(sys.argv[0])))
+    if not os.path.isfile(f"{share}/made"):
+        return text
+    pages = os.path.join(os.path.dirname(share), "doc", "pgo", "docs")
+    return NAMED.sub(lambda found: f"{pages}/{found[2]}" if found[2] else f"pgo-{found[1].replace('pgo-', '')}", text)
+
+
 def say(what: str, helps: str = "") -> None:
     """Writes a line to the error output, and below it what helps. No byte of a file reaches a terminal raw."""
-    lines = [f"{name()}: {what}"] + (f"  what helps: {helps}".split("\n") if helps else [])
+    lines = [f"{name()}: {what}"] + (f"  what helps: {as_installed(helps)}".split("\n") if helps else [])
     with contextlib.suppress(OSError, ValueError, AttributeError):
         for line in lines:
             sys.stderr.write(printable(line) + "\n")

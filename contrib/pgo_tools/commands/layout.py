@@ -26,7 +26,8 @@ def parser() -> argparse.ArgumentParser:
         prog=cli.name(), description=(__doc__ or "").split("\n\n", maxsplit=1)[0], epilog="""
         The program is then built once more, as BIN was, with -fbasic-block-sections=list=LIST besides.""")
     words.add_argument("bin", metavar="BIN", help="the linked program, with clang's map of blocks")
-    words.add_argument("cfg", metavar="CFG", help="its block text, as contrib/blocks prints it, packed or not")
+    text = "its block text, as contrib/blocks prints it, packed or not"
+    words.add_argument("cfg", metavar="CFG", help=cli.as_installed(text))
     words.add_argument("out", metavar="OUT", help="what `pgo build --edges` printed of it, packed or not")
     words.add_argument("-o", "--output", metavar="LIST", help="the file to make (else the output)")
     return words

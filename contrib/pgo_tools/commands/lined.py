@@ -81,12 +81,13 @@ class Words(argparse.Namespace):
 
 def parser() -> argparse.ArgumentParser:
     words = argparse.ArgumentParser(
-        prog=cli.name(), description=(__doc__ or "").split("\n\n", maxsplit=1)[0], epilog="""
+        prog=cli.name(), description=(__doc__ or "").split("\n\n", maxsplit=1)[0], epilog=cli.as_installed("""
         LINED has the segments of BIN, so the same load lines fit (--map=NAME, NAME being that of the program that ran).
         What is built with it is for people, for contrib/draw, and for tools that take counts of blocks. Its profile is
-        NOT for clang: the lines in it are numbers of blocks.""")
+        NOT for clang: the lines in it are numbers of blocks."""))
     words.add_argument("bin", metavar="BIN", help="the linked program; its debugging information is not needed")
-    words.add_argument("cfg", metavar="CFG", help="its block text, as contrib/blocks prints it, packed or not")
+    text = "its block text, as contrib/blocks prints it, packed or not"
+    words.add_argument("cfg", metavar="CFG", help=cli.as_installed(text))
     words.add_argument("-o", "--output", metavar="LINED", help="the file to make (else the output)")
     return words
 
@@ -101,7 +102,7 @@ def work(argv: List[str]) -> int:
             file.writelines(pieces)
     else:
         cli.out().writelines(pieces)
-    cli.say("for pgo build, people and contrib/draw; a profile made with it is not for clang")
+    cli.say(cli.as_installed("for pgo build, people and contrib/draw; a profile made with it is not for clang"))
     return cli.DONE
 
 

@@ -10,18 +10,23 @@ bin = $(DESTDIR)$(PREFIX)/bin
 share = $(DESTDIR)$(PREFIX)/share/pgo
 doc = $(DESTDIR)$(PREFIX)/share/doc/pgo
 man = $(DESTDIR)$(PREFIX)/share/man/man1
+bash = $(DESTDIR)$(PREFIX)/share/bash-completion/completions
+zsh = $(DESTDIR)$(PREFIX)/share/zsh/site-functions
+fish = $(DESTDIR)$(PREFIX)/share/fish/vendor_completions.d
 
 # The pages of share/doc/pgo, with their links as here.
 pages = README.md CHANGELOG.md SECURITY.md LICENSE
 more = $(wildcard docs/*.md docs/*.svg)
 # The scripts for users, all but what fills release/. In bin each has `pgo-` in front, if it has not yet.
 scripts = $(filter-out contrib/release, $(shell find contrib -maxdepth 1 -type f -perm -100 | LC_ALL=C sort))
+# Each command as it is installed.
+commands = pgo pgo-cold $(patsubst contrib/%,pgo-%,$(scripts:contrib/pgo-%=contrib/%))
 packages = $(shell find contrib -mindepth 2 -name '*.py' | LC_ALL=C sort)
 
 .PHONY: all help install uninstall check check-all demo prove
 
 all help:
-	@echo 'make install [PREFIX=$(PREFIX)] [DESTDIR=]   programs, scripts, pages and man pages'
+	@echo 'make install [PREFIX=$(PREFIX)] [DESTDIR=]   programs, scripts, pages, man pages and completions'
 	@echo 'make uninstall [PREFIX=$(PREFIX)] [DESTDIR=] takes them away'
 	@echo 'make check                                   the checks, in some minutes: release/, scripts, documents'
 	@echo 'make check-all                               the same with those that take long, as the gate runs them'
@@ -35,7 +40,11 @@ install:
 	    grep -qx "$$name $$(sha256sum <release/$$name | cut -d ' ' -f 1)" release/made || \
 	        { echo "install: release/$$name has not the sum that release/made tells" >&2; exit 1; }; \
 	done
-	$(INSTALL) -d '$(bin)' '$(share)/contrib' '$(man)' '$(doc)/docs'
+	$(INSTALL) -d '$(bin)' '$(share)/contrib' '$(man)' '$(doc)/docs' '$(bash)' '$(zsh)' '$(fish)'
+	made=$$(mktemp -d) && trap 'rm -rf "$$made"' EXIT && \
+	PYTHONPATH=contrib $(PYTHON) -B -m pgo_tools.cli.installed "$$made" release/pgo release/pgo-cold && \
+	$(INSTALL) -m 644 "$$made"/man/* '$(man)' && $(INSTALL) -m 644 "$$made"/bash/* '$(bash)' && \
+	$(INSTALL) -m 644 "$$made"/zsh/* '$(zsh)' && $(INSTALL) -m 644 "$$made"/fish/* '$(fish)'
 	$(INSTALL) -m 755 release/pgo release/pgo-cold '$(bin)'
 	$(INSTALL) -m 644 $(wildcard docs/*.1) '$(man)'
 	$(INSTALL) -m 644 $(pages) '$(doc)'
@@ -51,6 +60,7 @@ install:
 uninstall:
 	for name in $(scripts:contrib/%=%); do rm -f "$(bin)/pgo-$${name#pgo-}" || exit; done
 	rm -f '$(bin)/pgo' '$(bin)/pgo-cold' $(patsubst docs/%,'$(man)/%',$(wildcard docs/*.1))
+	rm -f $(commands:%='$(man)/%.1') $(commands:%='$(bash)/%') $(commands:%='$(zsh)/_%') $(commands:%='$(fish)/%.fish')
 	rm -rf '$(share)' '$(doc)'
 
 # Neither rt nor git's folder nor a compiler nor pytest is needed: a check that cannot run here is skipped, and named.

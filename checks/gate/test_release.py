@@ -1,5 +1,6 @@
 """release/ is of the sources that stand here, and holds what was proved and built of them."""
 import os
+import re
 import shutil
 import unittest
 
@@ -74,8 +75,7 @@ class Installed(Case):
         self.assertEqual(made.read_bytes(), (TOP / "release" / "made").read_bytes())
         for name in ("LICENSE", "NOTICE"):
             self.assertTrue((made.parent / name).is_file(), name)
-        for page in ("pgo.1", "pgo-cold.1", "pgo-record.1"):
-            self.assertTrue((stage / "opt" / "pgo" / "share" / "man" / "man1" / page).is_file())
+        self.try_tables(stage / "opt" / "pgo" / "share", sorted(path.name for path in bin_folder.iterdir()))
         # Pages, with what they link to.
         doc = stage / "opt" / "pgo" / "share" / "doc" / "pgo"
         pages = [path.relative_to(TOP) for path in [*TOP.glob("*.md"), *TOP.glob("docs/*.md"), *TOP.glob("docs/*.svg")]]
@@ -110,6 +110,34 @@ class Installed(Case):
         ran = run("make", "-C", TOP, "uninstall", f"DESTDIR={stage}", "PREFIX=/opt/pgo")
         self.assertEqual((ran.status, [str(path) for path in stage.rglob("*") if not path.is_dir()]), (0, []), ran.said)
         shutil.rmtree(stage)
+
+    def try_tables(self, share, names):
+        """Each command has a man page and completions, with all options of its --help."""
+        for name in names:
+            page = share / "man" / "man1" / f"{name}.1"
+            completions = (
+                share / "bash-completion" / "completions" / name, share / "zsh" / "site-functions" / f"_{name}",
+                share / "fish" / "vendor_completions.d" / f"{name}.fish",
+            )
+            told = run(share.parent / "bin" / name, "--help").out.decode()
+            options = set(re.findall(r"(?m)^ +(?:-\w(?: [A-Z]+)?, )?(--[a-z-]+)|\[(--[a-z]+)", told))
+            options = {one or other for one, other in options}
+            with self.subTest(name):
+                self.assertGreater(len(options), 0)
+                for path in (page, *completions):
+                    text = path.read_text(encoding="utf-8").replace("\\-", "-").replace("-l ", "--")
+                    self.assertEqual([option for option in sorted(options) if option not in text], [], path.name)
+                for tool, words in (("groff", ("-ww", "-man", "-Tutf8", "-z", page)), ("bash", ("-n", completions[0])),
+                                    ("zsh", ("-n", completions[1])), ("fish", ("-n", completions[2]))):
+                    if shutil.which(tool):
+                        ran = run(tool, *words)
+                        self.assertEqual((ran.status, ran.said), (0, ""))
+        if shutil.which("bash"):
+            asked = 'source "$0"; _pgo_merge_tree pgo-merge-tree "$1" "$2"; echo "${COMPREPLY[@]}"'
+            tried = (("--pl", "x", "--plan"), ("m", "--print", "make"), ("--part", "x", "--part --part-size"))
+            for *words, answer in tried:
+                ran = run("bash", "-c", asked, share / "bash-completion" / "completions" / "pgo-merge-tree", *words)
+                self.expect(ran, 0, answer + "\n")
 
     @needs("make", "install")
     def test_a_changed_program_is_not_installed(self):

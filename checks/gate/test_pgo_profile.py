@@ -15,6 +15,8 @@ from common import COLD, CONTRIB, PGO, TEXT, TOP, WORDS, Case, into_closed_pipe,
 from growing import DEMO, demo_with
 from make import STRING, abbreviation
 
+from pgo_tools.elf import Elf
+
 SCRIPT = CONTRIB / "pgo-profile"
 LOAD = "words 7 PERF_RECORD_MMAP2 7/7: [0x401000(0x1000) @ 0x1000 08:02 5 0]: r-xp {}\n"
 ONE = TEXT.read_bytes().split(b"\n")[0] + b"\n"
@@ -196,6 +198,13 @@ class Forms(Profiles):
         self.judge(4, "it is a recording: perf script -f -i 'perf data' -F ip,brstack", WORDS, self.file("perf data", b"PERFILE2").name,
                    environment=self.with_perf(f"echo '{said}' >&2\nexit 255"))
 
+    def test_a_recording_without_branches(self):
+        said = "Samples for 'cycles:u' event do not have BRANCH_STACK attribute set. Cannot print 'brstack' field."
+        self.judge(4, "BadLine.*it was recorded without branches: perf record -b; .*pgo-record", WORDS,
+                   self.file("perf.data", b"PERFILE2").name, environment=self.with_perf(f'echo "{said}" >&2\nexit 255'))
+        self.judge(1, "perf.data has no branches.*perf record -b.*pgo-record", WORDS, "perf.data",
+                   environment=self.with_perf("case $1 in script) echo 401036 ;; esac"))
+
     def with_perf(self, script):
         """The environment in which this stands for perf."""
         os.makedirs(self.folder / "bin", exist_ok=True)
@@ -288,7 +297,7 @@ class Forms(Profiles):
         return python("-c", WITH_ROOM, str(room), SCRIPT, *words, "prof", folder=self.folder, **how)
 
     def test_a_text_without_a_last_line_feed(self):
-        self.judge(0, "cut.txt does not end with a line feed.*print the text again", WORDS, self.file("cut.txt", TEXT.read_bytes()[:-1]).name)
+        self.judge(0, r"cut.txt does not end with a line feed.*print the text again.*sed -i '\$d' cut.txt", WORDS, self.file("cut.txt", TEXT.read_bytes()[:-1]).name)
 
 
 def limit_files(size):
@@ -373,6 +382,8 @@ class Words(Profiles):
             with self.subTest(said):
                 self.judge(4, rf"BadLine \(bad\).*{said}", WORDS, self.file("bad", raw).name)
         self.judge(4, "BadLine.*it is no text", WORDS, self.file("bad", b"\xaa\0\n").name)
+        self.judge(4, "NotElf.*words.c is a source file: the program that was built of it", TOP / "demo/words.c", TEXT)
+        self.judge(4, "BadLine.*it is a source file: the text that perf script", WORDS, TOP / "demo/words.c")
 
     def test_no_room(self):
         whole = len(self.run_here(PGO, "profile", "--base", WORDS, TEXT).out)
@@ -419,13 +430,24 @@ class Lines(Profiles):
             ("0xe8@perf.data [0x20]: event: 3\n", "without -D"), (".  0000:  03 00 00 00 02 00 20 00  ...... .\n", "without -D"),
             ("401036 0x1/0x2\r\n", "the CR at its end"), ("           4011c0 0x4011ce/0x401160\r\n", "the CR at its end"),
             ("           4011c0 0x4011ce/zzz\n", "prints no such line"),
+            ("\tmain:\n", "brstack and not brstackinsn"), ("\t0000000000401160\tinsn: 55 48 \t# PRED\n", "brstack and not brstackinsn"),
+            ("Warning:\n", "perf's own message"), ("Processed 12 events and lost 3 chunks!\n", "perf's own message"),
+            ("401036 0x1234567890123456789012/0x401160/P/-/-/23\n", "an address of more than 64 bits"),
+            ("1234567890123456789012 0x4011ce/0x401160\n", "an address of more than 64 bits"),
         ]
         for line, said in rows:
             with self.subTest(line):
                 self.judge(4, f"at 2: BadLine.*{said}", WORDS, self.file("bad", ONE + line.encode() + ONE))
-        self.judge(4, "at 2: BadLine.*was cut off", WORDS, self.file("bad", ONE + b"           4011c0 0x4011ce/0x401160/P/-/-/23/  0x4011"))
+        self.judge(4, r"at 2: BadLine.*was cut off: take it away \(sed '\$d'\)", WORDS, self.file("bad", ONE + b"           4011c0 0x4011ce/0x401160/P/-/-/23/  0x4011"))
+        # A last line that is whole was not cut off.
+        self.judge(4, "at 2: BadLine.*prints no such line", WORDS, self.file("bad", ONE + b"           4011c0 0x4011ce/zzz\n"))
+        self.judge(4, "at 2: BadLine.*more than 64 bits", WORDS, self.file("bad", ONE + b"401036 0x1234567890123456789012/0x401160"))
         crlf = "PERF_RECORD_MMAP2 7/7: [0x401000(0x1000) @ 0x1000 08:02 5 0]: r-xp /srv/app/words\n401036 0x1/0x2\r\n"
         self.judge(4, "at 2: BadLine.*the CR at its end", WORDS, self.file("bad", crlf))
+
+    def test_joined_lines(self):
+        self.judge(4, "at 2: TooManyEntries.*what helps: the text as perf printed it, its lines not joined$", WORDS,
+                   self.file("bad", ONE + b"401036" + b" 0x4011ce/0x401160" * 1025 + b"\n"))
 
     def test_no_byte_of_a_line_reaches_the_terminal_raw(self):
         ran = self.judge(4, "BadLine", WORDS, self.file("bad", ONE + b"\x1b]0;title\x07 \x9b1m\n"))
@@ -442,6 +464,39 @@ class Empty(Profiles):
         self.judge(1, "none of 4768 branches.*not brstackoff", WORDS, self.file("offsets", offsets))
         elsewhere = re.sub(r"0x([0-9a-f]+)/0x([0-9a-f]+)", r"0x55d0\1/0x55d0\2", TEXT.read_text())
         self.judge(1, "none of .* branches is of .*the binary that ran", WORDS, self.file("elsewhere", elsewhere))
+
+    def test_the_kernel(self):
+        kernel = b"           401330" + b" 0xffffffff81000010/0xffffffff81000000" * 32 + b"\n"
+        raw = TEXT.read_bytes()
+        self.judge(0, "9600 of 14368 branches are of the kernel.*perf record -b -e cycles:u", WORDS, self.file("text", raw + kernel * 300))
+        self.judge(0, "", WORDS, self.file("text", raw + kernel * 20))
+
+    def test_another_machine(self):
+        """The demo as if it were a program for AArch64, whose instructions begin at multiples of four."""
+        program = bytearray(WORDS.read_bytes())
+        program[18:20] = (183).to_bytes(2, "little")
+        said = "arm is a program for AArch64, and of .* start where it can have no instruction: the samples are of another machine"
+        self.judge(1, said, self.file("arm", bytes(program)).name, TEXT)
+        self.judge(0, said, "--other-build", "arm", TEXT)
+        elsewhere = re.sub(r"0x([0-9a-f]+)/0x([0-9a-f]+)", r"0x55d0\1/0x55d0\2", TEXT.read_text())
+        self.judge(1, said, "arm", self.file("elsewhere", elsewhere))
+        even = re.sub(r"0x([0-9a-f]+)[0-9a-f]/0x([0-9a-f]+)[0-9a-f]", r"0x\g<1>0/0x\g<2>0", TEXT.read_text())
+        self.assertNotIn(b"another machine", self.make("arm", self.file("even", even)).err)
+
+    @needs("objcopy", "strip")
+    def test_a_debug_file_that_is_missing(self):
+        shutil.copy(WORDS, self.folder / "whole")
+        self.run_here("objcopy", "--only-keep-debug", "whole", "words.debug")
+        self.run_here("objcopy", "--strip-all", "--add-gnu-debuglink=words.debug", "whole", "words")
+        os.unlink(self.folder / "words.debug")
+        self.judge(1, "its debug file words.debug is not there.*words.debug beside it, or below /usr/lib/debug", "words", TEXT)
+
+    def test_the_section_of_a_fault(self):
+        """An entry of the demo's first unit with a number of no abbreviation."""
+        program = bytearray(WORDS.read_bytes())
+        at = next(each.offset for each in Elf(WORDS).sections if each.name == ".debug_info")
+        program[at + 12] = 0x7F
+        self.judge(4, r"UnknownAbbrev \(bad\), byte 0xc of .debug_info, in the unit at 0x0 what helps", self.file("bad", bytes(program)).name, TEXT)
 
     @needs("cc")
     def test_programs(self):

@@ -191,6 +191,10 @@ def explained(status: int, line: str, program: Program, text: Text) -> Trouble:
         plain = shell_word(program.base_name() + ".plain")
         unpack = f"objcopy --decompress-debug-sections {shell_word(program.name)} {plain}"
         return Trouble(line, status, f"{unpack}, and {plain} in its place")
+    if refusal and refusal[1] == "2" and refusal[3] == "TooManyEntries":
+        return Trouble(line, status, "the text as perf printed it, its lines not joined")
+    if refusal and refusal[1] == "1":
+        return Trouble(line + signs.place_in(program, int(refusal[2])), status, help_of(refusal[3]))
     if refusal:
         return Trouble(line, status, help_of(refusal[3]))
     if line.startswith("no such file: "):

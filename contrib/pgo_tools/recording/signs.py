@@ -1,11 +1,13 @@
-"""The signs by which a profile is told to be empty, spoiled or of another binary, each with what helps against it."""
+"""The signs by which a profile is empty, spoiled or of another binary, each with what helps against it."""
 import bisect
+import functools
 import os
 import re
-from typing import Dict, Iterable, Iterator, List, NamedTuple
+from typing import Dict, Iterable, Iterator, List, NamedTuple, Optional
 
 from pgo_tools.cli import programs
 from pgo_tools.cli.files import FOREIGN, PACKED, kind_of
+from pgo_tools.dwarf import Units
 from pgo_tools.elf import X86_64
 from pgo_tools.recording import found, inputs
 from pgo_tools.recording.inputs import Program, Text
@@ -21,6 +23,11 @@ HOT_SHARE, FEW_SAMPLES = 0.9, 10
 FEW_BRANCHES = 320
 # Where fewer branches than these start says too little to refuse a profile.
 FEW_SOURCES = 10
+# Machines by the number in a program's header: their names, and how instructions are aligned.
+MACHINES = {62: "x86-64", 183: "AArch64", 243: "RISC-V", 21: "POWER", 22: "S/390", 40: "ARM", 3: "i386"}
+ALIGNED = {183: 4, 243: 2, 21: 4, 22: 2, 40: 2}
+SOURCES = (".c", ".cc", ".cpp", ".cxx", ".h", ".rs", ".go", ".s", ".S")
+EMULATOR = "where the processor records none, pgo-record (docs/USING.md, step 2)"
 # So many lines without a discriminator are no chance.
 MANY_LINES = 20
 # Names as rustc's old mangling has them.
@@ -63,10 +70,10 @@ class Sources(NamedTuple):
 
 
 class Line(NamedTuple):
-    """A line of a text, and whether it is the last one."""
+    """A line of a text, and whether it is the last one and has no line feed."""
 
     text: str
-    is_last: bool
+    is_cut: bool
 
 
 SHOW_LOADS = "perf script --show-mmap-events -F ip,brstack, which tells where files were loaded (docs/USING.md, step 2)"
@@ -97,6 +104,8 @@ def why_empty(program: Program, text: Text, name: str, report: Report) -> Sign:
         return without_units(program, report)
     if program.headers().is_position_independent() and is_debug_file(program):
         return debug_file_sign(program)
+    if sign := of_another_machine(program, text, name):
+        return sign
     if name and foreign == branches and any(load.name == name for load in text.loads()):
         return Sign(f"no branch is of {name}, though it was loaded",
                     "the program itself, no debug file of it (eu-unstrip of elfutils puts the two together); "
@@ -132,7 +141,7 @@ def without_branches(text: Text) -> Sign:
                     f"perf script -i {shell_word(text.name)} -F comm,pid shows whose it has")
     if text.is_file() and not os.path.getsize(text.path):
         return Sign(f"{text.name} is empty", "what perf record or perf script said when it made it")
-    return Sign(f"{text.name} has no branches", "perf record -b, then perf script -F ip,brstack")
+    return Sign(f"{text.name} has no branches", f"perf record -b, then perf script -F ip,brstack; {EMULATOR}")
 
 
 def without_units(program: Program, report: Report) -> Sign:
@@ -146,6 +155,11 @@ def without_units(program: Program, report: Report) -> Sign:
     if program.headers().section(".zdebug_info"):
         return Sign(f"{program.name} has its debugging information compressed the old way",
                     "objcopy --decompress-debug-sections")
+    link = program.headers().debug_link()
+    if link:
+        return Sign(f"{program.name} has no debugging information of its own, and its debug file {link.name} "
+                    "is not there, or is one of another build",
+                    f"{link.name} beside it, or below {inputs.DEBUG_FOLDER}")
     if program.headers().section(".symtab"):
         return Sign(f"{program.name} has no debugging information",
                     "build with -g, and for clang -fdebug-info-for-profiling")
@@ -160,6 +174,8 @@ def look_at_line(text: Text, number: int) -> str:
     if not text.is_file():
         return "print the text into a file, and look at this line"
     kind = kind_of(text.path)
+    if kind == "recording" and "BRANCH_STACK" in text.said:
+        return f"it was recorded without branches: perf record -b; {EMULATOR}"
     if kind == "recording":
         said = f"; {text.said}" if text.said else ""
         force = "-f " * ("use -f" in said)
@@ -170,19 +186,21 @@ def look_at_line(text: Text, number: int) -> str:
         return FOREIGN[kind]
     if kind == "program":
         return "it is a program: the program first, then the text"
-    line, is_last = line_at(text.path, number)
+    if text.name.endswith(SOURCES):
+        return "it is a source file: the text that perf script -F ip,brstack prints"
+    line, is_cut = line_at(text.path, number)
     shown = re.sub(r"[^\x20-\x7e]", "?", line[:100])
-    return f"{branch_text.remedy(line, is_last)}\n  the line: {shown}"
+    return f"{branch_text.remedy(line, is_cut)}\n  the line: {shown}"
 
 
 def line_at(path: str, number: int) -> Line:
-    """A line, and whether it is the last one."""
+    """A line, and whether it was cut off."""
     line = b""
     with open(path, "rb") as file:
         for count, line in enumerate(file, 1):
             if count == number:
-                return Line(text_of(line.rstrip(b"\n")), not file.readline(1))
-    return Line(text_of(line), True)
+                break
+    return Line(text_of(line.rstrip(b"\n")), not line.endswith(b"\n"))
 
 
 def look_at_program(program: Program, text: Text) -> str:
@@ -192,6 +210,8 @@ def look_at_program(program: Program, text: Text) -> str:
         return f"{name} is packed: unpack it" if kind in PACKED else f"{name}: {FOREIGN[kind]}"
     if kind_of(text.path) == "program":
         return f"the program first, then the text: {text.name} is a program, and {name} is none"
+    if not kind and name.endswith(SOURCES):
+        return f"{name} is a source file: the program that was built of it"
     return {
         "empty": f"{name} is empty: see what the linker said when it made it",
         "recording": f"{name} is a recording: the program first, "
@@ -199,6 +219,21 @@ def look_at_program(program: Program, text: Text) -> str:
         "archive": f"{name} is a static library: the program that it was linked into",
         "script": f"{name} is a script: the program that it starts",
     }.get(kind, "")
+
+
+def place_in(program: Program, offset: int) -> str:
+    """The section and the unit that have an offset of the program's file; "" where no section of DWARF has it."""
+    if program.elf is None:
+        return ""
+    held = (each for each in program.elf.sections if each.name.startswith(".debug_") and each.offset <= offset)
+    section = next((each for each in held if offset <= each.offset + each.size), None)
+    if section is None:
+        return ""
+    at = offset - section.offset
+    if section.name != ".debug_info":
+        return f", byte {at:#x} of {section.name}"
+    unit = next((each for each in Units(program.elf).each() if each.at <= at < each.end), None)
+    return f", byte {at:#x} of {section.name}" + (f", in the unit at {unit.at:#x}" if unit else "")
 
 
 def look_at_unread(path: str) -> str:
@@ -231,7 +266,9 @@ def of_text(text: Text, parts: List[Part]) -> Iterator[Sign]:
     if not text.ends():
         yield Sign(f"{text.name} does not end with a line feed, so it may have been cut off, "
                    "and its last address with it",
-                   "print the text again, and see that perf ended well")
+                   "print the text again, and see that perf ended well; "
+                   f"or take its last line away: sed -i '$d' {shell_word(text.name)}")
+    yield from of_the_kernel(text, parts)
     yield from few_samples([part.profile for part in parts], parts[0].report["branches"])
 
 
@@ -241,12 +278,37 @@ def is_kernel(program: Program) -> bool:
     return bool(code) and code[0].address >= 1 << 63
 
 
+def of_the_kernel(text: Text, parts: List[Part]) -> Iterator[Sign]:
+    """Most branches are of the kernel, and no program is one."""
+    if any(is_kernel(part.program) for part in parts):
+        return
+    times = sources(text)
+    kernel, whole = sum(times[at] for at in times if at >> 63), sum(times.values())
+    if kernel * 2 > whole:
+        yield Sign(f"{kernel} of {whole} branches are of the kernel",
+                   "the program's own alone: perf record -b -e cycles:u")
+
+
+def of_another_machine(program: Program, text: Text, name: str) -> Optional[Sign]:
+    """The samples are of another machine than the program: they have addresses at which it has no instruction."""
+    machine = program.headers().machine
+    top = most_frequent(program, text, name) or sorted(sources(text))[:50]
+    odd = sum(at % ALIGNED.get(machine, 1) > 0 for at in top)
+    if odd * 9 <= len(top) - odd:
+        return None
+    what = f"{program.name} is a program for {MACHINES[machine]}, and of {len(top)} branches {odd} start"
+    return Sign(f"{what} where it can have no instruction: the samples are of another machine", "the binary that ran")
+
+
 def judge_binary(part: Part, text: Text) -> None:
     """Finds out whether another binary ran: by the build IDs alone where both sides have one, else by its branches."""
     program, same = part.program, same_binary(part.program)
     if part.built:
         part.other = Sign(f"the build {part.built} ran, and {program.name} is {program.headers().build_id()}", same)
-    elif not part.is_known and program.headers().machine == X86_64 and text.is_file():
+    elif not part.is_known and program.headers().machine in ALIGNED:
+        part.other = of_another_machine(program, text, part.name)
+        part.branches = len(most_frequent(program, text, part.name))
+    elif not part.is_known and program.headers().machine == X86_64:
         good, bad = branching(program, text, part.name)
         part.branches, part.is_known = good + bad, good + bad > 0 and bad * 9 <= good
         if good + bad and not part.is_known:
@@ -288,24 +350,37 @@ def laid_out(pieces: Iterable[Loaded]) -> List[Shift]:
     return rows
 
 
-def branching(program: Program, text: Text, name: str) -> Sources:
-    """The 50 most frequent sources of branches, by the file's instructions there."""
+@functools.lru_cache(maxsize=1)
+def sources(text: Text) -> Dict[int, int]:
+    """How many branches start at each address; none where the text is no file."""
+    times: Dict[int, int] = {}
+    if not text.is_file():
+        return times
     status, told, _ = programs.call([programs.pgo(), "counts", programs.as_file(text.path)])
-    if status:
-        return Sources(0, 0)
+    for line in told.split(b"\n") if not status else []:
+        fields = line.split()
+        if len(fields) == 3 and fields[0] != b"#":
+            at = int(fields[0], 16)
+            times[at] = times.get(at, 0) + int(fields[2])
+    return times
+
+
+def most_frequent(program: Program, text: Text, name: str) -> List[int]:
+    """The 50 most frequent sources of branches in the program, as offsets of its file."""
     rows = laid_out(places(program, text, name))
     sums: Dict[int, int] = {}
     starts = [row.start for row in rows]
-    for line in told.split(b"\n"):
-        fields = line.split()
-        if len(fields) != 3 or fields[0] == b"#":
-            continue
-        at = int(fields[0], 16)
+    for at, times in sources(text).items():
         row = bisect.bisect_right(starts, at) - 1
         if row >= 0 and at < rows[row].end:
             place = at + rows[row].to_offset
-            sums[place] = sums.get(place, 0) + int(fields[2])
-    top = sorted(sums, key=lambda at: (-sums[at], -at))[:50]
+            sums[place] = sums.get(place, 0) + times
+    return sorted(sums, key=lambda at: (-sums[at], -at))[:50]
+
+
+def branching(program: Program, text: Text, name: str) -> Sources:
+    """The 50 most frequent sources of branches, by the file's instructions there."""
+    top = most_frequent(program, text, name)
     good = sum(bool(BRANCH.match(program.headers().data[at : at + 6])) for at in top)
     return Sources(good, len(top) - good)
 

@@ -141,8 +141,14 @@ def sample_of(number: int, line: bytes, path: str) -> Sample:
     return Sample(number, pointer, branches)
 
 
-# What helps with a line that is no sample, by how it looks.
+# An address of more than 64 bits.
+WIDE = re.compile(r"(?:^[ \t]*|0x|/)0*[1-9a-fA-F][0-9a-fA-F]{16}")
+# What helps with a line that is no sample, by how it looks. What is not printed, as a tab, is a question mark.
 LOOKS = [(re.compile(form), said) for form, said in [
+    (r"Warning:|Processed [0-9]+ events|Check IO/CPU|\[ perf ",
+     "perf's own message is in the text: perf script -F ip,brstack 2>perf.log keeps the two apart"),
+    (r"[? ]*[0-9a-f]{8,}[? ]+insn: |\?[^ ?]+:(\?|$)|\?[0-9a-f]{8,}\?",
+     "brstack and not brstackinsn: perf script -F ip,brstack"),
     (r"[^ ]+:[0-9]+:[0-9]+$", "it is a profile: the text that perf script -F ip,brstack prints"),
     (r"(func [^ ]+|block [0-9]+ 0x[0-9a-f]+ 0x[0-9a-f]+.*)$",
      "it is a block text: the text that perf script -F ip,brstack prints"),
@@ -154,7 +160,7 @@ LOOKS = [(re.compile(form), said) for form, said in [
 ]]
 
 
-def remedy(line: str, is_last: bool = False) -> str:
+def remedy(line: str, is_cut: bool = False) -> str:
     """What helps with a line that is refused."""
     if "\0" in line:
         return "it is no text: what perf script -F ip,brstack prints is one"
@@ -163,8 +169,10 @@ def remedy(line: str, is_last: bool = False) -> str:
     for form, said in LOOKS:
         if form.match(shown):
             return said
+    if WIDE.search(line):
+        return "it has an address of more than 64 bits, which perf does not print: print the text again"
     if "\r" in line:
         return 'take away the CR at its end: tr -d "\\r"'
-    if is_last:
-        return "it is the last line, and was cut off: print the text again"
+    if is_cut:
+        return "it is the last line, and was cut off: take it away (sed '$d'), or print the text again"
     return "perf script -F ip,brstack prints no such line"

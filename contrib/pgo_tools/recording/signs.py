@@ -27,7 +27,7 @@ FEW_SOURCES = 10
 MACHINES = {62: "x86-64", 183: "AArch64", 243: "RISC-V", 21: "POWER", 22: "S/390", 40: "ARM", 3: "i386"}
 ALIGNED = {183: 4, 243: 2, 21: 4, 22: 2, 40: 2}
 SOURCES = (".c", ".cc", ".cpp", ".cxx", ".h", ".rs", ".go", ".s", ".S")
-EMULATOR = "where the processor records none, pgo-record (docs/USING.md, step 2)"
+EMULATOR = "where the processor records none, contrib/pgo-record (docs/USING.md, step 2)"
 # So many lines without a discriminator are no chance.
 MANY_LINES = 20
 # Names as rustc's old mangling has them.

@@ -1,12 +1,13 @@
 """A fault of each family of `fleet_faults.py`; `checks/by_hand/hostile/fleet` plants hundreds."""
 import unittest
 
+from common import takes
+
 import fleet_faults
 
 
+@takes(15)
 class FleetFaults(unittest.TestCase):
-    takes = 15
-
     def test_one_of_each_family(self):
         skipped = []
         for number in range(len(fleet_faults.FAMILIES)):

@@ -142,7 +142,8 @@ class Sums(Tree):
 
     def test_a_line_that_is_a_name_and_a_weight(self):
         self.file("3\tp/0", profile(30))
-        for words, end in ([], "\n"), (["-0"], "\0"):
+        for end in "\n\0":
+            words = ["-0"] * (end == "\0")
             self.tells(self.merge(*words, given=f"3\tp/0{end}p/1{end}".encode()), BAD_WORDS,
                        "3.x09p/0: a file has this name, which looks like a name with a weight what helps: ./ before")
         self.expect(self.merge(given=b"./3\tp/0\np/1\n"), DONE, self.sum_of(["3\tp/0", "p/1"]))
@@ -554,8 +555,8 @@ class Builds(Tree):
     def test_files_that_tell_no_build(self):
         """Where most files tell one, a file that does not is a bad one."""
         (self.folder / "p/3").write_text(profile(3))
-        for words in ([], ["--build=any"]):
-            ran = self.merge(*words, *self.files[:15])
+        for build in ("", "any"):
+            ran = self.merge(f"--build={build}", *self.files[:15])
             self.tells(ran, REFUSED, "p/3: it tells no build at its end, as most files do: it was cut off")
         ran = self.merge("--skip-bad=10", *self.files[:15])
         self.tells(ran, DONE, "left out: .*p/3: it tells no build")

@@ -79,7 +79,8 @@ def quoted(name: str) -> str:
 
 def names_to_choose(program: "Program", loads: Iterable[Load]) -> List[str]:
     """Names of the load lines: those that end as the program does, if there are any, and else the first few."""
-    names = sorted({load.name for load in loads if load.name.startswith("/")})
+    # perf has code without a file as //anon.
+    names = sorted({load.name for load in loads if load.name.startswith("/") and not load.name.startswith("//")})
     same = [name for name in names if last_name(name) == os.path.basename(program.name)]
     return same or names[:MOST_NAMES]
 

@@ -1,10 +1,12 @@
-"""contrib/pgo-record: the recorder is built once, safely, and the program runs as by itself: its words, streams and status."""
+"""contrib/pgo-record: the recorder is built once, safely, and the program runs as by itself, with its words, streams
+and status."""
 import os
 import re
 import shutil
 import signal
 import stat
 import subprocess
+import sys
 import time
 
 from common import BAD_WORDS, CONTRIB, DONE, FAILED, MISSING, REFUSED, TOP, WRITE_FAULT, Case, needs, run
@@ -95,8 +97,9 @@ class Record(Case):
         # Without a compiler, too.
         tools = self.folder / "tools"
         tools.mkdir()
-        for name in ("qemu-x86_64", "python3", "env"):
+        for name in ("qemu-x86_64", "env"):
             (tools / name).symlink_to(shutil.which(name))
+        (tools / "python3").symlink_to(sys.executable)
         ran = self.record("-q", "./own", environment={"PATH": str(tools)})
         self.assertEqual(ran.status, DONE, ran.said)
         self.assertEqual([(path, path.stat().st_mtime_ns) for path in self.built()], [(first, when)])
@@ -154,13 +157,19 @@ class Record(Case):
 
     def test_signals_and_pipes_are_the_programs(self):
         self.assertEqual(self.record("-q", "./own").status, DONE)
+        text = self.folder / "recorded.txt"
+        text.unlink()
         for number in (signal.SIGTERM, signal.SIGINT, signal.SIGKILL):
-            with subprocess.Popen([RECORD, "-q", "-c", "99", "./own", "sleep"], cwd=self.folder, stdin=subprocess.DEVNULL,
-                                  stdout=subprocess.DEVNULL, env={**os.environ, "XDG_CACHE_HOME": str(self.cache)}) as ran:
-                time.sleep(1.5)
+            environment = {**os.environ, "XDG_CACHE_HOME": str(self.cache)}
+            with subprocess.Popen([RECORD, "-q", "-c", "99", "./own", "sleep"], cwd=self.folder, env=environment,
+                                  stdin=subprocess.DEVNULL, stdout=subprocess.DEVNULL) as ran:
+                end = time.monotonic() + 60
+                while time.monotonic() < end and not (text.exists() and text.stat().st_size > 1 << 17):
+                    time.sleep(0.01)
                 ran.send_signal(number)
                 self.assertEqual(ran.wait(20), -number)
-            self.assertGreater((self.folder / "recorded.txt").read_bytes().count(b"\n "), 100)
+            self.assertGreater(text.read_bytes().count(b"\n "), 50)
+            text.unlink()
         broken = run("sh", "-c", '"$0" -q ./own broken </dev/null | head -1', RECORD, folder=self.folder,
                      environment={"XDG_CACHE_HOME": str(self.cache)})
         self.assertEqual((broken.out, broken.err), (b"./own\n", b""))

@@ -100,7 +100,8 @@ def program(name: str, path: str) -> Command:
     about = dict(re.findall(r"(?m)^(--[a-z]+)(?:=[A-Z]+)?  +(.*)", told))
     values = dict(re.findall(r"\[(--[a-z]+)=?([A-Z]*)\]", told))
     options = [Option((each,), values[each], (), about.get(each, "as of pgo profile"), True) for each in sorted(values)]
-    options += [Option(("--help",), "", (), "print help", True), Option(("--version",), "", (), "print the version", True)]
+    for word, said in (("--help", "print help"), ("--version", "print the version")):
+        options.append(Option((word,), "", (), said, True))
     return Command(name, [], told.partition("\n")[0], [], options, "", words)
 
 

@@ -32,7 +32,8 @@ def parsed(argv: List[str]) -> Words:
         usage="%(prog)s [--svg] [--blocks CFG [--bin BIN] [--source FOLDER]] [--number N] [--least PERCENT] "
         "[--] FUNCTION [OUT]",
         description="Draw the repair of a function in OUT, as `pgo build` wrote it, packed or not; without OUT in the "
-        f"input. The function is named as in the block text, or as {cli.as_installed('contrib/hot')} prints it.", epilog="""
+        f"input. The function is named as in the block text, or as {cli.as_installed('contrib/hot')} prints it.",
+        epilog="""
         Printed is a graph for Graphviz: `draw count_word words.built | dot -Tsvg`. Blocks are the darker the more often
         they ran, edges the wider; red is what the repair changed (of edges it is known where `pgo build --edges` wrote
         their weights).

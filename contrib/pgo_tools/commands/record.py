@@ -1,7 +1,9 @@
-"""Records the branches that a program takes, on any processor: it runs under the emulator qemu-x86_64 with a plugin, the recorder.
+"""Records the branches that a program takes, on any processor. The program runs under the emulator qemu-x86_64 with a
+plugin, the recorder.
 
-A C compiler builds the recorder once for each version, in a cache folder of the user's that nobody else may write. This process
-becomes the emulator, so signals, the streams and the exit status are those of the program. docs/USING.md shows it in use.
+A C compiler builds the recorder once for each version, in a cache folder of the user's that nobody else may write. This
+process becomes the emulator, so signals, streams and the exit status are those of the program. docs/USING.md shows it
+in use.
 """
 import argparse
 import contextlib
@@ -41,7 +43,8 @@ PROGRAM runs (exec) are not recorded.
 Needs qemu-x86_64 (Debian's qemu-user) and, for its first call, a C compiler.
 The exit status is that of PROGRAM.""")
     add = made.add_argument
-    add("-o", "--output", metavar="FILE", default="recorded.txt", type=named, help="the recording (default: recorded.txt)")
+    add("-o", "--output", metavar="FILE", default="recorded.txt", type=named,
+        help="the recording (default: recorded.txt)")
     add("-c", "--period", metavar="N", default=PERIOD, type=at_least_one,
         help=f"take a sample every N taken branches (default: {PERIOD})")
     add("--depth", metavar="N", default=DEPTH, type=at_least_one,
@@ -57,7 +60,8 @@ def program_at(word: str) -> str:
     """The path of a program that the emulator can run."""
     path = word if "/" in word else shutil.which(word)
     if not path or not os.path.isfile(path):
-        raise Trouble(f"no such program: {word}", NO_FILE, f"./{word}" if "/" not in word and os.path.isfile(word) else "")
+        is_here = "/" not in word and os.path.isfile(word)
+        raise Trouble(f"no such program: {word}", NO_FILE, f"./{word}" if is_here else "")
     with open(path, "rb") as file:
         head = file.read(256)
     if head.startswith(b"#!"):
@@ -109,7 +113,8 @@ def cache_folder() -> str:
             os.mkdir(folder, 0o700)
         found = os.lstat(folder)
     except OSError as reason:
-        raise Trouble(f"{folder}: {reason.strerror}", WRITE_FAULT, "XDG_CACHE_HOME=FOLDER in front, a folder of yours") from None
+        raise Trouble(f"{folder}: {reason.strerror}", WRITE_FAULT,
+                      "XDG_CACHE_HOME=FOLDER in front, a folder of yours") from None
     if not stat.S_ISDIR(found.st_mode) or found.st_uid != os.geteuid() or found.st_mode & 0o022:
         raise Trouble(f"{folder} is no folder that you alone may write", FAILED,
                       "chmod 700, or XDG_CACHE_HOME=FOLDER in front, a folder of yours")
@@ -120,14 +125,16 @@ def compiled(code: bytes, folder: str) -> str:
     """A new file of the folder: the recorder, as the C compiler makes it."""
     compiler = shutil.which("cc") or shutil.which("gcc") or shutil.which("clang")
     if not compiler:
-        raise Trouble("there is no C compiler, which builds the recorder once", NO_PROGRAM, "Debian: apt-get install gcc libc6-dev")
+        raise Trouble("there is no C compiler, which builds the recorder once", NO_PROGRAM,
+                      "Debian: apt-get install gcc libc6-dev")
     handle, made = tempfile.mkstemp(prefix="recorder.", suffix=".new", dir=folder)
     os.close(handle)
     words = [compiler, "-O2", "-shared", "-fPIC", "-x", "c", "-o", made, "-"]
     try:
         ran = subprocess.run(words, input=code, capture_output=True, check=False, env={**os.environ, "LC_ALL": "C"})
         if ran.returncode:
-            said = next((line for line in text_of(ran.stderr).splitlines() if "error" in line), f"status {ran.returncode}")
+            errors = [line for line in text_of(ran.stderr).splitlines() if "error" in line]
+            said = errors[0] if errors else f"status {ran.returncode}"
             raise Trouble(f"{os.path.basename(compiler)} cannot build the recorder: {said}", FAILED,
                           "Debian: apt-get install gcc libc6-dev")
     except BaseException:
@@ -188,7 +195,8 @@ def work(argv: List[str]) -> int:
     judge_output(found.output, path)
     if not found.quiet:
         beside = os.path.join(os.path.dirname(sys.argv[0]), "pgo-profile")
-        words = ["pgo-profile" if shutil.which("pgo-profile") else beside, path, found.output, f"{os.path.basename(path)}.prof"]
+        maker = "pgo-profile" if shutil.which("pgo-profile") else beside
+        words = [maker, path, found.output, f"{os.path.basename(path)}.prof"]
         cli.say(f"recording to {found.output}; when the program has ended: {' '.join(map(shell_word, words))}")
     quiet = ",quiet=on" if found.quiet else ""
     call = f"{option(plugin)},out={option(found.output)},branches={found.period},depth={found.depth}{quiet}"

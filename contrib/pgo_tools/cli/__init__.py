@@ -10,7 +10,7 @@ import signal
 import sys
 import threading
 from types import FrameType
-from typing import BinaryIO, Callable, Iterator, List, NoReturn, Optional, Tuple
+from typing import BinaryIO, Callable, Iterator, List, Match, NoReturn, Optional, Tuple
 
 from pgo_tools.texts.names import printable
 
@@ -49,12 +49,20 @@ def name() -> str:
 
 
 def as_installed(text: str) -> str:
-    """The text with the names that commands and pages have in an installation, if the script is a part of one."""
-    share = os.path.dirname(os.path.dirname(os.path.realpath(sys.argv[0])))
-    if not os.path.isfile(f"{share}/made"):
+    """The text with the names that commands and pages have in an installation; one by pip has no pages."""
+    here = os.path.dirname(os.path.realpath(sys.argv[0]))
+    share = os.path.dirname(here)
+    has_pages = os.path.isfile(f"{share}/made")
+    if not has_pages and os.path.isdir(f"{here}/pgo_tools"):
         return text
     pages = os.path.join(os.path.dirname(share), "doc", "pgo", "docs")
-    return NAMED.sub(lambda found: f"{pages}/{found[2]}" if found[2] else f"pgo-{found[1].replace('pgo-', '')}", text)
+
+    def named(found: Match[str]) -> str:
+        if found[2]:
+            return f"{pages}/{found[2]}" if has_pages else found[0]
+        return f"pgo-{found[1].replace('pgo-', '')}"
+
+    return NAMED.sub(named, text)
 
 
 def say(what: str, helps: str = "") -> None:

@@ -1,4 +1,4 @@
-"""The clauses of `pgo_run::run` are those of the top call of both programs, word for word, and the calls of each part are there."""
+"""The clauses of both programs' `run` are those of the call that they share, word for word, and the calls of each part are there."""
 import re
 import unittest
 
@@ -42,19 +42,28 @@ CALLS = """
 def clauses(path, asked, answered):
     """The clauses of a file's top call by their names, where `asked` is what its words ask for and `answered` what they come to."""
     text = (TOP / path).read_text(encoding="utf-8")
-    head = text[re.search(r"^pub fn run\w*<", text, re.M).start():]
+    head = text[re.search(r"^pub(?:\(crate\))? fn run\w*<", text, re.M).start():]
     head = re.sub(r"//[^\n]*", "", head[:head.index("\n{\n")])
     head = " ".join(head.replace(answered, "ANSWER").replace(asked, "ASKED").replace("TheCommand", "Command").split())
     return {name: fact.strip() for name, fact in re.findall(r"ensures (\w+) \{(.*?)\}\s*(?=ensures|$)", head)}
 
 
 class Clauses(unittest.TestCase):
-    def test_pgo_promises_what_both_programs_do(self):
-        pgo = clauses("crates/pgo_run/src/program.rt", "command_of (texts_of words.now)", "answer_of files (texts_of words.now)")
+    def test_each_program_promises_what_both_do(self):
         both = clauses("crates/program_edge/src/top_call.rt", "P.asked (texts_of words.now)",
                        "answer_of_words files (P.asked (texts_of words.now))")
-        self.assertEqual(len(pgo), 16)
+        self.assertEqual(len(both), 16)
+        pgo = clauses("crates/pgo_run/src/program.rt", "command_of (texts_of words.now)", "answer_of files (texts_of words.now)")
         self.assertEqual(pgo, both)
+        cold = clauses("crates/pgo_cold/src/program.rt", "cold_of (texts_of words.now)",
+                       "answer_of_words files (cold_of (texts_of words.now))")
+        self.assertEqual(cold, both)
+
+    def test_each_main_calls_the_run_that_has_them(self):
+        for path, call in (("pgo_cli", "pgo_run::run"), ("pgo_cold", "program::run")):
+            with self.subTest(path):
+                text = (TOP / "crates" / path / "src" / "main.rt").read_text(encoding="utf-8")
+                self.assertRegex(text, rf"\) -> Status \{{\s*{call}\(alloc, words, inputs, out\)\s*\}}")
 
     def test_each_part_has_its_calls(self):
         for line in CALLS.strip().split("\n"):

@@ -9,19 +9,32 @@ from pathlib import Path
 
 TOP = Path(__file__).resolve().parents[2]
 
-# The wrong bodies that are never given up, whatever else is thinned out.
+# The wrong bodies that are never given up, whatever else is thinned out, by their crates.
 NAMED = {
-    "range_without_its_last_address", "newer_target_with_older_source", "sums_hits_of_a_location",
-    "no_inlines_below_a_lexical_block", "discriminator_outlives_its_row", "high_pc_is_always_an_address",
-    "drops_unmapped_branches", "lists_entries_as_unmapped", "raises_blocks_to_their_largest_neighbour",
-    "weights_as_counts", "checks_conservation_alone", "cut_for_every_loop", "zeros_as_every_repair",
-    "refuses_at_the_units_start", "always_a_read_fault", "always_a_write_fault", "always_usage",
-    "always_no_such_file", "always_one_refusal", "always_check_failed", "done_without_finish",
-    "done_after_a_failed_call", "writes_before_the_last_file_is_judged",
-    "samples_go_to_the_outermost_function",
+    "range_counts": {"range_without_its_last_address"},
+    "branch_counts": {"newer_target_with_older_source"},
+    "profile_lists": {"sums_hits_of_a_location"},
+    "inline_tree": {"no_inlines_below_a_lexical_block"},
+    "line_program": {"discriminator_outlives_its_row"},
+    "entry_facts": {"high_pc_is_always_an_address"},
+    "profile_report": {"drops_unmapped_branches"},
+    "branch_class": {"lists_entries_as_unmapped"},
+    "flow_balance": {"raises_blocks_to_their_largest_neighbour", "weights_as_counts", "zeros_as_every_repair", "cut_for_every_loop"},
+    "dual_check": {"checks_conservation_alone"},
+    "dwarf_info": {"refuses_at_the_units_start"},
+    "context_map": {"samples_go_to_the_outermost_function"},
+    "pgo_run": {"always_a_read_fault", "always_a_write_fault", "always_usage", "always_no_such_file", "always_one_refusal",
+                "always_check_failed", "done_after_a_failed_call", "writes_before_the_last_file_is_judged"},
+    "io_edge": {"done_without_finish"},
+    "pgo_cold": {"always_usage", "writes_the_plain_profile"},
 }
 # The one that a test refuses, since no clause says when memory is refused.
-TESTED = "good_words_are_done"
+TESTED = ("run_tests", "good_words_are_done")
+
+
+def named():
+    """The wrong bodies that are never given up, each as its crate and its name."""
+    return {(crate, name) for crate, names in NAMED.items() for name in names}
 
 
 def edits():
@@ -44,19 +57,15 @@ def parts(path):
 
 class Edits(unittest.TestCase):
     def test_named_wrong_bodies_stand(self):
-        stand = {path.stem for path in TOP.glob("crates/*/must-fail/*.edit")}
-        self.assertEqual(NAMED - stand, set())
-        tests = (TOP / "crates/run_tests/src/of_pgo_run.rt").read_text(encoding="utf-8")
-        self.assertIn(f"fn {TESTED}(", tests)
+        there = {(path.parts[-3], path.stem) for path in TOP.glob("crates/*/must-fail/*.edit")}
+        self.assertEqual(named() - there, set())
+        crate, test = TESTED
+        self.assertIn(f"fn {test}(", (TOP / f"crates/{crate}/src/of_pgo_run.rt").read_text(encoding="utf-8"))
 
     def test_the_table_of_promises_names_them(self):
         page = (TOP / "docs/PROMISES.md").read_text(encoding="utf-8")
         rows = re.findall(r"^\| [^|]+ \| `([a-z_]+)` \| `([a-z_]+)` \|", page, re.M)
-        self.assertEqual({edit for _, edit in rows} ^ (NAMED | {TESTED}), set())
-        for crate, edit in rows:
-            with self.subTest(edit=edit):
-                if edit != TESTED:
-                    self.assertTrue((TOP / f"crates/{crate}/must-fail/{edit}.edit").is_file())
+        self.assertEqual(sorted(rows), sorted(named() | {TESTED}))
 
     def test_each_can_be_applied(self):
         for crate, path in edits():

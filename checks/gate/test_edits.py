@@ -26,6 +26,7 @@ NAMED = {
     "pgo_run": {"always_a_read_fault", "always_a_write_fault", "always_usage", "always_no_such_file", "always_one_refusal",
                 "always_check_failed", "done_after_a_failed_call", "writes_before_the_last_file_is_judged"},
     "io_edge": {"done_without_finish"},
+    "program_edge": {"writes_another_text"},
     "pgo_cold": {"always_usage", "writes_the_plain_profile"},
 }
 # The one that a test refuses, since no clause says when memory is refused.

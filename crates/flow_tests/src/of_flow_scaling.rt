@@ -41,7 +41,9 @@ fn the_ledger_is_told_of_augmentations(rt: HostRuntime) {
         panic!(rt; "no counts");
     };
     assert_eq!(rt; cost(&net, &flow), 400);
-    assert!(rt; steps.ledger.ticks() > 0);
+    // At most 8 phases of 288: there are 4 blocks and 4 edges, and 100 has 7 digits.
+    let ticks = steps.ledger.ticks();
+    assert!(rt; 1 <= ticks && ticks <= 2304, "{ticks}");
 }
 
 /// The greatest weight with which a network fits.

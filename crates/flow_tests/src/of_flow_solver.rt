@@ -161,6 +161,19 @@ fn apart(
     Ok(net)
 }
 
+/// Block 0, which ran five times, and block 1, which lead to one another; no block is an exit.
+pub(crate) fn without_exit(alloc: Global) -> Result<Net, NoMemory> {
+    let blocks = vec![in alloc; block(false, FREE), block(false, FREE)]?;
+    let fun = Fun {
+        name: b"loop",
+        blocks: Items::new(blocks),
+        edges: Items::new(vec![in alloc; edge(0, 1), edge(1, 0)]?),
+    };
+    let weights = [Weight::Known(5), Weight::Known(0)];
+    let net = net_of(alloc, &fun, &weights, &[Weight::Unknown; 2])?;
+    Ok(net)
+}
+
 fn three() -> [Weight; 3]
     ensures { AreWeights 3 result }
 {

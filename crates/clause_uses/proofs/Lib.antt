@@ -1,1 +1,3 @@
 mod RunLemmas
+pub mod BranchLemmas
+pub mod WrittenLemmas

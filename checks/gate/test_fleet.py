@@ -118,7 +118,8 @@ class Engines(test_merge_tree.Tree):
         self.expect(self.run_here("sh", path, environment=environment), DONE)
         self.whole()
         log = (self.folder / "submitted").read_text().splitlines()
-        self.assertEqual([re.search("--array=(\\S+)", line)[1] for line in log], ["0-2", "0-2", "0-0", "0-2", "0-0"])
+        arrays = re.findall("--array=(\\S+)", "\n".join(log))
+        self.assertEqual(arrays, ["0-2", "0-2", "0-0", "0-2", "0-0"])
         found = [re.search("--dependency=(\\S+)", line) for line in log]
         self.assertEqual([match and match[1] for match in found], [None] * 3 + ["afterok:1:2:3", "afterok:4"])
 

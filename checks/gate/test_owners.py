@@ -4,6 +4,7 @@ import os
 import shutil
 import sys
 import unittest
+from typing import Sequence
 
 from common import DONE, FAILED, PGO, WRITE_FAULT, python
 import test_merge_tree
@@ -40,7 +41,8 @@ class Owners(test_merge_tree.Tree):
 
     def refused(self, pattern, *more, status=FAILED):
         """No call for the output believes anything of the tree."""
-        for words in (["--resume"], [], ["--plan=out.tree"]):
+        calls: Sequence[Sequence[str]] = (["--resume"], [], ["--plan=out.tree"])
+        for words in calls:
             with self.subTest(words=words):
                 self.tells(self.merge("-o", "out", "--part-size=3", *words, *self.files, *more), status, pattern)
                 self.nothing_out()
@@ -181,7 +183,8 @@ class Owners(test_merge_tree.Tree):
             "        os.rename('out.tree', 'away')", "        os.rename('new', 'out.tree')",
             "    except OSError: pass", ""]))
         fake = self.pgo_that(f"cd '{self.folder}' && '{sys.executable}' '{script}'")
-        for words in (["--resume"], []):
+        calls: Sequence[Sequence[str]] = (["--resume"], [])
+        for words in calls:
             ran = self.merge("-o", "out", "-j1", "--part-size=3", *words, *self.files, environment=fake)
             self.assertNotEqual(ran.status, DONE, ran.said)
             self.nothing_out()

@@ -4,8 +4,11 @@ within the bounds of growing.py.
 The families of make.py are tried in small here, and those of growing.py at two sizes; checks/by_hand/hostile times both at full size.
 """
 import contextlib
+import io
+import itertools
 import os
 import pathlib
+import random
 import re
 import shutil
 import struct
@@ -15,14 +18,15 @@ import time
 import unittest
 from unittest import mock
 
-from common import COLD, CONTRIB, DONE, PGO, REFUSED, TOP, Case, needs, takes
+from common import COLD, CONTRIB, DONE, PGO, REFUSED, TOP, WORDS, Case, needs, takes, within
 
 import growing
 import make
 
 sys.path.insert(0, str(CONTRIB))
-from pgo_tools.cli import Trouble, limits, programs  # noqa: E402
+from pgo_tools.cli import Trouble, files, limits, programs  # noqa: E402
 from pgo_tools.draw.source import places  # noqa: E402
+from pgo_tools.texts import block_text, profile_text  # noqa: E402
 
 SIZES = (1, 2, 7, 40)
 # In how many tests the families are tried, side by side.
@@ -144,6 +148,50 @@ class Tools(Case):
         with mock.patch.dict(os.environ, DEBUGINFOD_URLS="https://example.com"):
             self.assertEqual(self.limited("printenv", "DEBUGINFOD_URLS"), ([b""], 0))
             self.assertEqual(programs.answer("printenv", "DEBUGINFOD_URLS"), "\n")
+
+
+class PassedOver(Case):
+    """Lines that tell nothing: blank ones and comments are passed over without a step for each."""
+
+    PROFILE = b"main:3:1\n 1: 3\n"
+
+    def given(self, raw, wanted, most, piece):
+        """The lines, with "too large" where the text is, and how many there were."""
+        found = []
+        with mock.patch.multiple(files, MOST_TEXT=most, PIECE=piece):
+            lines = files.lines_of(io.BytesIO(raw), "text", wanted)
+            try:
+                found.extend(lines)
+            except Trouble:
+                return found + ["too large"], None
+        return found, lines.number
+
+    def test_the_same_lines_as_one_by_one(self):
+        draw = random.Random(1)
+        for wanted in (profile_text.TOLD, block_text.TOLD, None):
+            for _ in range(2000):
+                raw = bytes(draw.choice(b"\n\n #a\t\r") for _ in range(draw.randrange(30)))
+                most, lines = draw.choice([5, 29, 1000]), raw.splitlines(keepends=True) if b"\r" not in raw else None
+                if lines is None:
+                    lines = [line + b"\n" for line in raw.split(b"\n")]
+                    lines[-1] = lines[-1][:-1]
+                ends = list(itertools.accumulate(map(len, lines)))
+                told = [(n, line.rstrip(b"\n").decode()) for n, (line, end) in enumerate(zip(lines, ends), 1)
+                        if line and end <= most and (wanted is None or wanted.search(line.rstrip(b"\n")))]
+                found, number = self.given(raw, wanted, most, draw.choice([1, 2, 7, 100]))
+                whole = len(raw) <= most
+                self.assertEqual(found, told + ([] if whole else ["too large"]), raw)
+                self.assertEqual(number, sum(map(bool, lines)) if whole else None, raw)
+
+    def test_megabytes_of_them(self):
+        """A MB took more than a second of a processor."""
+        for line in (b"\n", b"#\n"):
+            much = self.file("much", line * (8 << 20 >> len(line) // 2) + self.PROFILE)
+            cfg = self.file("cfg", line * (8 << 20 >> len(line) // 2) + b"func f\nblock 0 0x401000 0x401010 exit\nend\n")
+            for words in (["compare", much, much], ["hot", much], ["lined", WORDS, cfg, "-o", "lined"]):
+                with self.subTest(line=line, words=words[0]):
+                    ran = self.run_here(*within("ulimit -t 6", CONTRIB / words[0], *words[1:]))
+                    self.assertEqual(ran.status, DONE, ran.said)
 
 
 # The families of growing.py that are known to be slow, with what is known; docs/LIMITS.md has their figures. These are tried in small

@@ -12,7 +12,7 @@ import subprocess
 import tempfile
 import threading
 import zlib
-from typing import IO, TYPE_CHECKING, BinaryIO, Iterable, Iterator, List, NamedTuple, Optional, Protocol, Tuple
+from typing import IO, TYPE_CHECKING, BinaryIO, Iterable, Iterator, List, NamedTuple, Optional, Pattern, Protocol, Tuple
 
 from pgo_tools.cli import READ_FAULT, REFUSED, USAGE, WRITE_FAULT, Trouble, given, undisturbed
 from pgo_tools.texts.names import text_of
@@ -37,6 +37,8 @@ FOREIGN = {
 HEAD = 512
 # A profile, a block text or a repair has at most so many bytes (docs/FORMATS.md).
 MOST_TEXT = 1 << 28
+# A text is read by pieces of so many bytes.
+PIECE = 1 << 18
 
 
 class Source(Protocol):
@@ -193,17 +195,66 @@ def opened(path: str) -> Opened:
     return Opened(os.fdopen(handle, "rb"), seen)
 
 
-def lines_of(file: IO[bytes], path: str) -> Iterator[Tuple[int, str]]:
+class Lines:
     """The lines of a stream of bytes as texts, without their line feeds, each with its number.
 
-    A packed one may have no end.
+    A packed one may have no end. Where `wanted` is a pattern, which begins with ^, only lines are given at which it matches, and
+    the others are passed over without a step for each. `number` is how many lines there were so far, those that were passed
+    over too.
     """
-    number, left = 0, MOST_TEXT
-    while line := file.readline(left + 1):
-        number, left = number + 1, left - len(line)
-        if left < 0:
-            raise too_large(path, MOST_TEXT)
-        yield number, text_of(line[:-1] if line.endswith(b"\n") else line)
+
+    def __init__(self, file: IO[bytes], path: str, wanted: Optional[Pattern[bytes]]) -> None:
+        self.file, self.path, self.wanted = file, path, wanted
+        self.number = 0
+        # Whole lines, and from where on they are still to be given; the front of the line behind them.
+        self.held, self.at, self.front = b"", 0, b""
+        self.left, self.is_over = MOST_TEXT, False
+
+    def __iter__(self) -> Iterator[Tuple[int, str]]:
+        return self
+
+    def fill(self) -> bool:
+        """Reads on up to the end of a line, or of the stream; False where nothing is left."""
+        pieces = [self.front]
+        while True:
+            piece = b"" if self.is_over else self.file.read(min(PIECE, self.left + 1))
+            if len(piece) > self.left:
+                piece, self.is_over = piece[: self.left], True
+            elif not piece:
+                if self.is_over:
+                    raise too_large(self.path, MOST_TEXT)
+                self.held, self.at, self.front = b"".join(pieces), 0, b""
+                return bool(self.held)
+            self.left -= len(piece)
+            cut = piece.rfind(b"\n") + 1
+            if cut:
+                self.held, self.at, self.front = b"".join([*pieces, piece[:cut]]), 0, piece[cut:]
+                return True
+            pieces.append(piece)
+
+    def __next__(self) -> Tuple[int, str]:
+        while True:
+            if self.at >= len(self.held) and not self.fill():
+                raise StopIteration
+            if self.wanted is not None:
+                found = self.wanted.search(self.held, self.at)
+                at = found.start() if found else len(self.held)
+                self.number += self.held.count(b"\n", self.at, at)
+                if at == len(self.held):
+                    self.number += not self.held.endswith(b"\n")
+                    self.at = at
+                    continue
+                self.at = at
+            end = self.held.find(b"\n", self.at)
+            end = len(self.held) if end < 0 else end
+            line, self.at = self.held[self.at : end], end + 1
+            self.number += 1
+            return self.number, text_of(line)
+
+
+def lines_of(file: IO[bytes], path: str, wanted: Optional[Pattern[bytes]] = None) -> Lines:
+    """The lines of a stream; of those that are passed over, see `Lines`."""
+    return Lines(file, path, wanted)
 
 
 def target_of(path: str, inputs: Iterable[str] = ()) -> str:

@@ -11,6 +11,8 @@ BLOCK = re.compile(r"block ([0-9]+) 0x([0-9a-fA-F]+) 0x([0-9a-fA-F]+)( exit)?((?
 EDGE = re.compile(r"edge ([0-9]+) ([0-9]+)((?: [^ ]+)*)")
 LIMIT = re.compile(r"(?: lo=([0-9]+))?(?: hi=([0-9]+))?")
 MOST_BLOCKS, MOST_EDGES = 65536, 262144
+# The start of a line that is neither blank nor a comment.
+TOLD = re.compile(rb"^(?!#|[ \t]*$)", re.M)
 
 
 class Bound(NamedTuple):
@@ -75,9 +77,9 @@ def refused(path: str, number: int, kind: str) -> Trouble:
 
 def functions(file: IO[bytes], path: str = "the block text") -> Iterator[Function]:
     """Each function of a stream of bytes; a Trouble at the first bad line."""
-    number = 0
     function: Optional[Function] = None
-    for number, line in lines_of(file, path):
+    lines = lines_of(file, path, TOLD)
+    for number, line in lines:
         fields = re.split("[ \t]+", line.strip(" \t"))
         if line.startswith("#") or fields == [""]:
             continue
@@ -90,7 +92,7 @@ def functions(file: IO[bytes], path: str = "the block text") -> Iterator[Functio
         elif kind:
             raise refused(path, number, kind)
     if function:
-        raise refused(path, number + 1, "NoEndLine")
+        raise refused(path, lines.number + 1, "NoEndLine")
 
 
 def add(function: Optional[Function], line: str, fields: List[str]) -> Optional[str]:

@@ -12,6 +12,8 @@ from pgo_tools.cli.files import lines_of
 from pgo_tools.texts.numbers import number_of
 
 MOST_SPACES = 256
+# The start of a line that is neither blank nor a comment.
+TOLD = re.compile(rb"^(?! *#|[ \t]*$)", re.M)
 NAME = r"[^\x00-\x20\x7f:#!0-9][^\x00-\x20\x7f:]*"
 FUNCTION = re.compile(rf"({NAME}):([0-9]+):([0-9]+)")
 BODY = re.compile(rf"([0-9]+)(?:\.([0-9]+))?: ([0-9]+)((?: {NAME}:[0-9]+)*)")
@@ -128,7 +130,7 @@ def entries(file: IO[bytes], path: str = "the profile") -> Iterator[Entry]:
     Lines that are there twice are not looked for: `read` does that.
     """
     opened = 0
-    for number, line in lines_of(file, path):
+    for number, line in lines_of(file, path, TOLD):
         shown = line.lstrip(" ")
         if not line.strip(" \t") or shown.startswith("#"):
             continue

@@ -12,6 +12,8 @@ from pgo_tools.texts.numbers import number_of
 
 NUMBER = "[0-9]+"
 WEIGHT = rf"(\?|{NUMBER})"
+# The start of a repair: other lines between repairs are passed over.
+FRONT = re.compile(rb"^# function ", re.M)
 FUNCTION = re.compile(r"# function ([^ ]+) (?:(flow)|cut ([01]))")
 FLOW_BLOCK = re.compile(rf"# block ({NUMBER}) weight {WEIGHT} count ({NUMBER}) in (-?{NUMBER}) out (-?{NUMBER})")
 CUT_BLOCK = re.compile(rf"# block ({NUMBER}) weight {WEIGHT} in ([01]) out ([01])")
@@ -59,11 +61,9 @@ def weight_of(text: Optional[str]) -> Optional[int]:
 
 def functions(file: IO[bytes], path: str = "the repair") -> Iterator[Repair]:
     """Each repair of a stream of bytes, in its order; a Trouble at the first line that is none of a repair."""
-    number = 0
     repair: Optional[Repair] = None
-    for number, line in lines_of(file, path):
-        if repair is None and not line.startswith("# function "):
-            continue
+    lines = lines_of(file, path, FRONT)
+    for number, line in lines:
         shown = " ".join(re.split("[ \t]+", line.strip(" \t")))
         if repair is None:
             match = FUNCTION.fullmatch(shown)
@@ -79,6 +79,7 @@ def functions(file: IO[bytes], path: str = "the repair") -> Iterator[Repair]:
         if repair.end is not None:
             yield repair
             repair = None
+        lines.wanted = FRONT if repair is None else None
     if repair:
         what = f"the repair of {repair.name} is not whole"
         raise Trouble(f"{path}: {what}", REFUSED, "give what `pgo build` wrote, to its end")

@@ -9,8 +9,8 @@ use Rattle.repair_model.specs.Repair.{Repair, Solution}
 use Rattle.report_model.specs.Report.{Sampled}
 
 -- The repair of the function at a place, of those that a text tells of functions.
-abbrev pub repair_at : {K : Type 0} (key : ℕ → Option K) (count : K → ℕ) (edges : Option EdgeTold) (funs : List Function)
-    (text : List ℕ) → AreRepairsOf key count edges funs text → ℕ → Option Repair
+abbrev pub repair_at : {K : Type 0} (key : ℕ → Option K) (count : K → ℕ) (edges : Option EdgeTold)
+    (funs : List Function) (text : List ℕ) → AreRepairsOf key count edges funs text → ℕ → Option Repair
 repair_at key count edges [] text are n = None
 repair_at key count edges (fun ∷ funs) text are zero = Some are.3.repair
 repair_at key count edges (fun ∷ funs) text are (suc n) = repair_at key count edges funs are.1 are.4 n

@@ -5,6 +5,7 @@ import itertools
 import json
 import random
 import sys
+import time
 import unittest
 
 from common import BLOCKS, CONTRIB, MISSING, PGO, REFUSED, TEXT, WORDS, BAD_WORDS, Case, needs, run
@@ -100,6 +101,19 @@ class Orders(unittest.TestCase):
         blocks = range(100)
         row = block_order.ordered(dict.fromkeys(blocks, 4), {(0, it): it for it in blocks[1:]}, 0)
         self.assertEqual(row[:2], [0, 99])
+
+
+    def test_a_hub_and_a_switch_of_a_thousand_blocks(self):
+        """All neighbours of a chain were tried at each of its joins: 24 and 19 seconds of a processor."""
+        blocks = range(1000)
+        hub = {end: block for block in blocks[1:] for end in ((0, block), (block, 0))}
+        switch = {end: block for block in blocks[1:-1] for end in ((0, block), (block, 999))}
+        for name, edges in (("hub", hub), ("switch", switch)):
+            with self.subTest(name):
+                begun = time.process_time()
+                row = block_order.ordered(dict.fromkeys(blocks, 8), edges, 0)
+                self.assertLess(time.process_time() - begun, 8)
+                self.assertEqual((row[0], sorted(row)), (0, list(blocks)))
 
 
 @needs("clang-19", "ld.lld-19", "llvm-readobj-19")

@@ -11,6 +11,9 @@ FORWARD, BACKWARD, SHORT = 1024, 640, 0.1
 # Chains of so many blocks at most are taken apart for another one, and functions of so many are ordered by more than
 # sure neighbours.
 MOST_APART, MOST_BLOCKS = 32, 1024
+# So many jumps are looked at in all tries of a function; behind that chains stay apart. Of a chain that has more neighbours than
+# these the heaviest are tried.
+MOST_LOOKS, MOST_NEAR = 1 << 20, 64
 
 
 # How often control went from each block to each.
@@ -101,7 +104,7 @@ class Order:
     """The chains of a function's blocks, which become one row. `entry` stands first."""
 
     def __init__(self, sizes: Mapping[int, int], edges: Edges, entry: int) -> None:
-        self.sizes, self.entry = sizes, entry
+        self.sizes, self.entry, self.looks = sizes, entry, MOST_LOOKS
         self.chains = {block: Chain([block], sizes) for block in sizes}
         self.of = {block: block for block in sizes}
         self.jumps: Dict[int, List[Jump]] = collections.defaultdict(list)
@@ -137,13 +140,20 @@ class Order:
         self.of = {block: name for name, chain in self.chains.items() for block in chain.row}
 
     def near(self, name: int) -> List[int]:
-        """The chains that jumps lead to or from, in order."""
-        found = {self.of[far_end(jump, block)] for block in self.chains[name].row for jump in self.jumps[block]}
-        return sorted(found - {name})
+        """The chains that jumps lead to or from, in order; of many the heaviest."""
+        found: Counter[int] = collections.Counter()
+        for block in self.chains[name].row:
+            self.looks -= len(self.jumps[block])
+            for jump in self.jumps[block]:
+                found[self.of[far_end(jump, block)]] += jump.times
+        del found[name]
+        heaviest = sorted(found, key=lambda it: (-found[it], it))[:MOST_NEAR] if len(found) > MOST_NEAR else found
+        return sorted(heaviest)
 
     def between(self, one: int, other: int) -> List[Jump]:
         """The jumps between two chains."""
         small, large = sorted((self.chains[one], self.chains[other]), key=lambda it: len(it.row))
+        self.looks -= sum(len(self.jumps[block]) for block in small.row)
         return [jump for block in small.row for jump in self.jumps[block] if far_end(jump, block) in large.at]
 
     def gain(self, outer: Chain, inner: Chain, place: int, jumps: Iterable[Jump]) -> float:
@@ -157,6 +167,7 @@ class Order:
 
         gained: float = sum(value(start(head) - start(tail) - self.sizes[tail], times) for tail, head, times in jumps)
         if 0 < place < len(outer.row):
+            self.looks -= len(outer.jumps)
             for tail, head, times in outer.jumps:
                 if (outer.place[tail] < place) != (outer.place[head] < place):
                     gained += value(start(head) - start(tail) - self.sizes[tail], times)
@@ -183,6 +194,9 @@ class Order:
         turns: Counter[int] = collections.Counter()
 
         def put(one: int, other: int) -> None:
+            if self.looks < 0:
+                return
+            self.looks -= 1
             gained, row = self.best(one, other)
             if row:
                 heapq.heappush(waiting, Try(-gained, one, other, turns[one], turns[other], row))

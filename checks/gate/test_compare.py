@@ -80,8 +80,10 @@ class Compare(Case):
         self.file("comments", "# ranges 1\n")
         self.file("heads", "main:0:5\n")
         self.file("bad", "main:1:1\n 1: 2\r\n")
+        self.file("cut", "main:10:1\n 1: 10\n 2")
         self.file("packed", gzip.compress(OLD.encode()))
         for words, status, said in (
+            (["old", "cut"], REFUSED, r"cut: refused at 3: BadLine what helps: it is the last line, and was cut off: take it away \(sed '\$d'\)"),
             (["old", "gone"], MISSING, "gone"), (["gone", "new"], MISSING, "gone"), (["old", "empty"], FAILED, "empty: the profile is empty"),
             (["comments", "new"], FAILED, "comments: the profile is empty"), (["heads", "new"], FAILED, "heads: the profile is empty"),
             (["old", "bad"], REFUSED, "bad: refused at 2: BadLine"), (["old", "."], READ_FAULT, "directory"), (["old"], BAD_WORDS, "usage"),

@@ -51,6 +51,10 @@ class Source(Protocol):
         """Ends the reading."""
 
 
+class CutLine(str):
+    """A last line that has no line feed, as of a text that was cut off."""
+
+
 class Opened(NamedTuple):
     """A file that is open, and what the system knows of it."""
 
@@ -246,10 +250,11 @@ class Lines:
                     continue
                 self.at = at
             end = self.held.find(b"\n", self.at)
-            end = len(self.held) if end < 0 else end
+            is_cut = end < 0
+            end = len(self.held) if is_cut else end
             line, self.at = self.held[self.at : end], end + 1
             self.number += 1
-            return self.number, text_of(line)
+            return self.number, CutLine(text_of(line)) if is_cut else text_of(line)
 
 
 def lines_of(file: IO[bytes], path: str, wanted: Optional[Pattern[bytes]] = None) -> Lines:

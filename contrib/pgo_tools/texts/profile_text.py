@@ -8,7 +8,7 @@ import re
 from typing import IO, Dict, Iterator, List, NamedTuple, Optional, Tuple, Union
 
 from pgo_tools.cli import REFUSED, Trouble
-from pgo_tools.cli.files import lines_of
+from pgo_tools.cli.files import CutLine, lines_of
 from pgo_tools.texts.numbers import number_of
 
 MOST_SPACES = 256
@@ -95,13 +95,16 @@ LOOKS = [(re.compile(form), said) for form, said in [
 OTHERWISE = "a profile's text, as pgo prints it; of one in binary form llvm-profdata merge --sample --text makes one"
 
 
-def remedy(line: str) -> str:
+CUT = "it is the last line, and was cut off: take it away (sed '$d'), or make the profile again"
+
+
+def remedy(line: str, is_cut: bool = False) -> str:
     """What helps with a bad line, by how it looks."""
-    return next((said for form, said in LOOKS if form.match(line)), OTHERWISE)
+    return next((said for form, said in LOOKS if form.match(line)), CUT if is_cut else OTHERWISE)
 
 
-def refused(path: str, number: int, kind: str, line: str = "") -> Trouble:
-    return Trouble(f"{path}: refused at {number}: {kind}", REFUSED, remedy(line) if kind == "BadLine" else "")
+def refused(path: str, number: int, kind: str, line: str = "", is_cut: bool = False) -> Trouble:
+    return Trouble(f"{path}: refused at {number}: {kind}", REFUSED, remedy(line, is_cut) if kind == "BadLine" else "")
 
 
 def parsed(depth: int, line: str) -> Optional[Said]:
@@ -137,7 +140,7 @@ def entries(file: IO[bytes], path: str = "the profile") -> Iterator[Entry]:
         depth = len(line) - len(shown)
         said = parsed(depth, shown)
         if said is None:
-            raise refused(path, number, "BadLine", line[:4096])
+            raise refused(path, number, "BadLine", line[:4096], number > 1 and isinstance(line, CutLine))
         if depth > MOST_SPACES:
             raise refused(path, number, "TooDeep")
         if depth > opened:

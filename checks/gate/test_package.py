@@ -29,7 +29,7 @@ class Package(Case):
         # pip builds in the folder of the sources.
         sources = self.folder / "sources"
         shutil.copytree(TOP / "contrib", sources / "contrib", ignore=shutil.ignore_patterns("__pycache__", "*.egg-info"))
-        for name in ("pyproject.toml", "setup.py", "README.md", "LICENSE", "crates/pgo_cli/src/about.rt"):
+        for name in ("pyproject.toml", "setup.py", "README.md", "LICENSE", "crates/pgo_cli/src/about.rt", "bench/repair/recorder.c"):
             self.file(f"sources/{name}", (TOP / name).read_bytes())
         self.passes(run(python, "-m", "venv", "--without-pip", "--system-site-packages", self.folder / "venv"))
         words = ["--no-build-isolation", "--no-index", "--no-deps", "--disable-pip-version-check", "--quiet"]
@@ -46,7 +46,12 @@ class Package(Case):
         for name in sorted(commands):
             with self.subTest(name):
                 by_pip, by_make = (run(self.folder / place / name, "--help") for place in ("venv/bin", "stage/usr/bin"))
-                self.expect(by_pip, DONE, by_make.out)
+                self.assertEqual((by_pip.status, by_pip.err), (DONE, b""))
+                self.assertEqual(by_pip.out.splitlines()[0], by_make.out.splitlines()[0])
+
+    def test_the_recorder_is_there(self) -> None:
+        source = self.folder / "venv" / "share" / "pgo" / "recorder.c"
+        self.assertEqual(source.read_bytes(), (TOP / "bench" / "repair" / "recorder.c").read_bytes())
 
     def test_the_version_is_that_of_the_program(self) -> None:
         code = "import importlib.metadata; print('pgo', importlib.metadata.version('pgo-tools'))"

@@ -71,7 +71,6 @@ def parts(program, *tried):
             part()
 
         test.__doc__ = part.__doc__
-        test.takes = getattr(part, "takes", 0)
-        return test
+        return common.takes(common.seconds_of(part, part))(test)
 
     return type("Parts", (unittest.TestCase,), {f"test_{part.__name__}": test_of(part) for part in tried})

@@ -8,7 +8,7 @@ import re
 import struct
 
 import make
-from common import TOP
+from common import TOP, takes
 from judging import BAD_WORDS, DONE, FAILED, MISSING, REFUSED, USAGE, judge, run
 
 # The generated binaries of one function and of two: `f0000` with a call of `g` inlined into it, and `f0001` behind it.
@@ -1289,7 +1289,7 @@ def large():
     )
 
 
-large.takes = 20
+takes(20)(large)
 
 PARTS = [
     places, range_lists, other_places, chains, chained_profiles, refusals, words, profiles, touched, reports, bases_and_loads, builds,

@@ -5,6 +5,7 @@ which sums.py says what has to come.
 """
 import collections
 
+import common
 import judging
 import make
 import sums
@@ -252,7 +253,7 @@ def size_limit():
     judge("the end of 2^28 bytes", refusal(1, 134217728, b"BadLine"), ["merge", "1", "p1"], p1=blank[:-1] + b"z")
 
 
-size_limit.takes = 20
+common.takes(20)(size_limit)
 
 # Texts at random.
 KINDS = collections.Counter()

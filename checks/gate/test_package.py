@@ -46,8 +46,7 @@ class Package(Case):
         for name in sorted(commands):
             with self.subTest(name):
                 by_pip, by_make = (run(self.folder / place / name, "--help") for place in ("venv/bin", "stage/usr/bin"))
-                self.assertEqual((by_pip.status, by_pip.err), (DONE, b""))
-                self.assertEqual(by_pip.out.splitlines()[0], by_make.out.splitlines()[0])
+                self.expect(by_pip, DONE, by_make.out)
 
     def test_the_recorder_is_there(self) -> None:
         source = self.folder / "venv" / "share" / "pgo" / "recorder.c"

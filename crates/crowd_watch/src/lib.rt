@@ -1,9 +1,10 @@
-//! What keeps the tables of names, keys and branches quick, whatever their values are.
+//! Hash tables that take another key where the hashes of their values cluster.
 //!
-//! A table finds a value by its hash, and whoever makes a file can try values until their hashes
-//! agree. So hashes go by a key, and a `Watch` looks where those of new values fall: where they
-//! crowd it gives the table another key, made of the hashes of all values so far, which a file that
-//! was made for the one before does not fit. What a table holds stays the same.
+//! A table finds a value by its hash, and whoever makes a file can search for values whose hashes
+//! agree. So each hash depends on a key, and a `Watch` counts where the hashes of new values fall.
+//! Where they cluster it gives the table another key, made of the hashes of all values so far,
+//! under which values that agreed by chance no longer do. Names can be built that agree under every
+//! key (docs/LIMITS.md). A table holds the same values under any key; no clause speaks of the time.
 #![tactic(auto)]
 
 mod keyed;

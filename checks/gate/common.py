@@ -249,6 +249,16 @@ class Case(unittest.TestCase):
         path.write_bytes(content.encode() if isinstance(content, str) else content)
         return path
 
+    def only_tools(self, *names: str) -> Dict[str, str]:
+        """Returns the environment whose PATH has these tools alone, with the Python that runs here: `python3` may be a script (pyenv)."""
+        folder = self.folder / "tools"
+        folder.mkdir(exist_ok=True)
+        for name in names:
+            found = sys.executable if name == "python3" else shutil.which(name)
+            self.assertIsNotNone(found, f"there is no {name}")
+            (folder / name).symlink_to(found)
+        return {"PATH": str(folder)}
+
     def run_here(self, *words, **how) -> Ran:
         """Runs a program in the case's folder."""
         return run(*words, folder=how.pop("folder", self.folder), **how)

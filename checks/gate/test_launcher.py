@@ -191,11 +191,9 @@ class Releases(Launcher):
         self.assertEqual(self.call().status, 7)
 
     def test_without_sha256sum(self):
-        tools = self.folder / "tools"
-        tools.mkdir()
-        for tool in ("sh", "readlink", "find", "xargs", "stat", "cmp", "sort", "awk", "cut", "date", "mktemp", "mkdir", "mv", "cat", "rm"):
-            (tools / tool).symlink_to(shutil.which(tool))
-        self.refuses(126, "there is no sha256sum.*It runs without: release/pgo", path=str(tools))
+        tools = self.only_tools(
+            "sh", "readlink", "find", "xargs", "stat", "cmp", "sort", "awk", "cut", "date", "mktemp", "mkdir", "mv", "cat", "rm")
+        self.refuses(126, "there is no sha256sum.*It runs without: release/pgo", path=tools["PATH"])
 
 
 class Sources(Launcher):

@@ -186,11 +186,8 @@ class Forms(Profiles):
 
     def test_a_recording_without_perf(self):
         path = self.recording()
-        os.mkdir(self.folder / "bin")
-        for tool in ("python3", "env"):
-            os.symlink(shutil.which(tool), self.folder / "bin" / tool)
         self.judge(4, "at 1: BadLine.*it is a recording: perf script -i perf.data .*there is no perf here", WORDS, path.name,
-                   environment={"PATH": str(self.folder / "bin")})
+                   environment=self.only_tools("python3", "env"))
 
     def test_a_recording_of_another_user(self):
         """A stand-in for perf says what perf says of such a file, and the remedy has the option that it asks for."""
@@ -645,10 +642,7 @@ class Information(Profiles):
     @needs("cc", "objcopy", "strip")
     def test_without_tools(self):
         self.set_up("-gz")
-        bare = {"PATH": str(self.folder / "bin")}
-        os.mkdir(self.folder / "bin")
-        for tool in ("python3", "env"):
-            os.symlink(shutil.which(tool), self.folder / "bin" / tool)
+        bare = self.only_tools("python3", "env")
         self.judge(4, "Compressed.*objcopy --decompress-debug-sections program program.plain", "program", TEXT, environment=bare)
         self.run_here("strip", "-o", "stripped", "program")
         self.judge(1, "has no debugging information", "stripped", TEXT)

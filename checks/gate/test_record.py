@@ -6,7 +6,6 @@ import shutil
 import signal
 import stat
 import subprocess
-import sys
 import time
 
 from common import BAD_WORDS, CONTRIB, DONE, FAILED, MISSING, REFUSED, TOP, WRITE_FAULT, Case, needs, run
@@ -95,18 +94,14 @@ class Record(Case):
         self.assertEqual([stat.S_IMODE(path.stat().st_mode) for path in (first.parent, first)], [0o700, 0o700])
         when = first.stat().st_mtime_ns
         # Without a compiler, too.
-        tools = self.folder / "tools"
-        tools.mkdir()
-        for name in ("qemu-x86_64", "env"):
-            (tools / name).symlink_to(shutil.which(name))
-        (tools / "python3").symlink_to(sys.executable)
-        ran = self.record("-q", "./own", environment={"PATH": str(tools)})
+        tools = self.only_tools("qemu-x86_64", "env", "python3")
+        ran = self.record("-q", "./own", environment=tools)
         self.assertEqual(ran.status, DONE, ran.said)
         self.assertEqual([(path, path.stat().st_mtime_ns) for path in self.built()], [(first, when)])
         shutil.rmtree(self.cache)
-        self.refused(NO_PROGRAM, "there is no C compiler", "./own", environment={"PATH": str(tools)})
-        (tools / "qemu-x86_64").unlink()
-        self.refused(NO_PROGRAM, "there is no qemu-x86_64", "./own", environment={"PATH": str(tools)})
+        self.refused(NO_PROGRAM, "there is no C compiler", "./own", environment=tools)
+        (self.folder / "tools" / "qemu-x86_64").unlink()
+        self.refused(NO_PROGRAM, "there is no qemu-x86_64", "./own", environment=tools)
 
     def test_a_folder_that_others_may_write_is_not_used(self):
         (self.cache / "pgo").mkdir(parents=True)

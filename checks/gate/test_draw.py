@@ -216,6 +216,21 @@ class Strangers(Case):
         self.assertEqual(self.run_here(SCRIPT, shown, "built").out, ran.out)
         self.tells(self.run_here(SCRIPT, "json::Value::push", "built"), FAILED, "it has no function json::Value::push; ")
 
+    def test_names_that_hot_cuts(self):
+        """Arguments that are cut away, and two names that show where they differ."""
+        one, other = (f"_ZN4json5Value4pushE{'St4pairIiiE' * 8}{end}" for end in "il")
+        self.file("built", repair(one, 1, []) + repair(other, 1, []))
+        ran = self.run_here(SCRIPT, one, "built")
+        if b"json::Value::push" not in ran.out:
+            self.skipTest("there is no demangler")
+        self.tells(self.run_here(SCRIPT, "json::Value::push(..)", "built"), FAILED, "several functions are called ")
+        profile = self.file("prof", "".join(f"{name}:5:1\n 1: 5\n" for name in (one, other)))
+        lines = self.run_here(CONTRIB / "hot", profile).out.decode().split("\n")
+        shown = [line.split("1  ", 1)[1] for line in lines if " 1  json" in line]
+        self.assertEqual(len(set(shown)), 2, lines)
+        for name, mangled in zip(shown, (one, other)):
+            self.assertEqual(self.run_here(SCRIPT, name, "built").out, self.run_here(SCRIPT, mangled, "built").out)
+
 
 class Pictures(Case):
     def test_the_text_of_an_edge_to_its_own_block_is_covered_by_no_block(self):

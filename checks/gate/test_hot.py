@@ -4,8 +4,10 @@ import os
 import pathlib
 import random
 import re
+import shutil
 import signal
 import subprocess
+import sys
 import time
 
 from common import (BAD_WORDS, BLOCKS, CONTRIB, DONE, FAILED, HERE, MISSING, PGO, REFUSED, TEXT, TOP, WORDS, WRITE_FAULT, Case, into_closed_pipe,
@@ -52,6 +54,83 @@ class Tables(Case):
 
     def test_what_llvm_profgen_says_of_functions_is_passed_over(self):
         self.assertEqual(self.run_here(SCRIPT, self.file("gen", "f:5:1\n 1: 5\n !CFGChecksum: 7\n !Attributes: 1\n")).status, DONE)
+
+
+class Names(Case):
+    """Demangled names: what is cut of them, and what never is. Stand-ins for demanglers say what each name is."""
+
+    LONG = "std::map<std::string, std::vector<int> >"
+
+    def shown(self, names, *words, tool="llvm-cxxfilt"):
+        """The functions that are printed where these are what a demangler makes of _Z0, _Z1 and so on."""
+        mangled = [name if name.startswith("_") else f"_Z{k}" for k, name in enumerate(names)]
+        known = names if isinstance(names, dict) else dict(zip(mangled, names))
+        stand_in = self.file(f"bin/{tool}", f"#!{sys.executable}\nimport sys\nfor it in sys.stdin:\n    print({known!r}.get(it.strip(), it.strip()))\n")
+        stand_in.chmod(0o755)
+        profile = self.file("prof", "".join(f"{name}:{100 - k}:1\n 1: {100 - k}\n" for k, name in enumerate(mangled)))
+        ran = self.run_here(SCRIPT, *words, profile, environment={"PATH": f"{stand_in.parent}:{os.environ['PATH']}"})
+        self.assertEqual((ran.status, ran.said), (DONE, ""))
+        if "--json" in words:
+            return [it["shown"] for it in json.loads(ran.out)["functions"]]
+        return re.findall(r"(?m)^ *[0-9.]+% +[0-9]+ +1  (.*)$", ran.out.decode())
+
+    def test_arguments_are_cut_first(self):
+        for whole, short in (
+            (f"app::Store::put({self.LONG} const&, int)", "app::Store::put(..)"),
+            (f"app::Store::put({self.LONG} const&, int) const", "app::Store::put(..) const"),
+            (f"void app::Store::put<int>({self.LONG} const&, int)", "void app::Store::put<int>(..)"),
+            (f"{self.LONG} app::Store::put<int>({self.LONG} const&, int)", "app::Store::put<int>(..)"),
+            (f"{self.LONG} app::Store<{self.LONG}>::put<int>({self.LONG})", "app::Store<..>::put<..>(..)"),
+            (f"(anonymous namespace)::Store::put({self.LONG} const&)", "(anonymous namespace)::Store::put(..)"),
+            (f"app::operator<< <char>({self.LONG} const&, std::ostream&)", "app::operator<< <char>(..)"),
+            (f"app::Store::operator()({self.LONG} const&, std::ostream&)", "app::Store::operator()(..)"),
+            (f"app::Store<{self.LONG}>::operator bool({self.LONG}) const", "app::Store<..>::operator bool(..) const"),
+            (f"app::Store::operator->({self.LONG} const&, std::ostream&)", "app::Store::operator->(..)"),
+            (f"app::Store::put({self.LONG} const&, int) (.cold)", "app::Store::put(..) (.cold)"),
+            (f"app::Store::put({self.LONG} const&, int)::{{lambda({self.LONG})#1}}::operator()(int) const",
+             "app::Store::put(..)::{lambda(..)#1}::operator()(..) const"),
+            (f"{'deep::' * 20}Store::put({self.LONG})", "..::" + "deep::" * 7 + "Store::put(..)"),
+            (f"<app::Store as core::iter::FromIterator<{self.LONG}, alloc::Global>>::from_iter", "<..>::from_iter"),
+        ):
+            with self.subTest(whole):
+                self.assertEqual(self.shown([whole]), [short])
+                self.assertEqual(self.shown([whole], "--wide"), [whole])
+                self.assertEqual(self.shown([whole], "--json"), [whole])
+
+    def test_names_that_fit_are_whole(self):
+        names = ["app::Store::put(int)", "app::Store::put(long)", "f(", "a > b", "operator", "<", "main"]
+        self.assertEqual(self.shown(names), names)
+
+    def test_brackets_that_do_not_pair(self):
+        for name in ("f(" + "x" * 80, "f" * 80 + ">", "(" * 90, "a<(" * 40 + ">)" * 20):
+            with self.subTest(name):
+                (shown,) = self.shown([name])
+                self.assertEqual((len(shown), shown[:4], shown[-4:]), (60, name[:4], name[-4:]))
+
+    def test_names_that_would_be_alike_are_told_apart(self):
+        kinds = ("int", "long", "short")
+        shown = self.shown([f"app::Store::put({self.LONG} const&, {kind})" for kind in kinds])
+        self.assertEqual(shown, [f"app::Store::put(..) [..const&, {kind})]" for kind in kinds])
+        handlers = [f"std::_Function_handler<void (), app::run({self.LONG})::{{lambda()#{k}}}>::_M_invoke(std::_Any_data const&)" for k in (1, 2)]
+        self.assertEqual(self.shown(handlers), [f"..::_Function_handler<..>::_M_invoke(..) [..ambda()#{k}}}>::..]" for k in (1, 2)])
+
+    def test_two_names_that_are_demangled_alike(self):
+        for words in ([], ["--wide"]):
+            self.assertEqual(self.shown(["app::Store::Store()"] * 2, *words), ["app::Store::Store() [_Z0]", "app::Store::Store() [_Z1]"])
+
+    def test_rust_names_by_rustfilt(self):
+        names = {"_ZN3app5store17h0123456789abcdefE": "app::store", "_RNvC3app4main": "app::main"}
+        self.assertEqual(self.shown(names, tool="rustfilt"), ["app::store", "app::main"])
+
+    @needs("c++filt")
+    def test_without_another_demangler(self):
+        """c++filt alone is on the PATH, with what the script needs."""
+        path = self.folder / "only"
+        path.mkdir()
+        for name in ("c++filt", "python3", "env"):
+            (path / name).symlink_to(shutil.which(name))
+        profile = self.file("prof", "_ZN3app5Store3putEi:5:1\n 1: 5\n")
+        self.assertIn(b"app::Store::put(int)", self.run_here(SCRIPT, profile, environment={"PATH": str(path)}).out)
 
 
 class Libraries(Case):

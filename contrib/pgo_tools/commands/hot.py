@@ -12,7 +12,7 @@ from typing import List, NoReturn, Optional
 from pgo_tools import cli
 from pgo_tools.reports import hot
 
-USAGE = "%(prog)s [--bin BIN] [--source FOLDER] [--top N] [--blocks CFG] [--json] PROFILE"
+USAGE = "%(prog)s [--bin BIN] [--source FOLDER] [--top N] [--blocks CFG] [--wide] [--json] PROFILE"
 
 
 class Words(argparse.Namespace):
@@ -23,6 +23,7 @@ class Words(argparse.Namespace):
     source: str
     top: int
     blocks: Optional[str]
+    wide: bool
     json: bool
 
 
@@ -32,7 +33,8 @@ def parsed(argv: List[str]) -> Words:
         description="Print the hottest functions and lines of a profile, or blocks of a repair.", epilog="""
         `count_word +6` is line 6 of count_word, counted from 0 at the line where it begins; with --bin also the line in
         its file and, where that file is found below FOLDER or the folder of BIN, what stands there. Below a line of a
-        library stand the calls of other functions through which it ran most.""")
+        library stand the calls of other functions through which it ran most. A long name of C++ or Rust is cut to its
+        class and method, and names that would then be alike show where they differ.""")
     parser.add_argument("file", metavar="PROFILE", nargs="+",
                         help="a profile's text, as pgo writes it, packed or not (- is the input); with --blocks a "
                         "repair")
@@ -42,7 +44,8 @@ def parsed(argv: List[str]) -> Words:
     parser.add_argument("--top", metavar="N", type=int, default=10, help="how many are printed (default: 10)")
     parser.add_argument("--blocks", metavar="CFG",
                         help="print the hottest blocks of what `pgo build` wrote of this block text")
-    parser.add_argument("--json", action="store_true", help="print all of it as JSON")
+    parser.add_argument("--wide", action="store_true", help="print names whole, however long they are")
+    parser.add_argument("--json", action="store_true", help="print all of it as JSON, names whole")
     words = parser.parse_args(argv, Words())
     if len(words.file) > 1:
         parser.error("it takes one profile: the program stands behind --bin=, and pgo merge adds profiles up")
@@ -55,7 +58,7 @@ def work(argv: List[str]) -> int:
     words = parsed(argv)
     cli.out()
     report = hot.report_of(hot.Asked(words.file[0], words.bin, words.source, words.top, words.blocks))
-    for line in [json.dumps(hot.as_json(report), indent=1)] if words.json else hot.table(report):
+    for line in [json.dumps(hot.as_json(report), indent=1)] if words.json else hot.table(report, words.wide):
         cli.put(line)
     return cli.DONE
 

@@ -13,7 +13,8 @@ from pgo_tools.cli.files import open_packed, read_packed
 from pgo_tools.draw.source import Sources, places
 from pgo_tools.reports.table import times
 from pgo_tools.texts import block_text, repair_text
-from pgo_tools.texts.names import cut, cut_middle, demangled, printable
+from pgo_tools.texts.names import cut, demangled, printable
+from pgo_tools.texts.short_names import is_called, short
 
 NAME_WIDTH, SOURCE_WIDTH, MOST_SHOWN = 60, 44, 8
 # Characters that no XML may hold, even escaped.
@@ -118,7 +119,7 @@ class Function:
         return {number: left[number] for number in self.shown if left[number]}
 
     def title(self) -> str:
-        name = cut_middle(drawable(demangled([self.name])[self.name]), 2 * NAME_WIDTH)
+        name = short(drawable(demangled([self.name])[self.name]), 2 * NAME_WIDTH)
         if len(self.shown) < len(self.blocks):
             return f"{name}: {len(self.shown)} of {len(self.blocks)} blocks"
         if self.kind == "cut":
@@ -157,7 +158,7 @@ def name_called(wanted: str, names: Sequence[str], hot: Iterable[str]) -> str:
     """The name of which the wanted one is what contrib/hot prints."""
     shown = demangled(names)
     found = [name for name in names
-             if wanted in (shown[name], printable(shown[name]), cut_middle(printable(shown[name]), NAME_WIDTH))]
+             if wanted == shown[name] or is_called(wanted, name, printable(shown[name]), NAME_WIDTH)]
     if not found:
         raise cli.Trouble(f"it has no function {wanted}; those that ran most: {' '.join(hot)}")
     if len(found) > 1:

@@ -15,7 +15,8 @@ from pgo_tools.cli.programs import tool
 from pgo_tools.draw.source import Place, Sources, places, starts
 from pgo_tools.reports.table import columns, percent, times
 from pgo_tools.texts import block_text, profile_text, repair_text
-from pgo_tools.texts.names import cut, cut_middle, demangled, printable
+from pgo_tools.texts.names import cut, demangled, printable
+from pgo_tools.texts.short_names import short_names
 
 NAME_WIDTH, SOURCE_WIDTH, MOST_CALLERS, LEAST_SHARE = 60, 90, 2, 0.1
 # Functions of libraries, by how their names are mangled, and their files.
@@ -336,39 +337,44 @@ def cells(told: Optional[Told]) -> List[str]:
     return [f"{printable(os.path.basename(told.file))}:{told.line}", cut(told.source, SOURCE_WIDTH)]
 
 
-def spot(it: Caller) -> str:
-    return f"{cut_middle(it.shown, NAME_WIDTH)} +{it.offset}"
+def named(rows: Iterable[Union[HotFunction, Caller, HotBlock]], is_wide: bool) -> Dict[str, str]:
+    """The names of rows as a table has them, by the names in the file."""
+    return short_names({it.name: it.shown for it in rows}, None if is_wide else NAME_WIDTH)
 
 
-def table(report: Report) -> Iterator[str]:
-    """A report as lines."""
-    return table_of_repair(report) if isinstance(report, OfRepair) else table_of_profile(report)
+def table(report: Report, is_wide: bool = False) -> Iterator[str]:
+    """A report as lines, its names whole or short."""
+    return table_of_repair(report, is_wide) if isinstance(report, OfRepair) else table_of_profile(report, is_wide)
 
 
-def table_of_profile(report: OfProfile) -> Iterator[str]:
+def table_of_profile(report: OfProfile, is_wide: bool) -> Iterator[str]:
     whole = report.total
+    calls = [call for it in report.lines for call in it.callers]
+    name = named([*report.functions, *report.lines, *calls], is_wide)
     yield f"{times(report.functions_in_all, 'function')}, {times(report.lines_in_all, 'line')}, a total of {whole}"
     yield ""
     yield from columns([["share", "total", "entered", "function", "", ""]] + [
-        [percent(it.total, whole), str(it.total), str(it.entered), cut_middle(it.shown, NAME_WIDTH), *cells(it.told)]
+        [percent(it.total, whole), str(it.total), str(it.entered), name[it.name], *cells(it.told)]
         for it in report.functions], 3)
     yield ""
     rows = [["share", "count", "line", "", ""]]
     for it in report.lines:
-        rows.append([percent(it.count, whole), str(it.count), spot(it), *cells(it.told)])
+        rows.append([percent(it.count, whole), str(it.count), f"{name[it.name]} +{it.offset}", *cells(it.told)])
         for call in it.callers:
-            rows.append(["", percent(call.count, it.count), f"  of it by {spot(call)}", *cells(call.told)])
+            spot = f"  of it by {name[call.name]} +{call.offset}"
+            rows.append(["", percent(call.count, it.count), spot, *cells(call.told)])
     yield from columns(rows, 2)
 
 
-def table_of_repair(report: OfRepair) -> Iterator[str]:
+def table_of_repair(report: OfRepair, is_wide: bool) -> Iterator[str]:
     whole = report.total
+    name = named(report.blocks, is_wide)
     yield f"{times(report.functions_in_all, 'function')}, {times(report.blocks_in_all, 'block')}, a total of {whole}"
     yield ""
     rows = [["share", "count", "weight", "block", "from", "", ""]]
     for it in report.blocks:
         count = "cut" if it.count is None else str(it.count)
         weight = "?" if it.weight is None else str(it.weight)
-        block = f"{cut_middle(it.shown, NAME_WIDTH)} {it.block}"
+        block = f"{name[it.name]} {it.block}"
         rows.append([percent(it.count or 0, whole), count, weight, block, it.low, *cells(it.told)])
     yield from columns(rows, 3)

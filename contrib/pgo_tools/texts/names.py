@@ -5,11 +5,13 @@ import shlex
 import shutil
 import subprocess
 import tempfile
-from typing import Dict, Iterable, Match
+from typing import Dict, Iterable, List, Match
 
 # Control bytes of either set, what has no place in UTF-8, and what turns the direction of writing.
 UNPRINTED = re.compile("[\x00-\x1f\x7f-\x9f\ud800-\udfff\u200e\u200f\u2028-\u202e\u2066-\u2069]")
 DEMANGLERS = ["llvm-cxxfilt", "c++filt"] + [f"llvm-cxxfilt-{number}" for number in range(30, 13, -1)]
+# Names that rustc mangled, for which rustfilt is asked too.
+RUST = re.compile(r"_R|_ZN.*17h[0-9a-f]{16}E")
 
 # A demangler's memory, seconds, and bytes that it prints: a name of some hundred bytes can mean one of terabytes.
 DEMANGLER_LIMITS = ((resource.RLIMIT_AS, 1 << 30), (resource.RLIMIT_CPU, 20), (resource.RLIMIT_FSIZE, 1 << 28))
@@ -77,14 +79,21 @@ def answer(tool: str, text: str) -> str:
         return ""
 
 
+def ask(tool: str, names: List[str], shown: Dict[str, str]) -> None:
+    """Has a demangler say how these names are shown, if it knows all of them."""
+    lines = answer(tool, "".join(f"{name}\n" for name in names)).split("\n")
+    if len(lines) == len(names) + 1:
+        shown.update(zip(names, lines))
+
+
 def demangled(names: Iterable[str]) -> Dict[str, str]:
     """Each name as its program's source has it, where a demangler is there and knows all of them, and else as it is."""
     names = list(names)
-    tool = next(filter(shutil.which, DEMANGLERS), None)
     asked = [name for name in names if name.startswith(("_Z", "__Z", "_R")) and "\n" not in name]
     shown = {name: name for name in names}
-    if tool and asked:
-        lines = answer(tool, "".join(f"{name}\n" for name in asked)).split("\n")
-        if len(lines) == len(asked) + 1:
-            shown.update(zip(asked, lines))
+    of_rust = [name for name in asked if RUST.match(name)]
+    for tools, known in ((DEMANGLERS, asked), (["rustfilt"], of_rust)):
+        tool = next(filter(shutil.which, tools), None)
+        if tool and known:
+            ask(tool, known, shown)
     return shown

@@ -756,7 +756,12 @@ static bool make_file(struct file *it, const char *name)
         fprintf(stderr, "recorder: cannot write %s\n", name);
         return false;
     }
-    it->path = realpath(name, NULL);
+    /* A pipe as /dev/stdout has no whole name. */
+    char *whole = realpath(name, NULL);
+    if (whole) {
+        free(it->path);
+        it->path = whole;
+    }
     return it->path;
 }
 

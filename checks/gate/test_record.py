@@ -136,8 +136,31 @@ class Record(Case):
         self.assertEqual((self.folder / "own.c").read_bytes(), before)
         self.refused(BAD_WORDS, "own is no recording of branches", "-o", "own", "./own")
         self.refused(WRITE_FAULT, "none/x: No such file or directory", "-o", "none/x", "./own")
+        self.refused(WRITE_FAULT, "own.c/x: Not a directory", "-o", "own.c/x", "./own")
+        self.refused(WRITE_FAULT, "cache: Is a directory", "-o", "cache", "./own")
+        # As a signal leaves it that ends the program before the first line is whole.
+        self.file("recorded.txt", b"\n" * 99)
         for _ in range(2):
             self.assertEqual(self.record("-q", "./own").status, DONE)
+
+    def test_into_a_pipe(self):
+        """Nothing opens the pipe before the recorder does: its reader would see an end."""
+        os.mkfifo(self.folder / "pipe")
+        with subprocess.Popen(["cat", "pipe"], cwd=self.folder, stdout=subprocess.PIPE) as reader:
+            try:
+                ran = self.record("-q", "-o", "pipe", "./own")
+                read = reader.communicate(timeout=60)[0]
+            finally:
+                reader.kill()
+        self.assertEqual((ran.status, ran.err), (DONE, b""))
+        self.assertTrue(read.startswith(b"PERF_RECORD_MMAP2 ") and read.count(b"\n ") > 10, read[:200])
+        ran = self.record("-q", "-o", "/dev/stderr", "./own")
+        self.assertEqual((ran.status, ran.out), (DONE, b"./own\n"))
+        self.assertEqual(ran.err.count(b"\n "), read.count(b"\n "))
+
+    def test_no_home_folder(self):
+        self.refused(FAILED, "there is no home folder", "./own", environment={"XDG_CACHE_HOME": None, "HOME": ""})
+        self.assertEqual(self.names(), ["own", "own.c"])
 
     def test_wrong_words(self):
         self.file("script", "#!/bin/sh\necho\n")
@@ -149,6 +172,9 @@ class Record(Case):
         self.refused(MISSING, "what helps: ./own", "own")
         self.refused(REFUSED, "record its interpreter: pgo-record /bin/sh ./script", "./script")
         self.refused(REFUSED, "own.c is no program for x86-64", "./own.c")
+        (self.folder / "own").chmod(0o644)
+        self.refused(REFUSED, "what helps: chmod +x ./own", "./own")
+        self.assertEqual(self.names(), ["own", "own.c", "script"])
 
     def test_signals_and_pipes_are_the_programs(self):
         self.assertEqual(self.record("-q", "./own").status, DONE)

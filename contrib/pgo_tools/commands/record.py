@@ -26,8 +26,9 @@ CALL = "pgo-record [-o FILE] [-c N] [--depth N] [-q] PROGRAM [ARGUMENT].."
 # A prime, so that the length of no loop divides it.
 PERIOD, DEPTH, DEEPEST = 2999, 32, 1023
 X86_64 = b"\x3e\x00"
-# A recording begins with a load line, or with one that a signal cut.
-RECORDED = (b"", b"PERF_RECORD_", b"#ERF_RECORD_")
+# A recording begins with a load line, or with one that a signal cut: then it may be blank.
+FRONT = 12
+RECORDED = (b"", b"PERF_RECORD_", b"#ERF_RECORD_", b"\n" * FRONT)
 
 
 def parser() -> argparse.ArgumentParser:
@@ -70,24 +71,29 @@ def program_at(word: str) -> str:
                       f"record its interpreter: pgo-record {shell_word(interpreter)} {shell_word(word)}")
     if head[:6] != b"\x7fELF\x02\x01" or head[18:20] != X86_64:
         raise Trouble(f"{word} is no program for x86-64", REFUSED, "the program that the compiler linked")
+    if not os.access(path, os.X_OK):
+        raise Trouble(f"{word} is not executable", REFUSED, f"chmod +x {shell_word(path)}")
     return path
 
 
 def judge_output(out: str, path: str) -> None:
-    """A Trouble if the recording cannot be written, or would replace a file that is no recording."""
+    """A Trouble if the recording cannot be written, or would replace a file that is no recording.
+
+    A pipe or a device is not opened here: opening a pipe waits for its reader, and closing it again ends what is read.
+    """
     try:
-        with open(out, "rb") as file:
-            mode = os.fstat(file.fileno()).st_mode
-            head = file.read(12) if stat.S_ISREG(mode) and not os.path.samefile(out, path) else b""
-            is_free = not stat.S_ISREG(mode) or not os.path.samefile(out, path) and head in RECORDED
-    except FileNotFoundError:
-        is_free = True
-    if not is_free:
-        raise Trouble(f"{out} is no recording of branches, and would be lost", USAGE, "another name behind -o")
+        mode = os.stat(out).st_mode
+    except (FileNotFoundError, NotADirectoryError):
+        mode = stat.S_IFREG
+    if not stat.S_ISREG(mode) and not stat.S_ISDIR(mode):
+        return
+    with contextlib.suppress(FileNotFoundError, NotADirectoryError, IsADirectoryError), open(out, "rb") as file:
+        if os.path.samefile(out, path) or file.read(FRONT) not in RECORDED:
+            raise Trouble(f"{out} is no recording of branches, and would be lost", USAGE, "another name after -o")
     try:
         os.close(os.open(out, os.O_WRONLY | os.O_CREAT | os.O_CLOEXEC, 0o666))
     except OSError as reason:
-        raise Trouble(f"{out}: {reason.strerror}", WRITE_FAULT, "a folder that you may write") from None
+        raise Trouble(f"{out}: {reason.strerror}", WRITE_FAULT, "a file in a folder that you may write") from None
 
 
 # The recorder.
@@ -103,9 +109,13 @@ def source() -> bytes:
 
 def cache_folder() -> str:
     """The folder of the user's for what is built once: nobody else may write it, since it is run."""
+    helps = "XDG_CACHE_HOME=FOLDER in front, a folder of yours"
     above = os.environ.get("XDG_CACHE_HOME", "")
     if not os.path.isabs(above):
-        above = os.path.join(os.path.expanduser("~"), ".cache")
+        home = os.environ.get("HOME", os.path.expanduser("~"))
+        if not os.path.isabs(home):
+            raise Trouble("there is no home folder, below which the recorder is kept", FAILED, helps)
+        above = os.path.join(home, ".cache")
     folder = os.path.join(above, "pgo")
     try:
         os.makedirs(above, mode=0o700, exist_ok=True)
@@ -113,11 +123,10 @@ def cache_folder() -> str:
             os.mkdir(folder, 0o700)
         found = os.lstat(folder)
     except OSError as reason:
-        raise Trouble(f"{folder}: {reason.strerror}", WRITE_FAULT,
-                      "XDG_CACHE_HOME=FOLDER in front, a folder of yours") from None
+        raise Trouble(f"{folder}: {reason.strerror}", WRITE_FAULT, helps) from None
     if not stat.S_ISDIR(found.st_mode) or found.st_uid != os.geteuid() or found.st_mode & 0o022:
         raise Trouble(f"{folder} is no folder that you alone may write", FAILED,
-                      "chmod 700, or XDG_CACHE_HOME=FOLDER in front, a folder of yours")
+                      f"chmod 700, or {helps}")
     return folder
 
 

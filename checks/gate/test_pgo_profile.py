@@ -468,6 +468,13 @@ class Empty(Profiles):
         self.judge(0, "9600 of 14368 branches are of the kernel.*perf record -b -e cycles:u", WORDS, self.file("text", raw + kernel * 300))
         self.judge(0, "", WORDS, self.file("text", raw + kernel * 20))
 
+    def test_interrupts_are_no_other_binary(self):
+        """They lead from any instruction into the kernel."""
+        strange = b"".join(b"           401330 %#x/0xffffffff81000000\n" % at for at in range(0x401160, 0x4013f0, 4))
+        self.judge(0, "", WORDS, self.file("text", TEXT.read_bytes() + strange * 9))
+        inside = strange.replace(b"0xffffffff81000000", b"0x401160")
+        self.judge(1, "start where .* has no branch: another binary ran", WORDS, self.file("text", TEXT.read_bytes() + inside * 9))
+
     def test_another_machine(self):
         """The demo as if it were a program for AArch64, whose instructions begin at multiples of four."""
         program = bytearray(WORDS.read_bytes())

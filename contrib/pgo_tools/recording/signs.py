@@ -32,6 +32,8 @@ EMULATOR = "where the processor records none, contrib/pgo-record (docs/USING.md,
 MANY_LINES = 20
 # Names as rustc's old mangling has them.
 OLD_RUST = re.compile(r"_ZN.*17h[0-9a-f]{16}E(?:\..*)?")
+# An instruction of x86-64 has at most so many bytes.
+LONGEST = 15
 # Bytes that an instruction that branches begins with, behind prefixes (x86-64).
 BRANCH = re.compile(
     rb"(?:[\xf2\xf3\x26\x36\x2e\x3e\x64-\x67\x40-\x4f])*"
@@ -67,6 +69,13 @@ class Sources(NamedTuple):
 
     good: int
     bad: int
+
+
+class Counted(NamedTuple):
+    """How many branches start at each address: of every branch, and of those that do not lead into the kernel."""
+
+    every: Dict[int, int]
+    own: Dict[int, int]
 
 
 class Line(NamedTuple):
@@ -351,26 +360,37 @@ def laid_out(pieces: Iterable[Loaded]) -> List[Shift]:
 
 
 @functools.lru_cache(maxsize=1)
-def sources(text: Text) -> Dict[int, int]:
+def counted(text: Text) -> Counted:
     """How many branches start at each address; none where the text is no file."""
-    times: Dict[int, int] = {}
+    every: Dict[int, int] = {}
+    own: Dict[int, int] = {}
     if not text.is_file():
-        return times
+        return Counted(every, own)
     status, told, _ = programs.call([programs.pgo(), "counts", programs.as_file(text.path)])
     for line in told.split(b"\n") if not status else []:
         fields = line.split()
         if len(fields) == 3 and fields[0] != b"#":
-            at = int(fields[0], 16)
-            times[at] = times.get(at, 0) + int(fields[2])
-    return times
+            at, times = int(fields[0], 16), int(fields[2])
+            every[at] = every.get(at, 0) + times
+            if not int(fields[1], 16) >> 63:
+                own[at] = own.get(at, 0) + times
+    return Counted(every, own)
+
+
+def sources(text: Text) -> Dict[int, int]:
+    """How many branches start at each address."""
+    return counted(text).every
 
 
 def most_frequent(program: Program, text: Text, name: str) -> List[int]:
-    """The 50 most frequent sources of branches in the program, as offsets of its file."""
+    """The 50 most frequent sources of branches in the program, as offsets of its file.
+
+    An interrupt or a page fault leads from any instruction into the kernel, so these are left out but for a kernel.
+    """
     rows = laid_out(places(program, text, name))
     sums: Dict[int, int] = {}
     starts = [row.start for row in rows]
-    for at, times in sources(text).items():
+    for at, times in (counted(text).every if is_kernel(program) else counted(text).own).items():
         row = bisect.bisect_right(starts, at) - 1
         if row >= 0 and at < rows[row].end:
             place = at + rows[row].to_offset
@@ -381,7 +401,7 @@ def most_frequent(program: Program, text: Text, name: str) -> List[int]:
 def branching(program: Program, text: Text, name: str) -> Sources:
     """The 50 most frequent sources of branches, by the file's instructions there."""
     top = most_frequent(program, text, name)
-    good = sum(bool(BRANCH.match(program.headers().data[at : at + 6])) for at in top)
+    good = sum(bool(BRANCH.match(program.headers().data[at : at + LONGEST])) for at in top)
     return Sources(good, len(top) - good)
 
 

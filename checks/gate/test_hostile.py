@@ -128,6 +128,13 @@ class Tools(Case):
         told, status = self.limited(sys.executable, "-c", "x = []\nwhile True: x.append(bytes(1 << 24))")
         self.assertEqual((told, status > 0), ([], True))
 
+    def test_a_lower_limit_of_the_caller_stays(self):
+        code = ("from pgo_tools.cli import limits\n"
+                "with limits.limited(['sh', '-c', 'ulimit -v'], limits.limits_for('none')) as said: print(*said.lines())")
+        for limit in ("ulimit -S -v 1500000", "ulimit -v 1500000", ":"):
+            ran = self.run_here(*within(limit, sys.executable, "-c", code), environment={"PYTHONPATH": str(CONTRIB)})
+            self.expect(ran, DONE, f"b'{limits.MEMORY >> 10 if limit == ':' else 1500000}'\n")
+
     @needs("clang", "llvm-symbolizer")
     def test_what_a_program_names_as_its_dwo(self):
         """A pipe that nobody writes to, and a file without end, in the place of a part of the debugging information."""

@@ -66,8 +66,8 @@ class Output:
 
 def hold_memory(most: int) -> None:
     """Sets the limit of memory of this process, where the caller's is not lower."""
-    hard = resource.getrlimit(resource.RLIMIT_AS)[1]
-    least = most if hard == resource.RLIM_INFINITY else min(most, hard)
+    soft, hard = resource.getrlimit(resource.RLIMIT_AS)
+    least = min([most, *(limit for limit in (soft, hard) if limit != resource.RLIM_INFINITY)])
     resource.setrlimit(resource.RLIMIT_AS, (least, hard))
 
 

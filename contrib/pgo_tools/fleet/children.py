@@ -36,9 +36,9 @@ def end_all(process: "subprocess.Popen[bytes]") -> None:
 
 def limit_seconds(most: int) -> None:
     """Has the system end this process once it used so many seconds of a processor."""
-    hard = resource.getrlimit(resource.RLIMIT_CPU)[1]
-    soft = most if hard == resource.RLIM_INFINITY else min(most, hard)
-    resource.setrlimit(resource.RLIMIT_CPU, (soft, hard))
+    soft, hard = resource.getrlimit(resource.RLIMIT_CPU)
+    least = min([most, *(limit for limit in (soft, hard) if limit != resource.RLIM_INFINITY)])
+    resource.setrlimit(resource.RLIMIT_CPU, (least, hard))
     resource.setrlimit(resource.RLIMIT_CORE, (0, 0))
 
 

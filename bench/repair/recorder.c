@@ -25,7 +25,8 @@
  * at the last instruction of that one: a repeated string instruction goes on, or the emulator took back an instruction
  * that passes the end of a page. That instruction has then run once, and not twice.
  *
- * Debian has no header of the plugins' interface (QEMU, "QEMU TCG Plugins", version 1), so what is used is declared here.
+ * Debian has no header of the plugins' interface (QEMU, "QEMU TCG Plugins", versions 1 and 2), so what is used is
+ * declared here.
  */
 #define _GNU_SOURCE
 #include <elf.h>
@@ -62,6 +63,16 @@ const char *qemu_plugin_path_to_binary(void);
 uint64_t qemu_plugin_start_code(void);
 
 __attribute__((visibility("default"))) int qemu_plugin_version = 1;
+
+/* From QEMU 9 on the emulator takes no plugin of version 1. The calls above are the same in version 2, which added
+   this one. */
+int qemu_plugin_num_vcpus(void) __attribute__((weak));
+
+__attribute__((constructor)) static void choose_version(void)
+{
+    if (qemu_plugin_num_vcpus)
+        qemu_plugin_version = 2;
+}
 
 /* A translated block: `again` of its `runs` began inside of an instruction that had been counted. */
 struct block {

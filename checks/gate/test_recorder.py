@@ -122,6 +122,28 @@ class Recorder(Case):
         self.assertEqual(made.status, DONE, made.said)
 
 
+class Versions(Recorder):
+    """The version of the plugins' interface that the emulator asks for. Stand-ins load the recorder as the emulator does."""
+
+    LOADER = r"""
+#include <dlfcn.h>
+#include <stdio.h>
+%s
+int main(void)
+{
+    void *recorder = dlopen("./recorder.so", RTLD_LAZY | RTLD_LOCAL);
+    int *version = recorder ? dlsym(recorder, "qemu_plugin_version") : 0;
+    return version ? *version : 0;
+}
+"""
+
+    def test_of_the_emulator(self):
+        for added, version in (("", 1), ("int qemu_plugin_num_vcpus(void) { return 1; }", 2)):
+            self.file("loader.c", self.LOADER % added)
+            self.compile("-rdynamic", "-o", "loader", "loader.c", "-ldl")
+            self.assertEqual(self.run_here("./loader").status, version)
+
+
 class Objects(Recorder):
     """Load lines of a program, its library and its plugin."""
 

@@ -5,6 +5,8 @@ case is skipped.
 """
 import contextlib
 import hashlib
+import importlib.machinery
+import importlib.util
 import os
 import pathlib
 import random
@@ -15,6 +17,7 @@ import subprocess
 import sys
 import tempfile
 import time
+import types
 import unittest
 from typing import Any, Callable, Dict, Iterable, List, NamedTuple, Optional, Set, TypeVar
 
@@ -24,8 +27,6 @@ for each in (signal.SIGINT, signal.SIGHUP, signal.SIGQUIT):
     if signal.getsignal(each) == signal.SIG_IGN:
         signal.signal(each, signal.default_int_handler if each == signal.SIGINT else signal.SIG_DFL)
 HERE = pathlib.Path(__file__).resolve().parent
-# What holds the programs to what is known of them.
-sys.path.insert(0, str(HERE / "program"))
 TOP = HERE.parent.parent
 CONTRIB = TOP / "contrib"
 WORDS = TOP / "demo" / "words"
@@ -146,6 +147,21 @@ def terminated(*words, folder, until: Optional[Callable[[], bool]] = None, by=si
     finally:
         kill_group(started.pid)
     return Ran(started.returncode, out, err)
+
+
+def loaded(path: pathlib.Path) -> types.ModuleType:
+    """Returns the module of this file, or the package of this folder, which `import` finds by its name from then on.
+
+    So what is run by itself needs no path for modules. checks/run sets one for the tests.
+    """
+    name = path.stem
+    if name not in sys.modules:
+        loader = importlib.machinery.SourceFileLoader(name, str(path / "__init__.py" if path.is_dir() else path))
+        spec = importlib.util.spec_from_loader(name, loader)
+        assert spec
+        sys.modules[name] = importlib.util.module_from_spec(spec)
+        loader.exec_module(sys.modules[name])
+    return sys.modules[name]
 
 
 Tried = TypeVar("Tried")

@@ -5,8 +5,7 @@ test_hostile.py judges each family at two sizes. By hand this tells what each ta
 docs/LIMITS.md speaks of: bytes, how it ended, the processor's seconds in user mode and in the system, as the least of three runs.
 """
 import functools
-import importlib.machinery
-import importlib.util
+import importlib
 import os
 import pathlib
 import re
@@ -18,12 +17,12 @@ import sys
 import tempfile
 from typing import Callable, NamedTuple
 
-from common import COLD, CONTRIB, HERE, PGO, TEXT, TOP, WORDS
+from common import COLD, CONTRIB, HERE, PGO, TEXT, TOP, WORDS, loaded
 
-sys.path.insert(0, str(CONTRIB))
-import make
-from make import ADDR, CODE, DECL_LINE, HIGH, LOADED, LOW, NAME, ORIGIN, RANGES, REF4, STRING, abbreviation, elf, function_text, load_line
-from pgo_tools.elf import Elf
+make, LADDER = loaded(HERE / "program" / "make.py"), loaded(TOP / "bench" / "ladder")
+ADDR, CODE, DECL_LINE, HIGH, LOADED, LOW, NAME = make.ADDR, make.CODE, make.DECL_LINE, make.HIGH, make.LOADED, make.LOW, make.NAME
+ORIGIN, RANGES, REF4, STRING = make.ORIGIN, make.RANGES, make.REF4, make.STRING
+abbreviation, elf, function_text, load_line = make.abbreviation, make.elf, make.function_text, make.load_line
 
 # What no run of the gate may pass: seconds of a processor, and how many times as long as half the input takes.
 MOST_SECONDS, MOST_GROWTH = 5, 3
@@ -189,7 +188,8 @@ def one_line(count):
     return make.with_lines(make.set_address(CODE) + b"\x03\x09\x01\x02" + make.uleb(count) + make.END, count)
 
 
-DEMO = Elf(WORDS)
+loaded(CONTRIB / "pgo_tools")
+DEMO = importlib.import_module("pgo_tools.elf").Elf(str(WORDS))
 
 
 def demo_with(**behind):
@@ -283,11 +283,6 @@ def branches_of_one_keyed_hash(size):
 
 
 # What takes many augmentations, by bench/ladder.
-LOADER = importlib.machinery.SourceFileLoader("ladder", str(TOP / "bench" / "ladder"))
-LADDER = importlib.util.module_from_spec(importlib.util.spec_from_loader("ladder", LOADER))
-LOADER.exec_module(LADDER)
-
-
 def ladder(size, unit=1):
     """A ladder twice as large has twice as many steps for twice as many edges between its rows."""
     width = round((size / 62) ** 0.5)

@@ -9,6 +9,9 @@ from typing import Any, Iterator, List, Tuple
 
 import common
 
+# Only the tests, not the scripts that they try, find modules by the path that checks/run has set.
+os.environ.pop("PYTHONPATH", None)
+
 
 class Cases(unittest.TestResult):
     """Counts cases: the subtests of a test, or a test that has none."""

@@ -5,21 +5,18 @@ import random
 import signal
 import struct
 import subprocess
-import sys
 import time
 from collections import Counter
 from types import SimpleNamespace
 
 from common import (BAD_WORDS, BLOCKS, CONTRIB, DONE, FAILED, MISSING, REFUSED, WORDS, WRITE_FAULT, Case, into_closed_pipe, needs, needs_file,
                     on_closed_output, run, within)
-
-sys.path.insert(0, str(CONTRIB))
-from pgo_tools.blocks.block_map import BLOCK_MAP, BlockMap  # noqa: E402
-from pgo_tools.blocks.code import Code  # noqa: E402
-from pgo_tools.blocks.exceptions import landing_pads  # noqa: E402
-from pgo_tools.blocks.flow import CALL  # noqa: E402
-from pgo_tools.blocks.program import Refused  # noqa: E402
-from make import elf  # noqa: E402
+from make import elf
+from pgo_tools.blocks.block_map import BLOCK_MAP, BlockMap
+from pgo_tools.blocks.code import Code
+from pgo_tools.blocks.exceptions import landing_pads
+from pgo_tools.blocks.flow import CALL
+from pgo_tools.blocks.program import Refused
 
 SCRIPT = CONTRIB / "blocks"
 # Two tables beside each other, each with offsets from itself, and one register for both. Behind each place are as many

@@ -2,15 +2,12 @@
 import io
 import os
 import re
-import sys
 import xml.dom.minidom
 
 from common import (BAD_WORDS, BLOCKS, CONTRIB, DONE, FAILED, MISSING, PGO, REFUSED, TEXT, TOP, WORDS, WRITE_FAULT, Case, into_closed_pipe, needs,
                     needs_file, on_closed_output, run)
-
-sys.path.insert(0, str(CONTRIB))
-from pgo_tools.cli import Trouble  # noqa: E402
-from pgo_tools.texts import block_text, repair_text  # noqa: E402
+from pgo_tools.cli import Trouble
+from pgo_tools.texts import block_text, repair_text
 
 SCRIPT = CONTRIB / "draw"
 NAMES = [line.split()[1] for line in BLOCKS.read_text().splitlines() if line.startswith("func ")]

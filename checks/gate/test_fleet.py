@@ -3,16 +3,13 @@ the demo for a service."""
 import json
 import os
 import re
-import sys
 import unittest
 
-from common import CONTRIB, DONE, FAILED, TOP, Case, needs, takes
+from common import DONE, FAILED, TOP, Case, needs, takes
 import test_merge_tree
 from test_using import chapters, commands
-
-sys.path.insert(0, str(CONTRIB))
-from pgo_tools.cli import Trouble  # noqa: E402
-from pgo_tools.fleet import engines, tree  # noqa: E402
+from pgo_tools.cli import Trouble
+from pgo_tools.fleet import engines, tree
 
 
 class Engines(test_merge_tree.Tree):

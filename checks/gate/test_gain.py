@@ -1,28 +1,16 @@
 """bench/gain: its statistics on times that are known, its table of programs, and all builds of a small program."""
-import importlib.machinery
-import importlib.util
-import sys
 import unittest
 
-from common import BAD_WORDS, DONE, MISSING, REFUSED, TOP, Case, needs, takes
+from common import BAD_WORDS, DONE, MISSING, REFUSED, TOP, Case, loaded, needs, takes
 
 GAIN = TOP / "bench" / "gain"
-
-
-def module():
-    """bench/gain as a module."""
-    sys.path.insert(0, str(GAIN.parent))
-    loader = importlib.machinery.SourceFileLoader("gain_script", str(GAIN))
-    made = importlib.util.module_from_spec(importlib.util.spec_from_loader(loader.name, loader))
-    loader.exec_module(made)
-    return made
 
 
 class Statistics(unittest.TestCase):
     """A gain is reported only if the interval excludes zero."""
 
     def test_verdicts(self):
-        gain = module()
+        gain = loaded(GAIN)
         plain = [1.0 + 0.01 * (k % 7) for k in range(31)]
         noise = [1.0 + 0.3 * (k * 7 % 31) / 31 for k in range(31)]
         for factor, times, verdict in ((0.9, plain, "gain"), (1.1, plain, "loss"), (1.0, plain, "no difference shown"),
@@ -57,7 +45,7 @@ class Gain(Case):
         ran = self.gain(".", "text", "--table=table.ini", "--time=2")
         self.assertEqual(ran.status, DONE, ran.said)
         rows = [line.split("|")[1:-1] for line in ran.out.decode().splitlines() if line.startswith("|")]
-        names = [build.name for build in module().BUILDS]
+        names = [build.name for build in loaded(GAIN).BUILDS]
         self.assertEqual([cell.strip() for cell in rows[0][1:]], names)
         self.assertRegex(rows[2][2], r"^ [+-]\d+\.\d%, [+-]\d+\.\d% $")
         self.assertEqual([row[0].strip() for row in rows[-len(names):]], names)

@@ -22,11 +22,9 @@ from common import COLD, CONTRIB, DONE, PGO, REFUSED, TOP, WORDS, Case, needs, t
 
 import growing
 import make
-
-sys.path.insert(0, str(CONTRIB))
-from pgo_tools.cli import Trouble, files, limits, programs  # noqa: E402
-from pgo_tools.draw.source import places  # noqa: E402
-from pgo_tools.texts import block_text, profile_text  # noqa: E402
+from pgo_tools.cli import Trouble, files, limits, programs
+from pgo_tools.draw.source import places
+from pgo_tools.texts import block_text, profile_text
 
 SIZES = (1, 2, 7, 40)
 # In how many tests the families are tried, side by side.

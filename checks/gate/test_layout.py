@@ -4,15 +4,12 @@ import collections
 import itertools
 import json
 import random
-import sys
 import time
 import unittest
 
 from common import BLOCKS, CONTRIB, MISSING, PGO, REFUSED, TEXT, WORDS, BAD_WORDS, Case, needs, run
 from test_lined import drawn_run, functions_of
-
-sys.path.insert(0, str(CONTRIB))
-from pgo_tools.blocks import block_order, layout as maker  # noqa: E402
+from pgo_tools.blocks import block_order, layout as maker
 
 LAYOUT, MAKER, LINED = CONTRIB / "layout", CONTRIB / "blocks", CONTRIB / "lined"
 BUILD = ["clang-19", "-O2", "-w", "-no-pie", "-fuse-ld=lld", "-B/usr/lib/llvm-19/bin"]

@@ -4,15 +4,12 @@ import collections
 import random
 import shutil
 import struct
-import sys
 import unittest
 
 from common import BLOCKS, CONTRIB, HERE, MISSING, PGO, REFUSED, TEXT, TOP, WORDS, BAD_WORDS, Case, needs, run, takes
-
-sys.path.insert(0, str(CONTRIB))
-from make import elf  # noqa: E402
-from pgo_tools.commands import lined  # noqa: E402
-from pgo_tools.dwarf import writer as dwarf_writer  # noqa: E402
+from make import elf
+from pgo_tools.commands import lined
+from pgo_tools.dwarf import writer as dwarf_writer
 
 LINED, MAKER = CONTRIB / "lined", CONTRIB / "blocks"
 NOTE = "lined: for pgo build, people and contrib/draw; a profile made with it is not for clang\n"

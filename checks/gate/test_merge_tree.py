@@ -5,19 +5,19 @@ import pathlib
 import resource
 import signal
 import subprocess
-import sys
 import time
 import unittest
 
-from common import CONTRIB, DONE, FAILED, BAD_WORDS, MISSING, NO_MEMORY, PGO, HERE, READ_FAULT, REFUSED, TOP, WRITE_FAULT, Case, needs, needs_file
+from common import CONTRIB, DONE, FAILED, BAD_WORDS, MISSING, NO_MEMORY, PGO, READ_FAULT, REFUSED, TOP, WRITE_FAULT, Case, needs, needs_file
 from common import on_closed_output, python, run, takes, terminated
+import sums
 
 TREE = CONTRIB / "merge-tree"
 # By this a process takes what the script calls, to change something of it first.
 FROM_CONTRIB = """sys.dont_write_bytecode = True
-sys.path.insert(0, os.path.dirname(sys.argv[0]))
 from pgo_tools import cli
 from pgo_tools.commands.merge_tree import work as main"""
+MODULES = {"PYTHONPATH": str(CONTRIB)}
 FLEET = TOP / "bench" / "fleet.py"
 HALF = "a:0:9223372036854775808\n"
 BAD = "a:0:1\n 1: 1\r\n"
@@ -106,8 +106,6 @@ class Sums(Tree):
         self.expect(self.merge("--part-size=100", given=lines("", *names[:500], " ", *names[500:])), DONE, whole.out)
 
     def sums_by_a_second_program(self, names):
-        sys.path.insert(0, str(HERE / "program"))
-        import sums
         made = {}
         for name in names:
             sums.add(made, sums.read((self.folder / name).read_bytes()), 1)
@@ -786,7 +784,7 @@ class Resumed(Tree):
         """A call in a process where something is done between two of its steps, as another call would."""
         started = "import fcntl, os, shutil, sys\nsys.argv[0] = sys.argv[1]\n" + FROM_CONTRIB + "\n"
         script = self.file("when.py", "\n".join([started, *lines_of_it, "os._exit(cli.ended(main, sys.argv[2:]))", ""]))
-        return python(script, TREE, "-j1", "-o", "out", *self.files[:3], folder=self.folder, environment={"PGO": PGO})
+        return python(script, TREE, "-j1", "-o", "out", *self.files[:3], folder=self.folder, environment={"PGO": PGO, **MODULES})
 
     def test_a_tree_that_another_takes_away_and_a_third_makes(self):
         """The lock that was opened is then none of the tree's."""
@@ -952,7 +950,8 @@ class Ended(Tree):
 
     def test_killed_at_each_step(self):
         """At the N-th change of a file a part is killed: nothing is in place but a whole sum, and the next call makes it."""
-        ran = python(self.file("driver.py", DRIVER), TREE, *self.files[:4], folder=self.folder, limit=400, environment={"PGO": PGO})
+        ran = python(self.file("driver.py", DRIVER), TREE, *self.files[:4], folder=self.folder, limit=400,
+                     environment={"PGO": PGO, **MODULES})
         self.expect(ran, DONE, ran.out)
         self.assertGreater(int(ran.out), 20)
         self.assertEqual((self.folder / "out").read_bytes(), self.sum_of(self.files[:4]))
@@ -1157,7 +1156,8 @@ class Fetched(Tree):
         """It comes between the command's first steps and those of the process that waits for it."""
         fetch = self.script("get", f"sleep 40 & echo $! >'{self.folder}/sleeps'", "wait")
         script = self.file("when.py", WHILE_STARTED)
-        ran = python(script, TREE, fetch, "-o", "out", "p/0", folder=self.folder, limit=20, environment={"PGO": PGO})
+        ran = python(script, TREE, fetch, "-o", "out", "p/0", folder=self.folder, limit=20,
+                     environment={"PGO": PGO, **MODULES})
         self.tells(ran, FAILED, "part 1.0 was ended before its end")
         self.assertTrue(self.ends(int((self.folder / "sleeps").read_text())), "it goes on")
 

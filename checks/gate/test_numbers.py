@@ -1,12 +1,8 @@
 """Numbers of any length, as the scripts read them: those that fit, and no others."""
 import re
-import sys
 import unittest
 
-from common import CONTRIB
-
-sys.path.insert(0, str(CONTRIB))
-from pgo_tools.texts.numbers import decimal, number_of  # noqa: E402
+from pgo_tools.texts.numbers import decimal, number_of
 
 MANY = 5000
 

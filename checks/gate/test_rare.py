@@ -1,14 +1,11 @@
 """contrib/blocks on blocks that hardly ever run: which are marked, and that `never` takes no function its last way out."""
 import random
 import shutil
-import sys
 import unittest
 
-from common import CONTRIB, MISSING, PGO, REFUSED, BAD_WORDS, Case, run, takes
-
-sys.path.insert(0, str(CONTRIB))
-from pgo_tools.blocks import rare  # noqa: E402
-from pgo_tools.blocks.touched import Spans  # noqa: E402
+from common import CONTRIB, MISSING, PGO, REFUSED, BAD_WORDS, Case, takes
+from pgo_tools.blocks import rare
+from pgo_tools.blocks.touched import Spans
 
 MAKER = CONTRIB / "blocks"
 PROGRAM = """

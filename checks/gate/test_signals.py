@@ -8,22 +8,21 @@ from common import CONTRIB, DONE, Case, python, run
 # At the call that it names a signal comes, once that is done or ahead of it.
 SCRIPT = """
 import os, shutil, signal, sys, tempfile
-sys.path.insert(0, sys.argv[1])
 from pgo_tools import cli
 from pgo_tools.cli import files
 
 def disturbed(call):
     def made(*words, **how):
-        if sys.argv[3] == "before":
+        if sys.argv[2] == "before":
             os.kill(os.getpid(), signal.SIGTERM)
         told = call(*words, **how)
-        if sys.argv[3] == "behind":
+        if sys.argv[2] == "behind":
             os.kill(os.getpid(), signal.SIGTERM)
         return told
     return made
 
 def main(argv):
-    module, name = {"mkdtemp": tempfile, "rmtree": shutil, "open": os}[argv[1]], argv[1]
+    module, name = {"mkdtemp": tempfile, "rmtree": shutil, "open": os}[argv[0]], argv[0]
     setattr(module, name, disturbed(getattr(module, name)))
     with files.scratch_folder("new.", ".") if name != "open" else files.put_in_place("new"):
         pass
@@ -67,7 +66,7 @@ class Signals(Case):
         for name in ("mkdtemp", "rmtree", "open"):
             for when in ("before", "behind"):
                 with self.subTest(name, when=when):
-                    ran = python("-c", SCRIPT, CONTRIB, name, when, folder=self.folder)
+                    ran = python("-c", SCRIPT, name, when, folder=self.folder, environment={"PYTHONPATH": str(CONTRIB)})
                     self.expect(ran, 143)
                     self.assertEqual(self.names(), [])
 

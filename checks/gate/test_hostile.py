@@ -243,13 +243,13 @@ class Growth(Case):
         self.assertLessEqual(set(KNOWN_SLOW), {family.name for family in growing.FAMILIES})
 
 
-def test_of(family):
+def trial_of(family):
     """The test of a family; the long ones are begun first."""
     return takes(1 if family.name in KNOWN_SLOW else 10)(lambda self: self.try_family(family))
 
 
 for family in growing.FAMILIES:
-    setattr(Growth, "test_" + re.sub("[^a-z]+", "_", family.name), test_of(family))
+    setattr(Growth, "test_" + re.sub("[^a-z]+", "_", family.name), trial_of(family))
 
 
 if __name__ == "__main__":

@@ -133,6 +133,40 @@ class Names(Case):
         self.assertIn(b"app::Store::put(int)", self.run_here(SCRIPT, profile, environment={"PATH": str(path)}).out)
 
 
+class Options(Case):
+    """A profile that was made without an option that it needed."""
+
+    def test_a_profile_without_base(self):
+        self.file("raw", run(PGO, "profile", WORDS, TEXT).out)
+        self.file("own", run(PGO, "profile", "--base", WORDS, TEXT).out)
+        merge = CONTRIB / "merge-tree"
+        for call, name in (([SCRIPT, "raw"], "raw"), ([CONTRIB / "compare", "own", "raw"], "raw"), ([merge, "raw"], "the sum"),
+                           ([merge, "-o", "sum", "raw"], ".*sum")):
+            with self.subTest(call):
+                ran = self.run_here(*call)
+                self.assertEqual(ran.status, DONE)
+                self.assertRegex(ran.said, rf"\A[a-z-]+: {name} looks as if made of a clang binary without --base, .*\n\Z")
+        for call in ([SCRIPT, "own"], [SCRIPT, PROFILE], [CONTRIB / "compare", "own", "own"], [merge, "own"]):
+            with self.subTest(call):
+                ran = self.run_here(*call)
+                self.assertEqual((ran.status, ran.said), (DONE, ""))
+
+    def test_discriminators(self):
+        for discs, is_packed in (([2] * 9, False), ([2] * 10, True), ([2] * 10 + [3], False), ([4096], True), ([4095], False), ([4096, 1], False), ([0] * 20, False)):
+            with self.subTest(discs=discs):
+                lines = "".join(f" {k}.{disc}: 5\n" for k, disc in enumerate(discs, 1))
+                self.assertEqual("without --base" in self.run_here(SCRIPT, self.file("prof", f"f:5:1\n{lines}")).said, is_packed)
+
+    def test_an_empty_profile_of_a_program_at_other_addresses(self):
+        moved = re.sub(rb"0x4(0[0-9a-f]{4})\b", rb"0x5555554\1", TEXT.read_bytes())
+        self.file("empty", run(PGO, "profile", "--base", WORDS, self.file("moved", moved)).out)
+        self.file("own", run(PGO, "profile", "--base", WORDS, TEXT).out)
+        for call in ([SCRIPT, "empty"], [CONTRIB / "compare", "own", "empty"]):
+            self.tells(self.run_here(*call), FAILED, "empty.* none of its [0-9]+ branches is in the program: --map=NAME")
+        self.tells(self.run_here(CONTRIB / "merge-tree", "empty"), REFUSED, "no branch is in the program: for want of --map=NAME")
+        self.tells(self.run_here(SCRIPT, self.file("none")), FAILED, "pgo-profile tells why")
+
+
 class Libraries(Case):
     """Lines of a library say whose they are."""
 

@@ -9,8 +9,11 @@ from fractions import Fraction
 from typing import List, NoReturn, Optional
 
 from pgo_tools import cli
+from pgo_tools.cli import files
 from pgo_tools.cli import words as words_of
 from pgo_tools.reports.alike import Compared, Profile, compared, percent, read, report
+from pgo_tools.texts import packed
+from pgo_tools.texts import report as report_text
 
 
 class Words(argparse.Namespace):
@@ -60,7 +63,10 @@ def work(argv: List[str]) -> int:
     old, new = read(words.old), read(words.new)
     for path, profile in ((words.old, old), (words.new, new)):
         if not profile.whole:
-            raise cli.Trouble(f"{path}: the profile is empty", cli.FAILED, "contrib/pgo-profile tells why")
+            with files.open_packed(path) as file:
+                helps = packed.why_empty(report_text.read(file))
+            raise cli.Trouble(f"{path}: the profile is empty", cli.FAILED, helps)
+        packed.judge(path, (disc for lines in profile.lines.values() for _, (_, disc) in lines))
     found = compared(old, new)
     for line in report(old, new, found, words.top):
         cli.put(line)

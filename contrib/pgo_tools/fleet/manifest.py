@@ -21,10 +21,12 @@ BLOCK = 1 << 20
 # How many numbers of a stamp tell whether a file was written to.
 WRITTEN = 3
 
-# A body line's count, a function's head, a line that is neither blank nor a comment, and the build that was sampled.
+# A body line's count, a function's head, a report without a branch inside, a line that is neither blank nor a comment,
+# and the build that was sampled.
 # Behind any zeros a number has 20 digits at most: pgo refuses what has more.
 COUNT = re.compile(rb"\n +[0-9.]+: %s(?![^ \n])" % decimal(20).encode())
 HEAD = re.compile(rb"\n[^ \n#][^\n]*:%s(?![^\n])" % decimal(20).encode())
+OUTSIDE = re.compile(rb"\n# inside 0(?![^\n])")
 SAYS = re.compile(rb"\n *[^ \n#]")
 BUILD = re.compile(rb"\n# build ([^\r\n]*)")
 # So many builds of a text are told, and so many bytes of each: a text of strangers may name any number.
@@ -32,7 +34,8 @@ MOST_BUILDS, LONGEST_BUILD = 8, 256
 
 
 class Facts(NamedTuple):
-    """What a text is: its bytes, the sums of its counts and of its heads, whether it says anything, and its builds."""
+    """What a text is: its bytes, the sums of its counts and of its heads, whether it says anything, its builds, and
+    whether all branches of its report are outside of the program."""
 
     size: int
     sha256: str
@@ -40,6 +43,7 @@ class Facts(NamedTuple):
     heads: int
     says: bool
     builds: List[str]
+    outside: bool = False
 
 
 class Reader:
@@ -48,7 +52,7 @@ class Reader:
     def __init__(self) -> None:
         self.digest = hashlib.sha256()
         self.size = self.total = self.heads = 0
-        self.says = False
+        self.says = self.outside = False
         self.builds: Set[bytes] = set()
         self.open: List[bytes] = []
 
@@ -68,6 +72,7 @@ class Reader:
         self.total += sum(map(int, COUNT.findall(lines)))
         self.heads += sum(map(int, HEAD.findall(lines)))
         self.says = self.says or bool(SAYS.search(lines))
+        self.outside = not self.says and (self.outside or bool(OUTSIDE.search(lines)))
         for build in BUILD.findall(lines):
             if len(self.builds) < MOST_BUILDS:
                 self.builds.add(build[:LONGEST_BUILD])
@@ -76,7 +81,7 @@ class Reader:
         """The facts of all that was taken in, which was the whole text."""
         self.lines(b"".join([b"\n", *self.open]))
         builds = sorted(build.decode("utf-8", "backslashreplace") for build in self.builds)
-        return Facts(self.size, self.digest.hexdigest(), self.total, self.heads, self.says, builds)
+        return Facts(self.size, self.digest.hexdigest(), self.total, self.heads, self.says, builds, self.outside)
 
 
 def facts_of(file: IO[bytes], copy: Optional[IO[bytes]] = None, most: Optional[int] = None) -> Facts:

@@ -147,7 +147,8 @@ def reason_against(tree: Tree, facts: told.Facts) -> Optional[Against]:
     if facts.size > MOST_TEXT:
         return Against(f"refused at {MOST_TEXT}: FileTooLarge")
     if not facts.says:
-        empty = Against("empty: no line of it says anything (--empty-ok takes such)")
+        why = "; no branch is in the program: for want of --map=NAME, or another one ran" if facts.outside else ""
+        empty = Against(f"empty: no line of it says anything (--empty-ok takes such){why}")
         return None if tree.choices.empty_ok else empty
     if len(facts.builds) > 1:
         return Against(f"it is of several builds: {', '.join(facts.builds)}")

@@ -16,6 +16,7 @@ from pgo_tools.fleet.merges import (
 )
 from pgo_tools.fleet.owner import keep_own, opened_own
 from pgo_tools.fleet.tree import ANY, File, Part, Tree
+from pgo_tools.texts import packed
 from pgo_tools.texts.names import raw_of
 
 SEVERAL_BUILDS = "--build=ID takes those of one and leaves the others out, --build=any adds up all"
@@ -307,6 +308,8 @@ def put_out(tree: Tree, lasting: bool = True) -> None:
             with contextlib.suppress(FileNotFoundError):
                 os.unlink(told.beside(tree.out))
             facts = told.facts_written(target)
+        text.seek(0)
+        packed.judge(tree.out if lasting else "the sum", packed.discs_of(text))
     told.check_sums(tree.out, facts, [whole.input()])
     noted = whole._replace(size=facts.size, sha256=facts.sha256, files=entries, parts=[], left_out=left_out)
     write_out(tree, noted, lasting)

@@ -14,7 +14,7 @@ from pgo_tools.cli.files import open_packed, read_packed
 from pgo_tools.cli.programs import tool
 from pgo_tools.draw.source import Place, Sources, places, starts
 from pgo_tools.reports.table import columns, percent, times
-from pgo_tools.texts import block_text, profile_text, repair_text
+from pgo_tools.texts import block_text, packed, profile_text, repair_text, report
 from pgo_tools.texts.names import cut, demangled, printable
 from pgo_tools.texts.short_names import short_names
 
@@ -165,7 +165,7 @@ class Profile:
             elif said.count:
                 self.counts[Line(calls[-1].function, said.offset)] += said.count
         if not self.functions:
-            raise cli.Trouble("the profile is empty", helps="contrib/pgo-profile tells why")
+            raise cli.Trouble("the profile is empty", helps=packed.why_empty(report.read(io.BytesIO(self.raw))))
         self.total = sum(it.total for it in self.functions) or 1
 
     def walk(self) -> Iterator[Walked]:
@@ -234,6 +234,7 @@ class Program:
 def of_profile(asked: Asked) -> OfProfile:
     """What is hot in a profile."""
     profile = Profile(read_packed(asked.path), asked.path)
+    packed.judge(asked.path, packed.discs_of(io.BytesIO(profile.raw)))
     hot = sorted(profile.functions, key=lambda it: -it.total)[: asked.top]
     lines = profile.counts.most_common(asked.top)
     names = sorted({it.name for it in hot} | {line.function for line, _ in lines})
@@ -342,23 +343,23 @@ def named(rows: Iterable[Union[HotFunction, Caller, HotBlock]], is_wide: bool) -
     return short_names({it.name: it.shown for it in rows}, None if is_wide else NAME_WIDTH)
 
 
-def table(report: Report, is_wide: bool = False) -> Iterator[str]:
+def table(made: Report, is_wide: bool = False) -> Iterator[str]:
     """A report as lines, its names whole or short."""
-    return table_of_repair(report, is_wide) if isinstance(report, OfRepair) else table_of_profile(report, is_wide)
+    return table_of_repair(made, is_wide) if isinstance(made, OfRepair) else table_of_profile(made, is_wide)
 
 
-def table_of_profile(report: OfProfile, is_wide: bool) -> Iterator[str]:
-    whole = report.total
-    calls = [call for it in report.lines for call in it.callers]
-    name = named([*report.functions, *report.lines, *calls], is_wide)
-    yield f"{times(report.functions_in_all, 'function')}, {times(report.lines_in_all, 'line')}, a total of {whole}"
+def table_of_profile(made: OfProfile, is_wide: bool) -> Iterator[str]:
+    whole = made.total
+    calls = [call for it in made.lines for call in it.callers]
+    name = named([*made.functions, *made.lines, *calls], is_wide)
+    yield f"{times(made.functions_in_all, 'function')}, {times(made.lines_in_all, 'line')}, a total of {whole}"
     yield ""
     yield from columns([["share", "total", "entered", "function", "", ""]] + [
         [percent(it.total, whole), str(it.total), str(it.entered), name[it.name], *cells(it.told)]
-        for it in report.functions], 3)
+        for it in made.functions], 3)
     yield ""
     rows = [["share", "count", "line", "", ""]]
-    for it in report.lines:
+    for it in made.lines:
         rows.append([percent(it.count, whole), str(it.count), f"{name[it.name]} +{it.offset}", *cells(it.told)])
         for call in it.callers:
             spot = f"  of it by {name[call.name]} +{call.offset}"
@@ -366,13 +367,13 @@ def table_of_profile(report: OfProfile, is_wide: bool) -> Iterator[str]:
     yield from columns(rows, 2)
 
 
-def table_of_repair(report: OfRepair, is_wide: bool) -> Iterator[str]:
-    whole = report.total
-    name = named(report.blocks, is_wide)
-    yield f"{times(report.functions_in_all, 'function')}, {times(report.blocks_in_all, 'block')}, a total of {whole}"
+def table_of_repair(made: OfRepair, is_wide: bool) -> Iterator[str]:
+    whole = made.total
+    name = named(made.blocks, is_wide)
+    yield f"{times(made.functions_in_all, 'function')}, {times(made.blocks_in_all, 'block')}, a total of {whole}"
     yield ""
     rows = [["share", "count", "weight", "block", "from", "", ""]]
-    for it in report.blocks:
+    for it in made.blocks:
         count = "cut" if it.count is None else str(it.count)
         weight = "?" if it.weight is None else str(it.weight)
         block = f"{name[it.name]} {it.block}"

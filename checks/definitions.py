@@ -62,12 +62,15 @@ def imported(text: str) -> "Tuple[Dict[str, Name], Dict[str, str]]":
 
 def opened(line: str) -> str:
     """The name of the definition that a line opens, or nothing."""
-    return OPENING.match(line)[1] if line.startswith(WORDS) else ""
+    match = OPENING.match(line) if line.startswith(WORDS) else None
+    return match[1] if match else ""
 
 
 def blocks(lines: List[str]) -> "Iterator[Tuple[str, List[str]]]":
     """Each definition of a file with its lines, comments in front of it and fixities too."""
-    name, block, ahead = "", [], []
+    name = ""
+    block: List[str] = []
+    ahead: List[str] = []
     for line in lines:
         if line.startswith(("--", "infix")) or not line.strip():
             ahead.append(line)

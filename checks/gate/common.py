@@ -10,6 +10,7 @@ import importlib.util
 import os
 import pathlib
 import random
+import re
 import shlex
 import shutil
 import signal
@@ -19,7 +20,7 @@ import tempfile
 import time
 import types
 import unittest
-from typing import Any, Callable, Dict, Iterable, List, NamedTuple, Optional, Set, TypeVar
+from typing import Any, AnyStr, Callable, Dict, Iterable, List, NamedTuple, Optional, Set, TypeVar
 
 sys.dont_write_bytecode = True
 # A shell has what it starts behind it pass signals over, and so would all that is started here, which is to be tried with them.
@@ -164,6 +165,20 @@ def loaded(path: pathlib.Path) -> types.ModuleType:
     return sys.modules[name]
 
 
+def found_in(pattern: AnyStr, text: AnyStr, flags: int = 0) -> "re.Match[AnyStr]":
+    """Returns the first match of a pattern that has to be there."""
+    match = re.search(pattern, text, flags)
+    assert match, f"{pattern!r} is not there"
+    return match
+
+
+def path_of(tool: str) -> str:
+    """Returns where a program is that has to be there."""
+    path = shutil.which(tool)
+    assert path, f"there is no {tool}"
+    return path
+
+
 Tried = TypeVar("Tried")
 # A test that takes so many seconds is long: only `checks/run --all` and the gate run it.
 LONG = 30
@@ -231,7 +246,7 @@ try:
     import hypothesis
     from hypothesis import strategies
 except ImportError:
-    hypothesis = None
+    hypothesis = None  # type: ignore[assignment]
 SHRINKS = hypothesis is not None
 
 
@@ -270,9 +285,7 @@ class Case(unittest.TestCase):
         folder = self.folder / "tools"
         folder.mkdir(exist_ok=True)
         for name in names:
-            found = sys.executable if name == "python3" else shutil.which(name)
-            self.assertIsNotNone(found, f"there is no {name}")
-            (folder / name).symlink_to(found)
+            (folder / name).symlink_to(sys.executable if name == "python3" else path_of(name))
         return {"PATH": str(folder)}
 
     def run_here(self, *words, **how) -> Ran:

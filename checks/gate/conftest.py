@@ -113,7 +113,7 @@ def pytest_runtest_setup() -> None:
 @pytest.hookimpl(hookwrapper=True)
 def pytest_runtest_makereport(item: pytest.Item, call: Any) -> Iterator[None]:
     """Adds the subtests to the report of a test."""
-    report = (yield).get_result()  # type: ignore[misc]
+    report = (yield).get_result()  # type: ignore
     if report.when == "call":
         report.user_properties.append(("cases", FOUND.of(report)))
         if FOUND.failed:
@@ -124,7 +124,7 @@ def pytest_runtest_makereport(item: pytest.Item, call: Any) -> Iterator[None]:
 def pytest_runtest_logreport(report: pytest.TestReport) -> None:
     """Counts the cases of a test. A report without them is of a test that could not begin or end, or that was skipped."""
     if report.when == "call":
-        cases = dict(report.user_properties)["cases"]
+        cases: Any = dict(report.user_properties)["cases"]
     elif not report.passed:
         cases = Found().of(report)
     else:

@@ -46,7 +46,7 @@ def ended(words, folder) -> Kept:
 def unpacked() -> "tuple[dict[str, bytes], list[Kept]]":
     """The files, and the runs."""
     with tarfile.open(ARCHIVE) as archive:
-        files = {member.name: archive.extractfile(member).read() for member in archive.getmembers()}
+        files = {member.name: content.read() for member in archive.getmembers() if (content := archive.extractfile(member))}
     return files, [Kept.of_line(line) for line in files.pop(LIST).decode().splitlines()]
 
 

@@ -56,8 +56,10 @@ def results_of(names: List[str], jobs: int) -> "Iterator[Tuple[str, int, List[st
                 yield done.result()
         except KeyboardInterrupt:
             workers = multiprocessing.active_children()
-            [worker.terminate() for worker in workers]
-            [worker.join() for worker in workers]
+            for worker in workers:
+                worker.terminate()
+            for worker in workers:
+                worker.join()
             os._exit(130)
 
 

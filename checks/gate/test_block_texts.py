@@ -101,6 +101,5 @@ class Steps(BlockTexts):
                 self.judge("--steps", "program", mapped, "steps")
 
 
-
 if __name__ == "__main__":
     unittest.main()

@@ -8,6 +8,7 @@ import subprocess
 import time
 from collections import Counter
 from types import SimpleNamespace
+from typing import Any, Dict
 
 from common import (BAD_WORDS, BLOCKS, CONTRIB, DONE, FAILED, MISSING, REFUSED, WORDS, WRITE_FAULT, Case, into_closed_pipe, needs, needs_file,
                     on_closed_output, run, within)
@@ -51,7 +52,7 @@ PLACES = "\n".join(f"place{k}:\n" + "nop\n" * 16 + "ret" for k in range(4))
 
 def functions(text):
     """The functions of a block text: by name their edges, as pairs of addresses, and the addresses of exits."""
-    found = {}
+    found: Dict[Any, Any] = {}
     for line in text.decode("utf-8", "surrogateescape").splitlines():
         words = line.split()
         if words[0] == "func":
@@ -209,6 +210,7 @@ class Objdump(Case):
                 while not (mark.exists() and mark.read_text().strip()):
                     time.sleep(0.01)
                 script.send_signal(by)
+                assert script.stderr
                 self.assertEqual((script.wait(60), script.stderr.read()), (128 + by, b""))
                 left = pathlib.Path(f"/proc/{mark.read_text().strip()}")
                 mark.unlink()
@@ -244,7 +246,8 @@ def mapped(blocks):
 
 def read_map(raw, headers=1, size=None):
     section = SimpleNamespace(kind=BLOCK_MAP, offset=0, size=len(raw) if size is None else size)
-    return BlockMap(SimpleNamespace(data=raw, sections=[section] * headers, names={}, read=lambda low, size: None))
+    program: Any = SimpleNamespace(data=raw, sections=[section] * headers, names={}, read=lambda low, size: None)
+    return BlockMap(program)
 
 
 class Maps(Case):
@@ -306,7 +309,8 @@ class Exceptions(Case):
         lsda = b"\xff\xff\1" + uleb(len(rows)) + rows
         sections = [SimpleNamespace(name=".eh_frame", kind=1, offset=0, size=len(raw), address=0x8000)]
         table = SimpleNamespace(name=".gcc_except_table", kind=1, offset=len(raw), size=len(lsda), address=0x9000)
-        return landing_pads(SimpleNamespace(data=raw + lsda, sections=sections, section_of=lambda at: table))
+        program: Any = SimpleNamespace(data=raw + lsda, sections=sections, section_of=lambda at: table)
+        return landing_pads(program)
 
     def test_a_table_for_a_few_frames(self):
         self.assertEqual(self.pads(2, 2), [(at + k, at + k + 1, at + 8) for at in (0x2000, 0x2040) for k in (0, 1)])
@@ -317,7 +321,7 @@ class Exceptions(Case):
 
     def test_calls_with_too_many_pads(self):
         """A function has no more of them than bytes, however large the file is."""
-        code = Code.__new__(Code)
+        code: Any = Code.__new__(Code)
         code.program, code.pads = SimpleNamespace(data=bytes(1000)), [(0x10, 0x20, 0x30 + k) for k in range(4)]
         code.pad_starts = [it[0] for it in code.pads]
         rows = [(0x10 + k, 0x11 + k, CALL, 0) for k in range(16)]
@@ -337,7 +341,6 @@ class Overlaps(Case):
                 once, twice = (named_again(raw, kind, times) for times in (1, 2))
                 self.tells(run(SCRIPT, self.file("once", once)), REFUSED, "no code")
                 self.tells(run(SCRIPT, self.file("twice", twice)), REFUSED, "twice is damaged or cut off: its tables overlap")
-
 
     def test_code_that_several_headers_name(self):
         """objdump would print it once for each of them: 55 KB took 4 s and 108 MB, and twice the headers twice that."""

@@ -2,7 +2,7 @@
 import re
 import unittest
 
-from common import TOP
+from common import TOP, found_in
 
 # Each part's calls, by which docs/PROMISES can be believed part by part. Not all of them are called by the programs.
 CALLS = """
@@ -42,7 +42,7 @@ CALLS = """
 def clauses(path, asked, answered):
     """The clauses of a file's top call by their names, where `asked` is what its words ask for and `answered` what they come to."""
     text = (TOP / path).read_text(encoding="utf-8")
-    head = text[re.search(r"^pub(?:\(crate\))? fn run\w*<", text, re.M).start():]
+    head = text[found_in(r"^pub(?:\(crate\))? fn run\w*<", text, re.M).start():]
     head = re.sub(r"//[^\n]*", "", head[:head.index("\n{\n")])
     head = " ".join(head.replace(answered, "ANSWER").replace(asked, "ASKED").replace("TheCommand", "Command").split())
     return {name: fact.strip() for name, fact in re.findall(r"ensures (\w+) \{(.*?)\}\s*(?=ensures|$)", head)}

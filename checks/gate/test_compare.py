@@ -118,6 +118,7 @@ class Compare(Case):
                 self.assertEqual(started.wait(timeout=20), 128 + signal.SIGTERM)
             finally:
                 started.kill()
+            assert started.stderr
             self.assertNotIn(b"Traceback", started.stderr.read())
 
     def held(self, pipe):

@@ -21,7 +21,7 @@ class Demo(Case):
         ran = self.run_here(DEMO, environment={"TMPDIR": str(self.folder)})
         self.assertEqual(ran.status, DONE, ran.said)
         row = ROW.search(ran.out)
-        self.assertTrue(row, ran.out)
+        assert row, ran.out
         self.assertLess(float(row[1]), 0)
         self.assertEqual(self.names(), [])
 
@@ -30,6 +30,7 @@ class Demo(Case):
         started = subprocess.Popen(
             [DEMO], env={**os.environ, "TMPDIR": str(self.folder)}, stdout=subprocess.PIPE, stderr=subprocess.PIPE, start_new_session=True
         )
+        assert started.stdout
         started.stdout.readline()
         started.send_signal(signal.SIGTERM)
         started.communicate(timeout=60)

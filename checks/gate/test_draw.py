@@ -5,7 +5,7 @@ import re
 import xml.dom.minidom
 
 from common import (BAD_WORDS, BLOCKS, CONTRIB, DONE, FAILED, MISSING, PGO, REFUSED, TEXT, TOP, WORDS, WRITE_FAULT, Case, into_closed_pipe, needs,
-                    needs_file, on_closed_output, run)
+                    needs_file, on_closed_output, run, found_in)
 from pgo_tools.cli import Trouble
 from pgo_tools.texts import block_text, repair_text
 
@@ -22,6 +22,8 @@ def repair(name, count, edges, least=5):
 class Repairs(Case):
     """The repair of the demo."""
 
+    built: bytes
+
     @classmethod
     def setUpClass(cls):
         ran = run(PGO, "build", "--base", "--edges", WORDS, TEXT, BLOCKS)
@@ -35,7 +37,7 @@ class Repairs(Case):
     def test_a_graph(self):
         ran = self.run_here(SCRIPT, "count_word", "built")
         self.assertEqual((ran.status, ran.said), (DONE, ""))
-        edges = re.search(r"(?ms)^func count_word$.*?^end$", BLOCKS.read_text())[0].count("\nedge ")
+        edges = found_in(r"(?ms)^func count_word$.*?^end$", BLOCKS.read_text())[0].count("\nedge ")
         self.assertEqual([len(re.findall(it, ran.out)) for it in (rb"(?m)^  b\d+ \[", rb"(?m)^  b\d+ -> b")], [18, edges])
         self.assertIn('b0 -> b1 [label="523 → 534" color="#c0392b"'.encode(), ran.out)
         self.assertEqual(self.run_here(SCRIPT, "count_word", given=self.built).out, ran.out)
@@ -192,7 +194,7 @@ class Strangers(Case):
         text = repair("f", 2, [(0, 1), (1, 1)]).replace("weight 5 count 5", f"weight 1 count {most}").replace("# end 0", "# end " + "9" * 38)
         text = text.replace("# block 0 weight 1", "# block 0 weight " + "0" * 5000 + "1")
         self.file("built", text)
-        for words in ([], ["--svg"]):
+        for words in ((), ("--svg",)):
             ran = self.run_here(SCRIPT, *words, "f", "built")
             self.assertEqual((ran.status, ran.said), (DONE, ""))
             self.assertIn(most.encode(), ran.out)

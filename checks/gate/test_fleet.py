@@ -124,9 +124,9 @@ class Engines(test_merge_tree.Tree):
         self.assertIn(b"not run", self.merge("--print=nomad", "tree").out)
 
     def test_names_that_would_be_more_than_names(self):
-        for folder, engines in (("a\nall: evil", ("make", "parallel", "slurm", "kubernetes", "nomad")), ("a{}", ("parallel",))):
+        for folder, refusing in (("a\nall: evil", ("make", "parallel", "slurm", "kubernetes", "nomad")), ("a{}", ("parallel",))):
             self.expect(self.merge(f"--plan={folder}", "-o", "out", *self.files), DONE)
-            for name in engines:
+            for name in refusing:
                 self.tells(self.merge(f"--print={name}", folder), FAILED, f"{name} would take that name for more than a name")
         folder = "%j$$(x)%{y"
         self.expect(self.merge(f"--plan={folder}", "-o", "out", *self.files), DONE)

@@ -16,9 +16,10 @@ import sys
 import tempfile
 import time
 import unittest
+from typing import Any, List
 from unittest import mock
 
-from common import COLD, CONTRIB, DONE, PGO, REFUSED, TOP, WORDS, Case, needs, takes, within
+from common import COLD, CONTRIB, DONE, PGO, REFUSED, TOP, WORDS, Case, needs, takes, within, found_in
 
 import growing
 import make
@@ -51,7 +52,7 @@ class Hostile(Case):
 
     def ends(self, words):
         ran = self.run_here(*words, limit=60)
-        what = f"{words[1:]}: status {ran.status}, {ran.err[:200]}"
+        what = f"{words[1:]}: status {ran.status}, {ran.err[:200]!r}"
         if ran.status == DONE:
             self.assertEqual(ran.err, b"", what)
         else:
@@ -89,7 +90,7 @@ class Farm(Case):
 
     @needs("timeout")
     def test_the_script_of_the_page(self):
-        script = self.file("farm.sh", re.search(r"(?ms)^```\n(#!/bin/sh\n.*?)^```$", (TOP / "SECURITY.md").read_text())[1])
+        script = self.file("farm.sh", found_in(r"(?ms)^```\n(#!/bin/sh\n.*?)^```$", (TOP / "SECURITY.md").read_text())[1])
         self.file("good", make.small(1))
         self.file("bad", b"\x7fELF")
         self.expect(self.run_here("sh", script, "told", PGO, "where", "good", "401014"), DONE)
@@ -140,6 +141,7 @@ class Tools(Case):
         self.expect(self.run_here("clang", "-g", "-gsplit-dwarf", "-no-pie", "-o", "program", source.name), DONE)
         dwo, = self.folder.glob("*.dwo")
         entry, = struct.unpack_from("<Q", (self.folder / "program").read_bytes(), 24)
+        made: Any
         for made in (os.mkfifo, lambda path: os.symlink("/dev/zero", path)):
             dwo.unlink()
             made(dwo)
@@ -162,7 +164,7 @@ class PassedOver(Case):
 
     def given(self, raw, wanted, most, piece):
         """The lines, with "too large" where the text is, and how many there were."""
-        found = []
+        found: List[Any] = []
         with mock.patch.multiple(files, MOST_TEXT=most, PIECE=piece):
             lines = files.lines_of(io.BytesIO(raw), "text", wanted)
             try:
@@ -193,9 +195,9 @@ class PassedOver(Case):
         for line in (b"\n", b"#\n"):
             much = self.file("much", line * (8 << 20 >> len(line) // 2) + self.PROFILE)
             cfg = self.file("cfg", line * (8 << 20 >> len(line) // 2) + b"func f\nblock 0 0x401000 0x401010 exit\nend\n")
-            for words in (["compare", much, much], ["hot", much], ["lined", WORDS, cfg, "-o", "lined"]):
-                with self.subTest(line=line, words=words[0]):
-                    ran = self.run_here(*within("ulimit -t 6", CONTRIB / words[0], *words[1:]))
+            for script, *words in (("compare", much, much), ("hot", much), ("lined", WORDS, cfg, "-o", "lined")):
+                with self.subTest(line=line, words=script):
+                    ran = self.run_here(*within("ulimit -t 6", CONTRIB / str(script), *words))
                     self.assertEqual(ran.status, DONE, ran.said)
 
 

@@ -4,7 +4,6 @@ import os
 import pathlib
 import random
 import re
-import shutil
 import signal
 import subprocess
 import sys
@@ -115,7 +114,7 @@ class Names(Case):
         self.assertEqual(self.shown(handlers), [f"..::_Function_handler<..>::_M_invoke(..) [..ambda()#{k}}}>::..]" for k in (1, 2)])
 
     def test_two_names_that_are_demangled_alike(self):
-        for words in ([], ["--wide"]):
+        for words in ((), ("--wide",)):
             self.assertEqual(self.shown(["app::Store::Store()"] * 2, *words), ["app::Store::Store() [_Z0]", "app::Store::Store() [_Z1]"])
 
     def test_rust_names_by_rustfilt(self):
@@ -125,12 +124,8 @@ class Names(Case):
     @needs("c++filt")
     def test_without_another_demangler(self):
         """c++filt alone is on the PATH, with what the script needs."""
-        path = self.folder / "only"
-        path.mkdir()
-        for name in ("c++filt", "python3", "env"):
-            (path / name).symlink_to(shutil.which(name))
         profile = self.file("prof", "_ZN3app5Store3putEi:5:1\n 1: 5\n")
-        self.assertIn(b"app::Store::put(int)", self.run_here(SCRIPT, profile, environment={"PATH": str(path)}).out)
+        self.assertIn(b"app::Store::put(int)", self.run_here(SCRIPT, profile, environment=self.only_tools("c++filt", "python3", "env")).out)
 
 
 class Options(Case):
@@ -269,7 +264,7 @@ class Strangers(Another):
             f"{self.folder}/outside.c", "../outside.c", "src/../../outside.c", "links/outside.c", "linked.c", f"{self.folder}/home/linked.c",
             "/etc/passwd", "fifo.c", "folder.c", ".ssh/id_rsa", ".env", "src/.git/config", "a/" * 3000 + "x",
         ]
-        for words in ([], ["--source=src"], ["--source=folder.c"], ["--source=none"]):
+        for words in ((), ("--source=src",), ("--source=folder.c",), ("--source=none",)):
             with self.subTest(words=words):
                 out = self.shown(names, *words)
                 self.assertNotIn(b"secret", out)
@@ -330,12 +325,13 @@ class Tools(Another):
     def test_it_ends_with_the_script(self):
         mark = self.folder / "pid"
         held = {**os.environ, **self.tool(f"echo $$ >{mark}; exec sleep 100")}
-        words = [SCRIPT, f"--bin={WORDS}", PROFILE]
+        words = [str(SCRIPT), f"--bin={WORDS}", str(PROFILE)]
         for by in (signal.SIGTERM, signal.SIGHUP, signal.SIGINT, signal.SIGQUIT):
             with self.subTest(by=by.name), subprocess.Popen(words, env=held, stderr=subprocess.PIPE) as script:
                 while not (mark.exists() and mark.read_text().strip()):
                     time.sleep(0.01)
                 script.send_signal(by)
+                assert script.stderr
                 self.assertEqual((script.wait(60), script.stderr.read()), (128 + by, b""))
                 left = pathlib.Path(f"/proc/{mark.read_text().strip()}")
                 mark.unlink()

@@ -10,22 +10,25 @@ import known
 import merges
 
 
-class Known(judging.parts(PGO, *known.PARTS)):
+@judging.parts(PGO, *known.PARTS)
+class Known(unittest.TestCase):
     pass
 
 
-class Merges(judging.parts(PGO, *merges.PARTS)):
+@judging.parts(PGO, *merges.PARTS)
+class Merges(unittest.TestCase):
     pass
 
 
-class Cold(judging.parts(COLD, *cold.PARTS)):
+@judging.parts(COLD, *cold.PARTS)
+class Cold(unittest.TestCase):
     pass
 
 
 class ColdInOnePass(Case):
     def test_both_ways(self):
         """What `pgo-cold profile` writes is what `pgo-cold` makes of what `pgo profile` writes, and the report of that."""
-        for options in ([], ["--base"]):
+        for options in ((), ("--base",)):
             with self.subTest(options):
                 files = [TOP / "demo/words", TOP / "demo/words.txt"]
                 made = self.run_here(PGO, "profile", *options, *files).out
@@ -44,7 +47,6 @@ class Drawn(unittest.TestCase):
     def test_checked_repairs(self):
         judging.drawn(self, PGO, 1000, judged.one)
         judged.all_at_once()
-
 
 
 if __name__ == "__main__":

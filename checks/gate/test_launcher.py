@@ -9,7 +9,7 @@ import stat
 import time
 import unittest
 
-from common import COLD, PGO, TOP, Case, needs, run
+from common import COLD, PGO, TOP, Case, needs, run, path_of
 
 KIT = "rattle-kit-13f logic 0123456789abcdef"
 RT = f"""#!/bin/sh
@@ -258,7 +258,7 @@ class Sources(Launcher):
         self.tells_others()
         for name, text in (("sha256sum", '#!/bin/sh\n[ $# = 0 ] || exit 1\nexec "$REAL"\n'), ("xargs", "#!/bin/sh\nexit 1\n"), ("sort", "#!/bin/sh\nexit 1\n")):
             with self.subTest(name):
-                self.script(self.bin / name, text.replace("$REAL", shutil.which(name)))
+                self.script(self.bin / name, text.replace("$REAL", path_of(name)))
                 self.runs_release()
                 self.runs_release()
                 self.assertNotIn("seen", self.names("top/out"))
@@ -328,8 +328,8 @@ class Notes(Launcher):
                 self.notes("" if note is None else f"pgo: note: no such command: {note}\n", 2, self.USAGE, word, "a", "b")
 
     def test_files(self):
-        for file in ("perf", "cfg"):
-            (self.folder / file).write_text("\n")
+        for name in ("perf", "cfg"):
+            (self.folder / name).write_text("\n")
         for words, file, number in (
             ("counts gone", "gone", 1), ("where gone 401000", "gone", 1), ("profile --base gone perf", "gone", 1), ("check gone lost", "gone", 1),
             ("lift --base gone cfg perf", "gone", 1), ("merge 1 gone 2 perf", "gone", 1), ("summary sub/gone", None, 1), ("build gone perf cfg", "gone", 1),

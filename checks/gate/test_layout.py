@@ -6,6 +6,7 @@ import json
 import random
 import time
 import unittest
+from typing import Any, Dict
 
 from common import BLOCKS, CONTRIB, MISSING, PGO, REFUSED, TEXT, WORDS, BAD_WORDS, Case, needs, run
 from test_lined import drawn_run, functions_of
@@ -99,7 +100,6 @@ class Orders(unittest.TestCase):
         row = block_order.ordered(dict.fromkeys(blocks, 4), {(0, it): it for it in blocks[1:]}, 0)
         self.assertEqual(row[:2], [0, 99])
 
-
     def test_a_hub_and_a_switch_of_a_thousand_blocks(self):
         """All neighbours of a chain were tried at each of its joins: 24 and 19 seconds of a processor."""
         blocks = range(1000)
@@ -159,12 +159,13 @@ class OfClang(Case):
         after = self.numbers("laid")
         for name, row in listed.items():
             first = dict((number, at) for at, number in after[name])
-            self.assertEqual(sorted(row, key=first.get), row, name)
+            self.assertEqual(sorted(row, key=first.__getitem__), row, name)
         self.assertEqual(self.run_here("./laid"), self.run_here("./program"))
 
     def wanted(self, numbers):
         """How often control went from each numbered block to each, by what `build` wrote: a block goes on to where the next begins."""
-        functions, found, at = functions_of((self.folder / "cfg").read_text()), {}, -1
+        found: Dict[Any, Any] = {}
+        functions, at = functions_of((self.folder / "cfg").read_text()), -1
         for words in map(str.split, (self.folder / "out").read_text().splitlines()):
             at += words[:2] == ["#", "function"]
             known = sorted(numbers.get(functions[at].name, [])) if at >= 0 else []
@@ -194,6 +195,7 @@ class OfClang(Case):
 class Refusals(Case):
     def test_what_has_no_map(self):
         self.file("out", run(PGO, "build", "--edges", "--base", WORDS, TEXT, BLOCKS).out)
+        words: Any
         for words, status, pattern in (
             ([WORDS, BLOCKS, "out"], REFUSED, "has no map of its blocks what helps: clang 19 with -fbasic-block-address-map"),
             ([TEXT, BLOCKS, "out"], REFUSED, "is no ELF file of 64 bits"),

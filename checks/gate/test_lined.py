@@ -5,6 +5,7 @@ import random
 import shutil
 import struct
 import unittest
+from typing import Any, Counter, List, Optional
 
 from common import BLOCKS, CONTRIB, HERE, MISSING, PGO, REFUSED, TEXT, TOP, WORDS, BAD_WORDS, Case, needs, run, takes
 from make import elf
@@ -22,7 +23,7 @@ Function = collections.namedtuple("Function", "name blocks edges exits")
 
 def functions_of(text):
     """The functions of a block text: name, blocks as (low, high), the blocks behind each block, the numbers of the exits."""
-    found = []
+    found: List[Any] = []
     for words in (line.split() for line in text.splitlines() if line and not line.startswith("#")):
         if words[0] == "func":
             found.append(Function(words[1], [], collections.defaultdict(list), set()))
@@ -36,7 +37,7 @@ def functions_of(text):
 
 def repairs_of(built):
     """What `pgo build` tells of each function's blocks: their weights (None where unknown) and counts (None in a cut)."""
-    found = []
+    found: List[Any] = []
     for words in (line.split() for line in built.decode().splitlines()):
         if words[:2] == ["#", "function"]:
             found.append(([], []))
@@ -51,7 +52,7 @@ def overlap(some, others):
     return sum(min(a / sum(some), b / sum(others)) for a, b in zip(some, others))
 
 
-def walk(function, drawn):
+def walk(function, drawn) -> Optional[List[int]]:
     """A way through a function from its entry to an exit, as numbers of blocks; none where it finds no exit soon."""
     way = [0]
     while len(way) < 300:
@@ -121,7 +122,7 @@ class OfTheDemo(Case):
 
     def test_a_weight_is_the_most_samples_of_the_blocks_own_addresses(self):
         self.expect(self.run_here(LINED, WORDS, BLOCKS, "-o", "lined"), 0, b"", NOTE)
-        hits = collections.Counter()
+        hits: Counter[int] = collections.Counter()
         held = {at for function in functions_of(BLOCKS.read_text()) for low, high in function.blocks for at in range(low, high)}
         for line in TEXT.read_text().splitlines():
             stack = [[int(end, 16) for end in it.split("/", 2)[:2]] for it in line.split() if "/" in it]
@@ -206,7 +207,6 @@ class OfCompilers(Case):
             for flags in (["-g", "-no-pie"], ["-g", "-pie", "-fPIE"], ["-pie", "-fPIE"]):
                 with self.subTest(compiler=compiler, flags=flags):
                     self.agrees(*flags, compiler=compiler)
-
 
     @needs("gcc", "strip")
     def test_a_stripped_program_has_them_too(self):

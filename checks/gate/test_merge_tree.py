@@ -7,6 +7,7 @@ import signal
 import subprocess
 import time
 import unittest
+from typing import Any, Dict, List
 
 from common import CONTRIB, DONE, FAILED, BAD_WORDS, MISSING, NO_MEMORY, PGO, READ_FAULT, REFUSED, TOP, WRITE_FAULT, Case, needs, needs_file
 from common import on_closed_output, python, run, takes, terminated
@@ -106,7 +107,7 @@ class Sums(Tree):
         self.expect(self.merge("--part-size=100", given=lines("", *names[:500], " ", *names[500:])), DONE, whole.out)
 
     def sums_by_a_second_program(self, names):
-        made = {}
+        made: Dict[Any, int] = {}
         for name in names:
             sums.add(made, sums.read((self.folder / name).read_bytes()), 1)
         return sums.text_of(made)
@@ -279,6 +280,7 @@ class Refusals(Tree):
         self.tells(self.merge("-o", "out", "p/0", "link"), BAD_WORDS, "out is listed to be merged, too: .*link")
 
     def test_words(self):
+        words: Any
         for said, words in (
             ("there is no file to merge", []), ("a number from 1 up, and not 0", ["-j", "0", "p/0"]), ("--resume needs -o", ["--resume", "p/0"]),
             ("a number from 0 to 100", ["--skip-bad=101", "p/0"]), ("a number from 0 to 100", ["--skip-bad=nan", "p/0"]),
@@ -402,7 +404,7 @@ class Closed(Tree):
         for closed in ([0], [1], [2], [0, 1], [1, 2], [0, 2], [0, 1, 2]):
             with self.subTest(closed=closed):
                 self.expect(self.merge("--plan=tree", "-o", "out", *self.files), DONE)
-                ran = self.merge("--part=1.0", "tree", prepare=lambda: [os.close(each) for each in closed], limit=20)
+                ran = self.merge("--part=1.0", "tree", prepare=lambda: list(map(os.close, closed)), limit=20)
                 self.assertEqual((ran.status, (self.folder / "out").read_bytes()), (DONE, self.sum_of(self.files)))
                 for name in ("out", "out.manifest"):
                     (self.folder / name).unlink()
@@ -455,7 +457,6 @@ class BadFiles(Tree):
             (self.folder / name).write_text("")
         self.expect(self.merge("--empty-ok", *self.files), DONE, self.sum_of(self.files))
         self.tells(self.merge("--empty-ok", *self.files[:9]), FAILED, "the sum is empty")
-
 
     def test_one_that_is_larger_than_profiles_may_be(self):
         """Nothing of it is held: it has no line, and no bytes on the disk."""
@@ -669,8 +670,11 @@ class Steps(Tree):
         self.plan()
         path = self.folder / "tree/tree"
         told = json.loads(path.read_text())
-        changes = [{"width": 1}, {"width": 0}, {"width": "4"}, {"files": []}, {"files": [["p/0", "1"]]}, {"files": [[7, 1]]}, {"out": "a\0b"}, {"id": None},
-                   {"out": "\ud800"}, {"files": [["\ud800", 1]]}, *({"choices": {**told["choices"], **bad}} for bad in ({"skip_bad": "1"}, {"skip_bad": -1}, {"skip_bad": 101}, {"fetch": "cp"}))]
+        choices: List[Dict[str, Any]] = [{"skip_bad": "1"}, {"skip_bad": -1}, {"skip_bad": 101}, {"fetch": "cp"}]
+        changes: List[Dict[str, Any]] = [
+            {"width": 1}, {"width": 0}, {"width": "4"}, {"files": []}, {"files": [["p/0", "1"]]}, {"files": [[7, 1]]}, {"out": "a\0b"},
+            {"id": None}, {"out": "\ud800"}, {"files": [["\ud800", 1]]}, *({"choices": {**told["choices"], **bad}} for bad in choices),
+        ]
         for damaged in [*(json.dumps({**told, **change}) for change in changes), "[" * 200000]:
             with self.subTest(damaged[-60:]):
                 path.write_text(damaged)
@@ -681,6 +685,7 @@ class Steps(Tree):
         self.make("2.0", "2.1", "3.0")
         (self.folder / "out").unlink()
         held = {name: (self.folder / "tree" / name).read_text() for name in ("1.0.manifest", "3.0.manifest")}
+        change: Any
         for name, change in (("1.0.manifest", {"files": [{"total": "1"}]}), ("1.0.manifest", {"files": [{"weight": None}]}), ("1.0.manifest", {"merged": "4"}),
                              ("3.0.manifest", {"build": "\ud800"}), ("3.0.manifest", {"total": []})):
             with self.subTest(name=name, change=change):
@@ -831,6 +836,7 @@ class Resumed(Tree):
         second = self.merge("-o", "out", "--resume", *self.files)
         self.file("go")
         self.assertEqual(first.wait(), 0)
+        assert first.stderr
         first.stderr.close()
         self.tells(second, FAILED, "another merge-tree is at work in .*out.tree")
         self.assertEqual((self.folder / "out").read_bytes(), self.sum_of(self.files))
@@ -852,7 +858,7 @@ class InTheWay(Tree):
             with self.subTest(name):
                 (self.folder / "out.tree").mkdir()
                 (self.folder / "out.tree" / name).symlink_to(self.folder / there)
-                for words in ([], ["--resume"]):
+                for words in ((), ("--resume",)):
                     self.refused(WRITE_FAULT, "out.tree is there, and is no tree of merge-tree", *words)
                 (self.folder / "out.tree" / name).unlink()
                 (self.folder / "out.tree").rmdir()
@@ -1039,7 +1045,7 @@ class Rooms(Tree):
             self.skipTest("unshare -m is not allowed")
         self.expect(python(FLEET, "64", "60", "fleet", folder=self.folder), DONE)
         names = [f"fleet/{number}.prof" for number in range(1, 65)]
-        whole = self.merge(*names)
+        self.merge(*names)
         for pages in (6, 10, 14, 20, 30):
             (self.folder / "disk").mkdir(exist_ok=True)
             script = f"mount -t tmpfs -o size={4 * pages}k none disk && '{TREE}' -o disk/out {' '.join(names)}; status=$?; ls disk >left; exit $status"
@@ -1148,7 +1154,7 @@ class Fetched(Tree):
     def test_a_signal(self):
         """What the command started itself ends, too."""
         fetch = self.script("get", f"sleep 600 & echo $! >'{self.folder}/sleeps'", "wait")
-        ran = terminated(TREE, fetch, "-o", "out", "p/0", folder=self.folder, until=lambda: (self.folder / "sleeps").exists() and (self.folder / "sleeps").read_text())
+        ran = terminated(TREE, fetch, "-o", "out", "p/0", folder=self.folder, until=lambda: (self.folder / "sleeps").exists() and bool((self.folder / "sleeps").read_text()))
         self.assertEqual(ran.status, 128 + signal.SIGTERM)
         self.assertTrue(self.ends(int((self.folder / "sleeps").read_text())), "it goes on")
 

@@ -4,7 +4,7 @@ import shutil
 import subprocess
 import sys
 import unittest
-from typing import Optional
+from typing import Any, Optional
 
 from common import DONE, PGO, TOP, TEXT, WORDS, Case, needs, run, takes
 
@@ -64,6 +64,7 @@ class Package(Case):
         (bin_folder / "pgo").symlink_to(PGO)
         words = [self.folder / "venv" / "bin" / "pgo-profile", "--base", WORDS, TEXT, "prof"]
         found = f"{bin_folder}:/usr/bin:/bin"
+        variables: Any
         for variables in ({"PGO": None, "PATH": found}, {"PGO": PGO, "PATH": "/usr/bin:/bin"}):
             self.passes(self.run_here(*words, environment={"PGO_COLD": None, **variables}))
             self.assertIn(b"count_word", (self.folder / "prof").read_bytes())

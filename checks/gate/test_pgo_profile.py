@@ -9,8 +9,10 @@ import shutil
 import struct
 import subprocess
 import unittest
+from typing import Any
 
-from common import COLD, CONTRIB, PGO, TEXT, TOP, WORDS, Case, into_closed_pipe, needs, on_closed_output, python, run, terminated
+from common import COLD, CONTRIB, PGO, TEXT, TOP, WORDS, Case, into_closed_pipe, needs, on_closed_output, python, terminated
+from common import found_in
 
 from growing import DEMO, demo_with
 from make import STRING, abbreviation
@@ -152,6 +154,7 @@ class Forms(Profiles):
 
     def test_packed(self):
         text = TEXT.read_bytes()
+        pack: Any
         for name, pack in (("gz", gzip.compress), ("xz", lzma.compress), ("bz2", bz2.compress)):
             with self.subTest(name):
                 self.same(WORDS, self.file(f"text.{name}", pack(text)))
@@ -220,7 +223,7 @@ class Forms(Profiles):
 
     def test_the_numbers_of_builds_that_a_recording_has(self):
         """A stand-in for perf prints the demo's text with a load line, and says of which build the file was."""
-        number = re.search(r"# build (.*)", self.run_here(SCRIPT, WORDS, TEXT, "made.prof") and (self.folder / "made.prof").read_text())[1]
+        number = found_in(r"# build (.*)", self.run_here(SCRIPT, WORDS, TEXT, "made.prof") and (self.folder / "made.prof").read_text())[1]
         self.file("text", load_line("/srv/app/words") + TEXT.read_text())
         for build, status, said in ((number, 0, ""), ("0123456789", 1, "the build 0123456789 ran, and .*words is ")):
             perf = self.with_perf(f'case $1 in script) cat "{self.folder}/text" ;; *) echo {build} /srv/app/words ;; esac')
@@ -367,6 +370,7 @@ class Words(Profiles):
             (4, "NotElf.*the program first.*words is a program, and .*words.txt is none", [TEXT, WORDS]), (5, "read fault: file 2 .*this is a folder", [WORDS, "made"]),
             (4, "at 1: BadLine.*it is a program", [WORDS, WORDS]),
         ]
+        words: Any
         for status, said, words in rows:
             with self.subTest(said):
                 self.judge(status, said, *words)
@@ -498,7 +502,7 @@ class Empty(Profiles):
     def test_the_section_of_a_fault(self):
         """An entry of the demo's first unit with a number of no abbreviation."""
         program = bytearray(WORDS.read_bytes())
-        at = next(each.offset for each in Elf(WORDS).sections if each.name == ".debug_info")
+        at = next(each.offset for each in Elf(str(WORDS)).sections if each.name == ".debug_info")
         program[at + 12] = 0x7F
         self.judge(4, r"UnknownAbbrev \(bad\), byte 0xc of .debug_info, in the unit at 0x0 what helps", self.file("bad", bytes(program)).name, TEXT)
 
@@ -528,9 +532,9 @@ class Names(Profiles):
         """A position-independent program, and lines of a text in which it was loaded far away: a call of main's, many times."""
         program = self.build("program", "-O1", "-g", "-fPIE", "-pie")
         told = self.run_here("objdump", "-d", "--no-show-raw-insn", program).out.decode()
-        main = re.search(r"<main>:(.*?)\n\n", told + "\n\n", re.DOTALL)[1]
-        start = int(re.search(r"([0-9a-f]+):", main)[1], 16)
-        call = int(re.search(r"([0-9a-f]+):\tcall", main)[1], 16)
+        main = found_in(r"<main>:(.*?)\n\n", told + "\n\n", re.DOTALL)[1]
+        start = int(found_in(r"([0-9a-f]+):", main)[1], 16)
+        call = int(found_in(r"([0-9a-f]+):\tcall", main)[1], 16)
         base = 0x10000000000
         branch = f"0x{base + call:x}/0x{base + start:x}"
         text = f"{branch} {branch}\n" * 300
@@ -591,10 +595,10 @@ class Builds(Profiles):
     @needs("objdump", "cc", "readelf")
     def test_numbers(self):
         program = self.build("program", "-O1", "-g", "-no-pie", "-Wl,--build-id")
-        number = re.search(r"Build ID: ([0-9a-f]+)", self.run_here("readelf", "-n", program).out.decode())[1]
+        number = found_in(r"Build ID: ([0-9a-f]+)", self.run_here("readelf", "-n", program).out.decode())[1]
         told = self.run_here("objdump", "-d", program).out.decode()
-        main = re.search(r"([0-9a-f]+) <main>:(.*?)\n\n", told, re.DOTALL)
-        call = re.search(r"([0-9a-f]+):\t[^\n]*call", main[2])[1]
+        main = found_in(r"([0-9a-f]+) <main>:(.*?)\n\n", told, re.DOTALL)
+        call = found_in(r"([0-9a-f]+):\t[^\n]*call", main[2])[1]
         branch = f"0x{call}/0x{main[1]} " * 2 + "\n"
         text = branch * 300
         good = load_line("/srv/program", number)
@@ -625,7 +629,7 @@ class Builds(Profiles):
     def test_the_build_id_decides(self):
         """Branches that start where a program has none are nothing to go by, if the load lines have the build ID of this very program."""
         program = self.build("program", "-O1", "-g", "-no-pie", "-Wl,--build-id")
-        number = re.search(r"Build ID: ([0-9a-f]+)", self.run_here("readelf", "-n", program).out.decode())[1]
+        number = found_in(r"Build ID: ([0-9a-f]+)", self.run_here("readelf", "-n", program).out.decode())[1]
         self.judge(0, "", program, self.file("loaded", load_line("/srv/program", number) + TEXT.read_text()).name)
         two = load_line("/srv/program", number) + load_line("/srv/program", "0123")
         self.judge(1, "was not made: the build 0123 ran", program, self.file("loaded", two + TEXT.read_text()).name)
@@ -759,7 +763,7 @@ class Several(Profiles):
         source = self.file("shape.c", "int shape(int n)\n{\n    if (n > 5)\n        return n * 2;\n    if (n < -7)\n        n = n / 3;\n    return n + 1;\n}\n")
         self.build("libshape.so", "-O1", "-g", "-shared", "-fPIC", source=source, cc="gcc")
         told = self.run_here("nm", "libshape.so").out.decode()
-        start = 0x20000000000 + int(re.search(r"([0-9a-f]+) T shape", told)[1], 16)
+        start = 0x20000000000 + int(found_in(r"([0-9a-f]+) T shape", told)[1], 16)
         load = "words 7 PERF_RECORD_MMAP2 7/7: [0x20000000000(0x10000) @ 0 08:02 6 0]: r-xp /srv/app/libshape.so\n"
         samples = f"0x{start + 1:x}/0x{start:x} 0x{start + 1:x}/0x{start:x}\n" * 50
         ran = self.make("--also=libshape.so", WORDS, self.file("loaded", load + TEXT.read_text() + samples))
@@ -785,7 +789,7 @@ class Shares(Profiles):
             self.assertEqual(self.run_here(cc, "-O1", "-g", "-c", f"{name}.c").status, 0)
         self.assertEqual(self.run_here("gcc", "-no-pie", "a.o", "b.o", "-o", "both").status, 0)
         told = self.run_here("nm", "both").out.decode()
-        main = int(re.search(r"([0-9a-f]+) T main", told)[1], 16)
+        main = int(found_in(r"([0-9a-f]+) T main", told)[1], 16)
         self.judge(0, r"several compilers made both \((clang|gcc) \d+%, (clang|gcc) \d+%\)", "both", self.file("text", f"0x{main + 4:x}/0x{main:x}\n" * 50))
 
     def test_many_makers(self):

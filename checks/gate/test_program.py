@@ -8,11 +8,11 @@ import random
 import re
 import shutil
 import unittest
+from typing import Any
 
 from common import (
     BAD_WORDS, BLOCKS, DONE, HERE, MISSING, NO_MEMORY, PGO, READ_FAULT, REFUSED, TEXT, TOP, USAGE, WORDS, WRITE_FAULT, Case, into_closed_pipe,
-    needs, needs_file, on_closed_output, python, takes, within,
-)
+    needs, needs_file, on_closed_output, python, takes, within, found_in)
 
 import make
 
@@ -138,10 +138,10 @@ class Counts(Program):
         )
 
 
-
 class Words(Program):
     def test_words(self):
         self.file("text", TWO)
+        words: Any
         for words in [
             [], ["count", "text"], ["counts"], ["counts", "text", "text"], ["counts", "--base"], ["where", "text", "401000", "--base"],
             ["where", "text", "xyz"], ["--help", "nothing"], ["--help", "--help"], ["--help", "counts", "where"], ["-h", "counts"],
@@ -183,7 +183,7 @@ class Compiled(Program):
 
     def address(self, name):
         """The address of a function of the binary."""
-        return re.search(rf"^([0-9a-f]+) \w {name}$", self.run_here("nm", "binary").out.decode(), re.M)[1]
+        return found_in(rf"^([0-9a-f]+) \w {name}$", self.run_here("nm", "binary").out.decode(), re.M)[1]
 
     def finds(self, title, status, out, err, *words):
         """What it answers, without what depends on the compiler: lines, and places in the file."""
@@ -221,7 +221,7 @@ class Compiled(Program):
         `--map=/srv/program`, and none with another name or without one."""
         self.made("-g", *options)
         headers = self.run_here("readelf", "-lW", "binary").out.decode()
-        at, start, _, _, length = re.search(r"LOAD\s+(\S+)\s+(\S+)\s+(\S+)\s+(\S+)\s+(\S+)\s+R E", headers).groups()
+        at, start, _, _, length = found_in(r"LOAD\s+(\S+)\s+(\S+)\s+(\S+)\s+(\S+)\s+(\S+)\s+R E", headers).groups()
         up = 1 << 40
         call, callee = up + int(self.address("main"), 16), up + int(self.address("next"), 16)
         load = f"[{up + int(start, 16):#x}({length}) @ {int(at, 16):#x} 08:02 5 0]"
@@ -381,7 +381,8 @@ class Written(Program):
     @needs_file("/dev/full")
     def test_full_device(self):
         for words in (
-            ["merge", "1", "words.prof"], ["lift", WORDS, BLOCKS, "words.built"], ["counts", TEXT], ["profile", "--base", WORDS, TEXT],
+            ["merge", "1", "words.prof"], ["lift", str(WORDS), str(BLOCKS), "words.built"], ["counts", str(TEXT)],
+            ["profile", "--base", str(WORDS), str(TEXT)],
         ):
             with open("/dev/full", "wb") as full:
                 self.expects(f"a full device, for {words[0]}", self.pgo(*words, output=full), WRITE_FAULT, "", "write fault\n")

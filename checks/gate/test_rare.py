@@ -2,6 +2,7 @@
 import random
 import shutil
 import unittest
+from typing import Any, List, Optional
 
 from common import CONTRIB, MISSING, PGO, REFUSED, BAD_WORDS, Case, takes
 from pgo_tools.blocks import rare
@@ -75,7 +76,8 @@ class Touched(unittest.TestCase):
         drawn = random.Random(5)
         for most in (Spans.MOST, 2, 3, 5):
             for _ in range(100):
-                spans, held = Spans(), [None] * 70
+                spans: Any = Spans()
+                held: List[Optional[int]] = [None] * 70
                 spans.MOST = most
                 for what in range(drawn.randint(1, 40)):
                     start, size = drawn.randrange(60), drawn.randrange(11)
@@ -120,7 +122,6 @@ class Programs(Case):
                 self.assertRegex(self.function(barred, "around"), r"\nblock [1-9][0-9]* 0x[0-9a-f]+ 0x[0-9a-f]+( exit)? never\n")
                 self.assertEqual(barred.replace(" never\n", "\n"), plain)
                 self.no_cut_comes_of_it(plain, barred)
-
 
     def no_cut_comes_of_it(self, plain, barred):
         """Each function is called once, so that it has to have a way out."""

@@ -8,7 +8,7 @@ import stat
 import subprocess
 import time
 
-from common import BAD_WORDS, CONTRIB, DONE, FAILED, MISSING, REFUSED, TOP, WRITE_FAULT, Case, needs, run
+from common import BAD_WORDS, CONTRIB, DONE, FAILED, MISSING, REFUSED, TOP, WRITE_FAULT, Case, needs, run, found_in
 
 RECORD = CONTRIB / "pgo-record"
 NO_PROGRAM = 127
@@ -71,7 +71,7 @@ class Record(Case):
     def test_a_profile_of_the_recording(self):
         ran = self.record("./own")
         self.assertEqual(ran.status, DONE, ran.said)
-        step = re.search(r"recording to recorded\.txt; when the program has ended: (.*)", ran.said)[1]
+        step = found_in(r"recording to recorded\.txt; when the program has ended: (.*)", ran.said)[1]
         self.assertRegex(ran.said, r"recorder: instructions \d+ branches \d+ inside \d+ samples \d+\n")
         made = run("sh", "-c", step, folder=self.folder)
         self.assertEqual((made.status, made.err), (DONE, b""), made.said)

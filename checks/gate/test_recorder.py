@@ -3,12 +3,11 @@ cut, with many threads, with forked processes, and if a signal ends the program 
 load lines show where each file with code was loaded, so that profiles of several binaries can be made of one text."""
 import random
 import re
-import shutil
 import signal
 import subprocess
 import time
 
-from common import CONTRIB, DONE, FAILED, PGO, TOP, Case, needs, run
+from common import CONTRIB, DONE, FAILED, PGO, TOP, Case, needs, run, found_in, path_of
 
 PERIOD = 499
 LINE = re.compile(rb" *[0-9a-f]+( 0x[0-9a-f]+/0x[0-9a-f]+/P/-/-/0//- )*|PERF_RECORD_MMAP2 .*")
@@ -173,7 +172,7 @@ class Objects(Recorder):
 
     def build(self, name):
         told = run("readelf", "-n", self.folder / name).out.decode()
-        return re.search("Build ID: ([0-9a-f]+)", told)[1]
+        return found_in("Build ID: ([0-9a-f]+)", told)[1]
 
     def test_each_file_with_code_has_one_line(self):
         loads = self.record()
@@ -254,8 +253,8 @@ class Threads(Recorder):
 
     def ended_by(self, number, seconds, *words, period):
         """The number of samples of a run that a signal ends some time after its first samples."""
-        words = self.words(*words, period=period)
-        words[0] = shutil.which(words[0])
+        program, *rest = self.words(*words, period=period)
+        words = (path_of(program), *rest)
         text = self.folder / "text"
         text.unlink(missing_ok=True)
         with subprocess.Popen(words, cwd=self.folder, stderr=subprocess.DEVNULL) as ran:

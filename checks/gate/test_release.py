@@ -96,15 +96,17 @@ class Installed(Case):
         for name, helps in (("empty", "pgo-profile tells why"), ("contexts", page)):
             ran = run(bin_folder / "pgo-hot", name, folder=self.folder)
             self.assertIn(f"what helps: {helps}\n" if name == "empty" else helps, ran.said)
-        made = run(
+        ended = run(
             bin_folder / "pgo-profile", "--base", TOP / "demo" / "words", TOP / "demo" / "words.txt", self.folder / "prof",
             environment={"PGO": None, "PGO_COLD": None, "PATH": "/usr/bin:/bin"}, folder=self.folder,
         )
-        self.assertEqual(made.status, 0, made.said)
+        self.assertEqual(ended.status, 0, ended.said)
         self.assertIn(b"count_word", (self.folder / "prof").read_bytes())
         if shutil.which("qemu-x86_64") and shutil.which("gcc"):
-            ran = run(bin_folder / "pgo-record", "-q", TOP / "demo" / "words", folder=self.folder,
-                environment={"XDG_CACHE_HOME": str(self.folder)})
+            ran = run(
+                bin_folder / "pgo-record", "-q", TOP / "demo" / "words", folder=self.folder,
+                environment={"XDG_CACHE_HOME": str(self.folder)},
+            )
             self.assertEqual((ran.status, ran.err), (0, b""))
             self.assertIn(b"/demo/words\n", (self.folder / "recorded.txt").read_bytes())
         ran = run("make", "-C", TOP, "uninstall", f"DESTDIR={stage}", "PREFIX=/opt/pgo")
@@ -135,8 +137,8 @@ class Installed(Case):
         if shutil.which("bash"):
             asked = 'source "$0"; _pgo_merge_tree pgo-merge-tree "$1" "$2"; echo "${COMPREPLY[@]}"'
             tried = (("--pl", "x", "--plan"), ("m", "--print", "make"), ("--part", "x", "--part --part-size"))
-            for *words, answer in tried:
-                ran = run("bash", "-c", asked, share / "bash-completion" / "completions" / "pgo-merge-tree", *words)
+            for begun, before, answer in tried:
+                ran = run("bash", "-c", asked, share / "bash-completion" / "completions" / "pgo-merge-tree", begun, before)
                 self.expect(ran, 0, answer + "\n")
 
     @needs("make", "install")

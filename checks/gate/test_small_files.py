@@ -105,9 +105,9 @@ class SmallFiles(Case):
 
     @needs("objdump")
     def test_a_closed_input(self):
-        for words in (["hot", "-"], ["hot", "--blocks=text", "-"], ["draw", "f"], ["blocks", "--names=-", WORDS], ["merge-tree"]):
-            with self.subTest(words):
-                ran = self.run_here("sh", "-c", '"$@" <&-', "sh", CONTRIB / words[0], *words[1:])
+        for script, *words in (("hot", "-"), ("hot", "--blocks=text", "-"), ("draw", "f"), ("blocks", "--names=-", str(WORDS)), ("merge-tree",)):
+            with self.subTest(script, words=words):
+                ran = self.run_here("sh", "-c", '"$@" <&-', "sh", CONTRIB / script, *words)
                 self.tells(ran, BAD_WORDS, "the input is closed, and no file is named")
 
 

@@ -8,11 +8,13 @@ import orders
 import tallies
 
 
-class Tallies(judging.parts(PGO, *tallies.PARTS)):
+@judging.parts(PGO, *tallies.PARTS)
+class Tallies(unittest.TestCase):
     pass
 
 
-class Orders(judging.parts(PGO, *orders.PARTS)):
+@judging.parts(PGO, *orders.PARTS)
+class Orders(unittest.TestCase):
     pass
 
 

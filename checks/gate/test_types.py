@@ -1,11 +1,15 @@
-"""mypy --strict prints nothing on the package pgo_tools and on its scripts. Either Python here may have mypy."""
+"""mypy prints nothing: with --strict on the package pgo_tools and on its scripts, with --check-untyped-defs on the checks.
+
+Either Python here may have mypy.
+"""
 import os
+import pathlib
 import subprocess
 import sys
 import unittest
 from typing import Optional
 
-from common import CONTRIB, DONE, Case, run
+from common import CONTRIB, DONE, TOP, Case, run
 
 
 def python_with(module: str) -> Optional[str]:
@@ -17,12 +21,15 @@ def python_with(module: str) -> Optional[str]:
 
 
 class Types(Case):
-    def strict(self, *words: object) -> None:
+    def passes(self, *words: object, folder: pathlib.Path) -> None:
         python = python_with("mypy")
         if not python:
             self.skipTest("there is no mypy")
-        ran = run(python, "-m", "mypy", "--strict", "--cache-dir", self.folder, *words, folder=CONTRIB, limit=500)
+        ran = run(python, "-m", "mypy", "--cache-dir", self.folder, *words, folder=folder, limit=500)
         self.assertEqual(ran.status, DONE, ran.out.decode())
+
+    def strict(self, *words: object) -> None:
+        self.passes("--strict", *words, folder=CONTRIB)
 
     def test_package(self) -> None:
         self.strict("-p", "pgo_tools")
@@ -32,6 +39,10 @@ class Types(Case):
         found = [path for path in sorted(CONTRIB.iterdir()) if path.is_file() and b"python3" in path.read_bytes().partition(b"\n")[0]]
         self.assertGreater(len(found), 7)
         self.strict("--scripts-are-modules", *found)
+
+    def test_checks(self) -> None:
+        """Where the configuration of pyproject.toml says where modules are."""
+        self.passes("--check-untyped-defs", "--exclude", "^checks/by_hand/", "checks", folder=TOP)
 
 
 if __name__ == "__main__":

@@ -5,13 +5,14 @@ whether they print what stands there; those of the chapter on a fleet test_fleet
 import re
 import shutil
 import unittest
+from typing import List, Optional, Tuple
 
 from common import HERE, TOP, Case, needs, python
 
 
 def blocks(page):
     """The fenced blocks of a page, as lists of lines."""
-    inside = None
+    inside: Optional[List[str]] = None
     for line in page.splitlines():
         if line.startswith("```"):
             if inside is not None:
@@ -38,7 +39,7 @@ def commands(page):
         prompts = [line.startswith("$ ") for line in block]
         if any(line.startswith("#") and not any(prompts[:at]) for at, line in enumerate(block)):
             continue
-        found = []
+        found: List[Tuple[str, List[str]]] = []
         for at, line in enumerate(block):
             if prompts[at]:
                 found.append((line[2:], []))

@@ -15,6 +15,7 @@ import collections
 import os
 import re
 import sys
+from typing import Any, Counter, Dict, List
 
 sys.dont_write_bytecode = True
 sys.path.insert(0, f"{os.path.dirname(os.path.abspath(__file__))}/../../../contrib")
@@ -42,7 +43,8 @@ def read_text(path):
     """The functions of a block text, by the rules of docs/FORMATS.md; ends at the first bad line."""
     if os.path.getsize(path) > 1 << 28:
         refuse(1 << 28, "FileTooLarge")
-    functions, open_one, n = [], None, 0
+    functions: List[Function] = []
+    open_one, n = None, 0
     with open(path, encoding="utf-8", errors="surrogateescape", newline="\n") as file:
         for n, line in enumerate(file, 1):
             fields = re.split(r"[ \t]+", line.rstrip("\n").strip(" \t"))
@@ -120,7 +122,9 @@ def closure(work, follow):
 def read_samples(path, name, program):
     """How often each branch and each range between two branches was sampled, in the program's own addresses."""
     segments = [it for it in program_headers(program.data) if it[0] == 1 and it[1] & 1]
-    branches, ranges, loads = collections.Counter(), collections.Counter(), []
+    branches: Counter[Any] = collections.Counter()
+    ranges: Counter[Any] = collections.Counter()
+    loads = []
     with open(path, encoding="latin-1") as file:
         for line in file:
             if "PERF_RECORD_" in line:
@@ -166,10 +170,10 @@ class Judge:
         self.starts = [it[0] for it in self.by_start]
         self.pairs = [set(it.edges) for it in self.functions]
         self.listed = {it.blocks[0][0]: f for f, it in enumerate(self.functions)}
-        self.owner = {}
+        self.owner: Dict[Any, Any] = {}
         for low, _, f, _ in self.by_start:
             self.owner.setdefault(self.symbols.holding(low), f)
-        self.cold = {}
+        self.cold: Dict[Any, Any] = {}
         for part, parents in self.symbols.parents.items():
             for parent in parents:
                 self.cold.setdefault(part, self.owner.get(parent))
@@ -241,7 +245,8 @@ def judge(binary, text, perf, name=None, out=sys.stdout):
     """Prints the sums of a program, and gives how much does not fit."""
     it = Judge(binary, text)
     branches, ranges = read_samples(perf, name, it.program)
-    sums, bad = collections.Counter(), collections.Counter()
+    sums: Counter[str] = collections.Counter()
+    bad: Counter[Any] = collections.Counter()
     for (source, target), times in branches.items():
         f = it.function(source)
         if f is None or f != it.function(target):
@@ -271,7 +276,9 @@ def judge(binary, text, perf, name=None, out=sys.stdout):
 
 def judge_steps(binary, text, steps, out=sys.stdout):
     """Prints the sums of a program, and gives how much does not fit."""
-    it, sums, bad = Judge(binary, text), collections.Counter(), collections.Counter()
+    it = Judge(binary, text)
+    sums: Counter[str] = collections.Counter()
+    bad: Counter[Any] = collections.Counter()
     pads = {pad for _, _, pad in landing_pads(it.program)}
     with open(steps, encoding="ascii") as file:
         base = int(file.readline().split()[1], 16) - int.from_bytes(it.program.data[24:32], "little")
@@ -284,8 +291,8 @@ def judge_steps(binary, text, steps, out=sys.stdout):
                 bad[(what, one, other)] += int(times)
     print(f"functions {len(it.functions)} blocks {len(it.by_start)} edges {sum(map(len, it.pairs))}; "
           + ", ".join(f"{what} {n}" for what, n in sorted(sums.items())), file=out)
-    for (what, one, other), times in bad.most_common(20):
-        print(f"  {what}: {one:#x} {other:#x} {times} times", file=out)
+    for (what, at, to), many in bad.most_common(20):
+        print(f"  {what}: {at:#x} {to:#x} {many} times", file=out)
     return len(bad) + sum(bool(unreached or unending) for unreached, unending in map(stuck, it.functions))
 
 
@@ -349,4 +356,5 @@ if __name__ == "__main__":
         sys.exit(1 if judge_same(*words) else 0)
     if options == ["--steps"]:
         sys.exit(1 if judge_steps(*words) else 0)
-    sys.exit(1 if judge(*words, name=options[0][6:] if options else None) else 0)
+    binary, text, perf = words
+    sys.exit(1 if judge(binary, text, perf, name=options[0][6:] if options else None) else 0)

@@ -4,7 +4,8 @@ What it has to write is worked out by hand from docs/FORMATS.md and docs/RULES.m
 """
 import known
 import make
-from judging import BAD_WORDS, DONE, MISSING, REFUSED, judge
+from common import BAD_WORDS, DONE, MISSING, REFUSED
+from judging import judge
 
 USAGE = b"usage: pgo-cold [--base] BIN PROFILE, or profile [--map=NAME] [--base] BIN PERF\n"
 # A function `f0000` with the places 0, 1, 2.2 and 3, and 1 in a call of `g` from 2.1; and `f0001` behind it, alike.

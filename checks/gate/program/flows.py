@@ -7,6 +7,7 @@ use its readers of both texts, and what it says of lifted counts.
 """
 import re
 import sys
+from typing import Any, Dict, List
 
 sys.dont_write_bytecode = True
 import sums
@@ -217,7 +218,8 @@ class Repair:
 
 def repairs_of(functions, text):
     """The repairs that a repair text tells of these functions."""
-    repairs, opened, lines = [], None, lines_of(text)
+    repairs: List[Any] = []
+    opened, lines = None, lines_of(text)
     for count, line in enumerate(lines, 1):
         words, fault = fields_of(line), None
         if opened:
@@ -292,7 +294,7 @@ class Net:
             Arc(enters(k), leaves(k), block[3], block[4], told, block_costs(k, told)) for k, (block, told) in enumerate(zip(function.blocks, weights))
         ]
         told = [edge[1] for edge in repair.edges] or ["?"] * len(function.edges)
-        self.edges = [Arc(leaves(edge[0]), enters(edge[1]), *edge[2:], of, edge_costs(of)) for edge, of in zip(function.edges, told)]
+        self.edges = [Arc(leaves(edge[0]), enters(edge[1]), edge[2], edge[3], of, edge_costs(of)) for edge, of in zip(function.edges, told)]
         self.returns = {k: Arc(leaves(k), 0, 0, None, 0, (0, 0)) for k, block in enumerate(function.blocks) if block[2]}
 
 
@@ -341,7 +343,8 @@ def failed_line(repairs):
 def lifted(key_at, repairs, text):
     """The profile in a text with the largest count of the blocks that hold a key, for each that one holds; `key_at` gives the key of
     each address that has one."""
-    numbers, held = {thing: times for _, thing, times in sums.read(text)}, {}
+    held: Dict[Any, int] = {}
+    numbers = {thing: times for _, thing, times in sums.read(text)}
     for repair in repairs:
         for block, told in zip(repair.function.blocks, () if repair.is_cut() else repair.blocks):
             for key in (key for at, key in key_at.items() if block[0] <= at < block[1]):

@@ -4,7 +4,8 @@ Random functions are weighed at random and solved here: counts of least cost wit
 them, alone and all in one text. Then one number or one bit of each repair is changed, and the program has to name the first line
 that fails by docs/RULES.md and docs/FORMATS.md ("Repair text"), of which this is a second program, or to accept what still holds.
 """
-from judging import DONE, FAILED, fail, judge
+from common import DONE, FAILED
+from judging import fail, judge
 
 
 class Arc:
@@ -105,7 +106,7 @@ def solve(function):
         little = [side for side in costs if over[side] < 0]
         if not little:
             return None, None, set(costs)
-        side = min(little, key=costs.get)
+        side = min(little, key=costs.__getitem__)
         while side != much[0]:
             side, k, way = reached[side]
             counts[k] += way

@@ -1,10 +1,9 @@
 """Runs a built program on files of which each byte is known. Each case is a subtest of the part that tries it."""
 import contextlib
 import tempfile
-import unittest
+from typing import Any
 
 import common
-from common import BAD_WORDS, DONE, FAILED, MISSING, REFUSED
 
 USAGE = common.USAGE
 
@@ -12,7 +11,8 @@ USAGE = common.USAGE
 class Held:
     """The part that is tried now: its test, the program that it is about, and whether the first case that fails ends it."""
 
-    test = program = None
+    test: Any = None
+    program: Any = None
     ends = False
 
 
@@ -63,7 +63,7 @@ def drawn(test, program, examples, tried):
 
 
 def parts(program, *tried):
-    """A class whose tests are these parts, of this program."""
+    """Gives a class a test for each of these parts, of this program."""
 
     def test_of(part):
         def test(self):
@@ -73,4 +73,9 @@ def parts(program, *tried):
         test.__doc__ = part.__doc__
         return common.takes(common.seconds_of(part, part))(test)
 
-    return type("Parts", (unittest.TestCase,), {f"test_{part.__name__}": test_of(part) for part in tried})
+    def given(case):
+        for part in tried:
+            setattr(case, f"test_{part.__name__}", test_of(part))
+        return case
+
+    return given

@@ -6,14 +6,16 @@ changed byte is refused too.
 import itertools
 import re
 import struct
+from typing import Any
 
 import make
-from common import TOP, takes
-from judging import BAD_WORDS, DONE, FAILED, MISSING, REFUSED, USAGE, judge, run
+from common import BAD_WORDS, DONE, FAILED, MISSING, REFUSED, TOP, found_in, takes
+from judging import USAGE, judge, run
 
 # The generated binaries of one function and of two: `f0000` with a call of `g` inlined into it, and `f0001` behind it.
 ONE = make.small(1)
 TWO = make.small(2)
+
 
 def mixed(pairs, entries):
     """A unit of version 4 and one of version 5: `lo` from line 10, with these pairs in `.debug_ranges`, and `hi` from
@@ -123,6 +125,7 @@ FILLED = {b"abbrev": ONE[120:166], b"info": ONE[166:229], b"line": ONE[229:286]}
 ALL_SECTIONS = make.elf([(b".debug_" + name, FILLED.get(name, b"")) for name in reversed(NINE)], 0x40)
 HEADERS = [int.from_bytes(ALL_SECTIONS[40:48], "little") + 64 * (9 - k) for k in range(9)]
 
+
 def place(title, binary, address, line, *options):
     judge(f"{title}, {address}", (DONE, line, b""), ["where", *options, "bin", address], bin=binary)
 
@@ -158,7 +161,7 @@ def places():
             place("each address", ONE, f"{address:x}", line)
     place("bases", ONE, "401014", b"f0000 2 g 1\n", "--base")
     place("bases", ONE, "401020", b"f0000 2.1\n", "--base")
-    for address, line in [
+    for at, line in [
         ("40100f", b"outside\n"),
         ("401010", b"lo 1\n"),
         ("40101f", b"lo 1\n"),
@@ -166,9 +169,9 @@ def places():
         ("40201f", b"hi 1\n"),
         ("402020", b"outside\n"),
     ]:
-        place("units of both versions", MIXED, address, line)
-    for address, line in [("401000", b"a 1\n"), ("401010", b"b 2\n"), ("401020", b"c 1\n"), ("401030", b"outside\n")]:
-        place("units that share a line program", SHARED, address, line)
+        place("units of both versions", MIXED, at, line)
+    for at, line in [("401000", b"a 1\n"), ("401010", b"b 2\n"), ("401020", b"c 1\n"), ("401030", b"outside\n")]:
+        place("units that share a line program", SHARED, at, line)
 
 
 def range_lists():
@@ -198,6 +201,7 @@ def other_places():
     for at, byte in [(187, 0x23), (187, 0x21), (187, 0x37), (189, 0x20), (189, 0x09), (189, 0x7F), (189, 0x3A)]:
         place(f"a name with byte {byte:x}", changed(ONE, (at, at, byte)), "401008", b"nameless\n")
     place("a name with a ! and a # behind its first", changed(ONE, (188, 188, 0x21), (189, 189, 0x23)), "401008", b"f!#00 1\n")
+    options: Any
     for options, line, inlined in [([], b"f 5.65537\n", b"f 2.65537 f 5.65537\n"), (["--base"], b"f 5\n", b"f 2 f 5\n")]:
         place("a discriminator of 2^32 + 2^16 + 1", LONG_DISCRIMINATORS, "401000", line, *options)
         place("a discriminator of 2^32 + 2^16 + 1", LONG_DISCRIMINATORS, "401014", inlined, *options)
@@ -356,14 +360,14 @@ def flagged(*compressed):
 def refusals():
     for first, last, byte, at, kind in DAMAGE:
         refused(f"bytes {first} to {last} set to {byte}", changed(ONE, (first, last, byte)), at, kind)
-    for binary, first, its_place, second, other_place in IN_ORDER:
-        refused(f"{first} of two", changed(binary, first), *its_place)
-        refused(f"{second} of two", changed(binary, second), *other_place)
-        refused(f"{first} and {second}", changed(binary, first, second), *its_place)
+    for binary, one, its_place, other, other_place in IN_ORDER:
+        refused(f"{one} of two", changed(binary, one), *its_place)
+        refused(f"{other} of two", changed(binary, other), *other_place)
+        refused(f"{one} and {other}", changed(binary, one, other), *its_place)
     for k, header in enumerate(HEADERS):
-        refused(f"{NINE[k]} compressed", flagged(k), header, b"Compressed")
-        for other in range(k + 1, 9):
-            refused(f"{NINE[k]} and {NINE[other]} compressed", flagged(k, other), header, b"Compressed")
+        refused(f"{NINE[k]!r} compressed", flagged(k), header, b"Compressed")
+        for number in range(k + 1, 9):
+            refused(f"{NINE[k]!r} and {NINE[number]!r} compressed", flagged(k, number), header, b"Compressed")
     for size in range(len(ONE)):
         at, kind = (0, b"NotElf") if size < 64 else (32, b"BadHeader") if size < 120 else (40, b"BadHeader")
         refused(f"the first {size} bytes", ONE[:size], at, kind)
@@ -611,6 +615,7 @@ def builds():
         bin=ONE, perf=uneven, cfg=BLOCKS,
     )
     # The greatest weight has seven binary digits: at most 8 phases of 32 * (4 + 4 + 1) augmentations each.
+    options: Any
     for options, cost in ([], 400), (["--edges"], 1000):
         edges = (b"0",) * 4 if options else None
         told = wanted.replace(counted(weights, counts, 400), counted(weights, counts, cost, edges=edges))
@@ -675,12 +680,12 @@ def builds():
         b"# block 2 weight 1 in 1 out 1\n# block 3 weight 2 in 1 out 0\n# end 2 1\n",
     )
     # As many blocks and edges as a function may have: a chain to the exit, and from each block edges that lead no nearer.
-    edges = [(0, 65535), (0, 0), (1, 0), (1, 1), (1, 2), (1, 3), (1, 4), (1, 5), (1, 65535)]
-    edges += [pair for n in range(2, 65535) for pair in ((n, n - 1), (n, n), (n, 0), (n, 65535))]
-    edges += [(65535, 65534), (65535, 65535), (65535, 0)]
+    ends_of = [(0, 65535), (0, 0), (1, 0), (1, 1), (1, 2), (1, 3), (1, 4), (1, 5), (1, 65535)]
+    ends_of += [pair for n in range(2, 65535) for pair in ((n, n - 1), (n, n), (n, 0), (n, 65535))]
+    ends_of += [(65535, 65534), (65535, 65535), (65535, 0)]
     widest = [b"func widest", b"block 0 0x401000 0x401001"]
     widest += [b"block %d 0x%x 0x%x%s" % (n, 0x500000 + n, 0x500001 + n, b" exit" if n == 1 else b"") for n in range(1, 65536)]
-    widest += [b"edge %d %d" % pair for pair in edges] + [b"end\n"]
+    widest += [b"edge %d %d" % pair for pair in ends_of] + [b"end\n"]
     judge(
         "the widest function", (DONE, b"65536 262144 # end 65535\n", b""), ["build", "bin", "perf", "cfg"],
         told=lambda out: b"%d %d " % (out.count(b"# block "), out.count(b"# edge ")) + b"".join(re.findall(rb"# end .*\n", out)),
@@ -936,7 +941,7 @@ def shown():
     """The repair text that docs/FORMATS.md shows."""
     page = TOP / "docs" / "FORMATS.md"
     with open(page, "rb") as text:
-        return re.search(rb"```\n(# function f0000 flow\n.*?)```", text.read(), re.DOTALL)[1]
+        return found_in(rb"```\n(# function f0000 flow\n.*?)```", text.read(), re.DOTALL)[1]
 
 
 def with_line(text, number, line):
@@ -1012,10 +1017,10 @@ def checks():
     # Counts at which prices of 0 fit, and which do not conserve: a call into block 1, a return from block 0, and more that leaves
     # an exit than ran there.
     kept = b"# function a flow\n# block 0 weight %d count %d in 0 out 0\n# block 1 weight %d count %d in 0 out 0\n# edge 0 1 count %d\n# end 0\n"
-    for line, blocks, counts in (None, chain, (2, 2, 2)), (3, chain, (1, 2, 1)), (2, chain, (2, 1, 1)), (3, chain, (2, 1, 2)), (2, chain, (1, 2, 2)):
+    for number, blocks, counts in (None, chain, (2, 2, 2)), (3, chain, (1, 2, 1)), (2, chain, (2, 1, 1)), (3, chain, (2, 1, 2)), (2, chain, (1, 2, 2)):
         text = kept % (counts[0], counts[0], counts[1], counts[1], counts[2])
-        if line:
-            fails(line, text, blocks)
+        if number:
+            fails(number, text, blocks)
         else:
             passes("what was sampled conserves", blocks, text)
     three = b"func a\nblock 0 0x1 0x2\nblock 1 0x2 0x3 exit\nblock 2 0x3 0x4 exit\nedge 0 1\nedge 1 2\nend\n"
@@ -1083,6 +1088,7 @@ def checks():
         judge("checked: " + " ".join(words), (BAD_WORDS, b"", USAGE), words, cfg=BLOCKS, out=COUNTS)
 
     # What `build` wrote, as it is, with the weights of edges and without.
+    options: Any
     for title, blocks, perf, options in [
         ("a profile in front", BLOCKS, TWO_SAMPLES, []), ("edges", BLOCKS + LOOP, TWO_SAMPLES, ["--edges"]),
         ("cuts", LOOP + BOUNDED, TWO_SAMPLES, []), ("nothing sampled", BLOCKS + LOOP, b"", ["--edges"]),
@@ -1195,6 +1201,7 @@ def lifts():
         judge("lifted: " + spelled, (BAD_WORDS, b"", USAGE), spelled.split(), bin=ONE, cfg=BLOCKS, out=COUNTS)
 
     # What `build` wrote, as it is; what was lifted of it is a profile, and lifts to itself behind the same repairs.
+    options: Any
     for options in [], ["--base"], ["--edges"], ["--base", "--edges"]:
         files = {"bin": ONE, "perf": TWO_SAMPLES, "cfg": BLOCKS + LOOP}
         built = run(["build", *options, "bin", "perf", "cfg"], files).out
@@ -1274,7 +1281,8 @@ def large():
     lines = []
     for name, k in sorted((b"f%d" % k, k) for k in range(count)):
         called = sorted(b"f%d" % ((k + d) % count) for d in (1, 2, 3))
-        lines.append(b"%s:0:3\n %d: 0 %s:1 %s:1 %s:1\n" % (name, (6 + 2 * k) % 65536, *called))
+        one, two, three = called
+        lines.append(b"%s:0:3\n %d: 0 %s:1 %s:1 %s:1\n" % (name, (6 + 2 * k) % 65536, one, two, three))
     report = b"# branches %d\n# entries %d\n# inside 0\n" % (3 * count, 3 * count)
     profile(
         "70,000 functions", make.lined_functions(count), make.calls_of_each(count), b"".join(lines) + report, 0,

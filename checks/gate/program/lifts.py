@@ -6,6 +6,7 @@ each address of a block, by `where`, and for nothing else. The repairs in OUT ar
 """
 import subprocess
 import sys
+from typing import Any, Dict, List
 
 sys.dont_write_bytecode = True
 import sums
@@ -27,7 +28,7 @@ def key_of(line):
 
 def blocks_of(text):
     """The blocks of each function of a block text, in order."""
-    functions = []
+    functions: List[Any] = []
     for line in text.split(b"\n"):
         fields = line.split()
         if fields[:1] == [b"func"]:
@@ -39,7 +40,7 @@ def blocks_of(text):
 
 def counts_of(text):
     """For each repair the counts of its blocks, in order; none for a cut."""
-    repairs = []
+    repairs: List[Any] = []
     for line in text.split(b"\n"):
         fields = line.split()
         if line.startswith(b"# function "):
@@ -52,9 +53,10 @@ def counts_of(text):
 def lifted(key_at, blocks, text):
     """The profile in a text with the largest count of the blocks that hold a key, for each that one holds."""
     numbers = {thing: times for _, thing, times in sums.read(text)}
-    held = {}
+    held: Dict[Any, int] = {}
     for function, counts in zip(blocks_of(blocks), counts_of(text)):
         for (low, high), count in zip(function, counts):
+            key: Any
             for key in filter(None, map(key_at, range(low, high))):
                 held[key] = max(held.get(key, 0), count)
     for (way, place), count in held.items():

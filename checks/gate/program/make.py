@@ -6,6 +6,7 @@ only the sections that are read. Source: DWARF 4 and 5, section 7; System V gABI
 """
 import struct
 import sys
+from typing import Callable, List
 
 CODE = 0x401000
 
@@ -731,7 +732,7 @@ def profile_stairs(n):
     return b"f:1:1\n" + calls + b"".join(b" " * 256 + b"%d.%d: 1\n" % (k % 65536, k // 65536) for k in range(n))
 
 
-CASES = [
+CASES: List[Callable[[int], bytes]] = [
     small, abbreviations, shared_table, tails_of_a_table, tails_of_a_list, empty_attributes, section_names, segments,
     origins, far_origins, range_lists, dead_range_lists, overlapping_ranges,
     nested_functions, nested_calls, deep_lines, deep_ranges,

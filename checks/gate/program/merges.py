@@ -4,13 +4,15 @@ First cases that were worked out by hand from docs/FORMATS.md; then texts drawn 
 which sums.py says what has to come.
 """
 import collections
+from typing import Any, Counter
 
 import common
 import judging
 import make
 import sums
 from drawn import Text, damaged
-from judging import BAD_WORDS, DONE, MISSING, REFUSED, USAGE, judge, run
+from common import BAD_WORDS, DONE, MISSING, REFUSED
+from judging import USAGE, judge, run
 
 MOST = 2**64 - 1
 # The profile of the two samples of the generated function.
@@ -52,14 +54,14 @@ def refusal(file, at, kind):
 
 def cutoffs(*told):
     """The lines of all cutoffs: pairs of the last cutoff and of what its lines and those before it say."""
-    made, told = b"", list(told)
+    made, left = b"", list(told)
     for cutoff in (
         *(10000, 100000, 200000, 300000, 400000, 500000, 600000, 700000, 800000, 900000),
         *(950000, 990000, 999000, 999900, 999990, 999999),
     ):
-        if cutoff > told[0][0]:
-            del told[0]
-        made += b"cutoff %d least %d lines %d\n" % (cutoff, *told[0][1:])
+        if cutoff > left[0][0]:
+            del left[0]
+        made += b"cutoff %d least %d lines %d\n" % (cutoff, *left[0][1:])
     return made
 
 
@@ -123,7 +125,7 @@ def refusals():
         b"\t# a", b"\r", b"a:%d:1" % (MOST + 1), b"a:1:%d" % (MOST + 1), b"1: 1", b"1: a:1", b"a:1:1\x0c", b"[main:3 @ foo]:1:1",
         b"a:1.5:1", b"a:1:1 b:1", b"a:1,0:1",
     ]:
-        bad(f"the function line {line}", 2, b"BadLine", b"z:1:1\n" + line + b"\n")
+        bad(f"the function line {line!r}", 2, b"BadLine", b"z:1:1\n" + line + b"\n")
     for line in [
         b"1", b"1:", b"1: ", b"1:1", b"1:  1", b" 1 : 1", b"1: 1 ", b"1: 1  b:1", b"1: 1\tb:1", b"1: 1\r", b"1: 1 b:1\r", b"1: 1 b", b"1: 1 b:",
         b"1: 1 b:1 ", b"1: 1 :1", b"1: 1 2b:1", b"1: 1 #b:1", b"1: 1 !b:1", b"1: 1 b:1 2", b"1: 1 b:1:1", b"1.: 1", b".1: 1", b"1.2.3: 1", b"-1: 1",
@@ -132,7 +134,7 @@ def refusals():
         b"1.4294967296: 1", b"1.4294967296: a:1", b"1: %d" % (MOST + 1), b"1: a:%d" % (MOST + 1), b"1: 1 b:%d" % (MOST + 1), b"a:1:1",
         b"!CFGChecksum: 1", b"!Attributes: 1", b"\t1: 1", b"1\t: 1",
     ]:
-        bad(f"the line {line}", 2, b"BadLine", b"z:1:1\n " + line + b"\n")
+        bad(f"the line {line!r}", 2, b"BadLine", b"z:1:1\n " + line + b"\n")
     good = b"".join(b" " * d + (b"1: f:1\n" if d else b"f:1:0\n") for d in range(257))
     bad("a line 257 steps deep", 258, b"TooDeep", good + b" " * 257 + b"1: 1\n")
     bad("a call 257 steps deep", 258, b"TooDeep", good + b" " * 257 + b"1: f:1\n")
@@ -234,6 +236,7 @@ def profiles():
     """What `profile` and `build` write, merged alone: the profile's lines again."""
     for count in (0, 1, 2, 64, 700):
         files = {part: run(["make", str(count), part], {}).out for part in ("bin", "perf", "cfg")}
+        options: Any
         for command, options in (["profile"], []), (["profile"], ["--base"]), (["build"], []), (["build"], ["--edges"]):
             told = run([*command, *options, "bin", "perf", *["cfg"] * (command == ["build"])], files).out
             lines = b"".join(line for line in told.splitlines(keepends=True) if not line.startswith(b"#"))
@@ -256,7 +259,7 @@ def size_limit():
 common.takes(20)(size_limit)
 
 # Texts at random.
-KINDS = collections.Counter()
+KINDS: Counter[Any] = collections.Counter()
 
 
 def compared(words, files):

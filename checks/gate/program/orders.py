@@ -1,5 +1,6 @@
 """The built program on lines that are bad for two reasons: the first of the two in docs/FORMATS.md is told."""
-from judging import DONE, REFUSED, judge
+from common import DONE, REFUSED
+from judging import judge
 
 # A loop that is never left, the cut that shows it, and counts of two blocks of which the first is an exit.
 LOOP = b"func loop\nblock 0 0x401000 0x401008\nblock 1 0x401008 0x401010\nedge 0 1\nedge 1 0\nend\n"

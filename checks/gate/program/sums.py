@@ -7,6 +7,7 @@ both outputs, and ends with its status. It is slow, and as plain as it can be.
 import collections
 import re
 import sys
+from typing import Any, Dict, List
 
 MOST = 2**64 - 1
 LARGEST = 2**28
@@ -69,7 +70,9 @@ def read(text):
     A thing is ("head", function), ("count", way, place) or ("target", way, place, callee); a way is the function, and
     then the place and the callee of each inlined call.
     """
-    items, seen, opened = [], set(), []
+    items: List[Any] = []
+    opened: List[Any] = []
+    seen = set()
     for count, depth, line in lines_of(text):
         parts = parsed(depth, line)
         if parts is None:
@@ -179,7 +182,7 @@ def summary_of(sums):
     for x in sorted(lines, reverse=True):
         count, met = count + lines[x], met + x * lines[x]
         hot.append((x, count, met))
-    made = [("functions", len(tree(sums))), ("lines", count), ("total", total), ("max", hot[0][0] if hot else 0)]
+    made: List[Any] = [("functions", len(tree(sums))), ("lines", count), ("total", total), ("max", hot[0][0] if hot else 0)]
     for cutoff in CUTOFFS:
         least, above = next(((x, n) for x, n, met in hot if 1000000 * met >= cutoff * total), (0, 0))
         made.append(("cutoff", cutoff, "least", least, "lines", above))
@@ -191,7 +194,7 @@ def answer(words, files):
     pairs = pairs_of(words)
     if pairs is None:
         return 2, b"", USAGE.encode()
-    sums = {}
+    sums: Dict[Any, int] = {}
     for count, (weight, name) in enumerate(pairs, 1):
         try:
             text = files(name)

@@ -4,9 +4,11 @@ The number for the ladder was counted by a debugger: `gdb` stopped 9,715 times a
 one augmentation. All others are sums.
 """
 import re
+from typing import Any, Dict
 
 import make
-from judging import DONE, judge, run
+from common import DONE
+from judging import judge, run
 
 ONE = make.small(1)
 # The generated function, with samples of three of its blocks that do not conserve.
@@ -21,7 +23,8 @@ LOOP = b"func loop\nblock 0 0x401000 0x401008\nblock 1 0x401008 0x401010\nedge 0
 def ladder(width, steps, unit=1):
     """Two rows of blocks are joined by edges that take one unit each; step by step the cheapest way fills all of them, or empties
     them again, one by one. Two chains lead there and away. As bench/ladder makes it."""
-    full, numbers, edges = b" hi=%d" % (width**2 * unit), {}, []
+    numbers: Dict[Any, int] = {}
+    full, edges = b" hi=%d" % (width**2 * unit), []
 
     def edge(tail, head, bound=b""):
         edges.append((numbers.setdefault(tail, len(numbers)), numbers.setdefault(head, len(numbers)), bound))

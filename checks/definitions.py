@@ -1,4 +1,6 @@
-"""The definitions of the crates' `specs/`, one by one: how long each is, what its comments say, and which others it names."""
+"""The definitions of the crates' `specs/`, one by one: how long each is, what its comments say, and which others it names; the types and
+traits of the code too.
+"""
 import re
 from functools import lru_cache
 from typing import Container, Dict, Iterable, Iterator, List, NamedTuple, Set, Tuple
@@ -8,11 +10,13 @@ from made import TOP
 OPENING = re.compile(r"(?:abbrev |unfoldable )?(?:pub )?(?:(?:record|data) )?(\S+)")
 WORDS = ("abbrev ", "unfoldable ", "pub ", "record ", "data ")
 NAME = re.compile(r"[\w'«»]+(?:\.[\w'«»]+)*")
+# Types that are read by their names alone: each variant is explained at the definition that gives it.
+BY_NAME = {"Kind"}
 IMPORT = re.compile(r"^(?:pub |ghost )?use Rattle\.([\w.]+?)(?:\.\{([^}]*)\}| as (\w+));?$", re.M)
 
 
 class Name(NamedTuple):
-    """A definition: its file, as crate/specs/File.antt, or the Rust file of a type; and its name there."""
+    """A definition: its file, as crate/specs/File.antt, or the Rust file of a type or trait; and its name there."""
 
     path: str
     name: str
@@ -95,18 +99,22 @@ def without_why(block: List[str]) -> List[str]:
 
 
 def definition(block: List[str]) -> Definition:
-    comment = " ".join(line.strip()[2:].strip() for line in without_why(block) if line.strip().startswith("--"))
+    # The heading of a part of the file, and the reason for a decision, are no part of what a definition says.
+    block = [line for line in without_why(block) if not line.startswith("-- ---- ")]
+    comment = " ".join(line.strip()[2:].strip() for line in block if line.strip().startswith("--"))
     text = "\n".join(line for line in block if not line.strip().startswith("--"))
     return Definition(sum(bool(line.strip()) for line in block), comment, text, "\n".join(block).strip("\n"))
 
 
 def rust_types(text: str) -> Dict[str, Definition]:
-    """The types of a Rust file, without what stands on them."""
+    """The types and traits of a Rust file, without what stands on the types. What a trait names is what its clauses do."""
     found = {}
-    for match in re.finditer(r"((?:^///.*\n)*)(?:^// .*\n)*(?:^#\[.*\n)*^pub (?:struct|enum) (\w+)[^;{]*(?:;|\{\n(?:.*\n)*?^\}$)", text, re.M):
-        block = match[0].splitlines()
+    for match in re.finditer(r"((?:^///.*\n)*)(?:^// .*\n)*(?:^#\[.*\n)*^pub (struct|enum|trait) (\w+)[^;{]*(?:;|\{\n(?:.*\n)*?^\}$)", text, re.M):
+        source = match[0] if match[3] not in BY_NAME else f"{match[1]}pub {match[2]} {match[3]} {{ .. }}"
+        block = source.splitlines()
         comment = " ".join(line[3:].strip() for line in match[1].splitlines())
-        found[match[2]] = Definition(sum(bool(line.strip()) for line in block), comment, "", match[0])
+        clauses = re.sub(r"//.*", "", match[0]) if match[2] == "trait" else ""
+        found[match[3]] = Definition(sum(bool(line.strip()) for line in block), comment, clauses, source)
     return found
 
 
@@ -114,7 +122,9 @@ def rust_types(text: str) -> Dict[str, Definition]:
 def file_of(path: str) -> File:
     text = (TOP / "crates" / path).read_text(encoding="utf-8")
     if path.endswith(".rt"):
-        return File("", rust_types(text), {}, {}, {})
+        types = rust_types(text)
+        names, modules = imported(text)
+        return File("", types, {}, {**names, **{name: Name(path, name) for name in types}}, modules)
     lines = text.splitlines()
     head = next((at for at, line in enumerate(lines) if not line.startswith("--")), len(lines))
     said = " ".join(line[2:].strip() for line in lines[:head])

@@ -53,6 +53,28 @@ class Documents(Case):
         self.passes(shown)
         self.assertIn(b"-- Counts that conserve within bounds and cost at most what all others cost that do.\npub record AreLeast ", shown.out)
 
+    def test_reading_has_the_traits(self):
+        """Part 1 prints the two traits with every word of a crate that their clauses use."""
+        shown = python(TOP / "checks" / "reading", "--print", "1")
+        self.passes(shown)
+        text = shown.out.decode()
+        for opening in ("pub trait Inputs {", "pub trait Sink {", "pub struct OpenFailed;", "pub struct ReadFailed;", "pub struct WriteFailed;"):
+            self.assertEqual(text.count(f"\n{opening}"), 1, opening)
+        for name in ("Opens", "HasCause", "HasCauseWhere", "Rises", "IsTaken"):
+            self.assertEqual(text.count(f"\nabbrev pub {name} : ") + text.count(f"\npub record {name} "), 1, name)
+
+    def test_reading_counts_what_it_prints(self):
+        """Each part has as many lines as its title says, without empty lines and the headings of files; and the share of comments is theirs."""
+        page = (TOP / "docs" / "TRUST.md").read_text(encoding="utf-8")
+        lines: "list[str]" = []
+        for number, said in re.findall(r"^### (\d+)\. .*: ([\d,]+) lines$", page, re.M):
+            printed = python(TOP / "checks" / "reading", "--print", number).out.decode().splitlines()
+            there = [line for line in printed if line and not line.startswith(("-- ---- ", "// ---- "))]
+            self.assertEqual(f"{len(there):,}", said, f"part {number}")
+            lines += there if int(number) <= 7 else []
+        comments = sum(line.lstrip().startswith(("--", "//")) for line in lines)
+        self.assertIn(f"\nSo far {len(lines):,} lines, for `build`; {100 * comments / len(lines):.0f}% of them are comments.\n", page)
+
     def test_limits(self):
         self.passes(python(TOP / "checks" / "limits"))
 

@@ -8,6 +8,7 @@ import signal
 import subprocess
 import sys
 import time
+from typing import List
 
 from common import (BAD_WORDS, BLOCKS, CONTRIB, DONE, FAILED, HERE, MISSING, PGO, REFUSED, TEXT, TOP, WORDS, WRITE_FAULT, Case, into_closed_pipe,
                     needs, needs_file, on_closed_output, run)
@@ -141,7 +142,8 @@ class Options(Case):
                 ran = self.run_here(*call)
                 self.assertEqual(ran.status, DONE)
                 self.assertRegex(ran.said, rf"\A[a-z-]+: {name} looks as if made of a clang binary without --base, .*\n\Z")
-        for call in ([SCRIPT, "own"], [SCRIPT, PROFILE], [CONTRIB / "compare", "own", "own"], [merge, "own"]):
+        others: List[List[object]] = [[SCRIPT, "own"], [SCRIPT, PROFILE], [CONTRIB / "compare", "own", "own"], [merge, "own"]]
+        for call in others:
             with self.subTest(call):
                 ran = self.run_here(*call)
                 self.assertEqual((ran.status, ran.said), (DONE, ""))

@@ -213,7 +213,8 @@ class Owners(test_merge_tree.Tree):
         ran = self.run_here(found[0], TREE, "-o", "out", "--resume", "--part-size=3", *self.files, prepare=other)
         self.tells(ran, FAILED, "out.tree belongs to another user .uid 0.")
         # The folder for temporary files may be closed to other users.
-        ran = self.run_here(found[0], TREE, "-o", "own", "--part-size=3", *self.files, prepare=other, environment={"TMPDIR": None})
+        words = [found[0], TREE, "-o", "own", "--part-size=3", *self.files]
+        ran = self.run_here(*words, prepare=other, environment={"TMPDIR": None})
         self.expect(ran, DONE)
         self.assertEqual((self.folder / "own").read_bytes(), self.whole)
 

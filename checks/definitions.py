@@ -23,10 +23,11 @@ class Name(NamedTuple):
 
 
 class Definition(NamedTuple):
-    lines: int  # with its comment, without empty lines
+    lines: int  # with its comment, without empty lines and reasons for decisions
     comment: str
     text: str  # without comments
-    source: str  # as it stands
+    source: str  # as in its file, without reasons for decisions
+    variants: Tuple[str, ...] = ()  # of a type that is read by its name alone
 
 
 class File(NamedTuple):
@@ -89,11 +90,11 @@ def blocks(lines: List[str]) -> "Iterator[Tuple[str, List[str]]]":
         yield name, block
 
 
-def without_why(block: List[str]) -> List[str]:
+def without_why(block: List[str], mark: str = "--") -> List[str]:
     """The lines without those of a decision, which checks/decisions collects."""
     kept, why = [], False
     for line in block:
-        why = line.startswith("-- Why: ") or (why and line.startswith("-- "))
+        why = line.strip().startswith(f"{mark} Why: ") or (why and line.strip().startswith(f"{mark} "))
         kept += [] if why else [line]
     return kept
 
@@ -111,10 +112,11 @@ def rust_types(text: str) -> Dict[str, Definition]:
     found = {}
     for match in re.finditer(r"((?:^///.*\n)*)(?:^// .*\n)*(?:^#\[.*\n)*^pub (struct|enum|trait) (\w+)[^;{]*(?:;|\{\n(?:.*\n)*?^\}$)", text, re.M):
         source = match[0] if match[3] not in BY_NAME else f"{match[1]}pub {match[2]} {match[3]} {{ .. }}"
-        block = source.splitlines()
+        block = without_why(source.splitlines(), "//")
         comment = " ".join(line[3:].strip() for line in match[1].splitlines())
         clauses = re.sub(r"//.*", "", match[0]) if match[2] == "trait" else ""
-        found[match[3]] = Definition(sum(bool(line.strip()) for line in block), comment, clauses, source)
+        variants = re.findall(r"^    (\w+),$", match[0], re.M) if match[3] in BY_NAME else ()
+        found[match[3]] = Definition(sum(bool(line.strip()) for line in block), comment, clauses, "\n".join(block), tuple(variants))
     return found
 
 

@@ -72,6 +72,8 @@ class Documents(Case):
             there = [line for line in printed if line and not line.startswith(("-- ---- ", "// ---- "))]
             self.assertEqual(f"{len(there):,}", said, f"part {number}")
             lines += there if int(number) <= 7 else []
+        self.assertNotIn("Why: ", "\n".join(lines))
+        self.assertIn("pub enum Kind { .. }", lines)
         comments = sum(line.lstrip().startswith(("--", "//")) for line in lines)
         self.assertIn(f"\nSo far {len(lines):,} lines, for `build`; {100 * comments / len(lines):.0f}% of them are comments.\n", page)
 

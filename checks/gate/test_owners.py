@@ -233,7 +233,8 @@ class Shares(test_merge_tree.Tree):
             "real, os.lstat = os.lstat, lambda *words, **how: Seen(real(*words, **how))",
             "known, os.fstat = os.fstat, lambda *words, **how: Seen(known(*words, **how))",
             "os._exit(cli.ended(main, sys.argv[2:]))", ""]))
-        ran = python(script, TREE, "-o", "out", *self.files, folder=self.folder, environment={"PGO": PGO})
+        modules = {"PGO": PGO, **test_merge_tree.MODULES}
+        ran = python(script, TREE, "-o", "out", *self.files, folder=self.folder, environment=modules)
         self.expect(ran, DONE)
 
 
